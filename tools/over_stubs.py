@@ -25,7 +25,7 @@ from kit import KIT, of_kit  # noqa: E402
 WORD = re.compile(r"[A-Za-z_][A-Za-z0-9_]*")
 CLAUSES = {"requires", "ensures", "ghost", "measure"}
 TACTIC = re.compile(r"#\[tactic\((?:[^()]|\((?:[^()]|\([^()]*\))*\))*\)\]\n?")
-CYCLE_OF_FUNCTION = re.compile(r"#\[cycle\([^()]*\)\]\s*(?=(?:#\[[^\]]*\]\s*|///[^\n]*\n\s*)*(?:pub )?fn )")
+CYCLE_OF_FUNCTION = re.compile(r"#\[cycle\([^()]*\)\]\s*(?=(?:#\[[^\]]*\]\s*|///[^\n]*\n\s*)*(?:pub(?:\(crate\))? )?fn )")
 HOLE = "use Rattle.{crate}.proofs.{path}.Statement.{{statement}}\n\npub {name}_spec : {{M : Type 1}} → statement M\n{name}_spec = ?\n"
 
 

@@ -322,6 +322,20 @@ class Profile {
         entries_.push_back({mask, line, name, {}});
     }
 
+    // An enumeration and its values, which callables see as int.
+    void enumeration(const std::string& name, const std::vector<std::pair<std::string, std::int32_t>>& values) {
+        entries_.push_back({mask, "enum " + name, name, {}});
+        for (auto& [value, number] : values) this->value(name, value, number);
+    }
+
+    // One value more of an enumeration. It has the enumeration's mask.
+    void value(const std::string& enumeration, const std::string& name, std::int32_t number) {
+        auto is_it = [&](const detail::Entry& entry) { return entry.line == "enum " + enumeration; };
+        auto found = std::find_if(entries_.begin(), entries_.end(), is_it);
+        auto own = found == entries_.end() ? mask : found->mask;
+        entries_.push_back({own, "value " + enumeration + " " + name + " " + std::to_string(number), name, {}});
+    }
+
     // What makes a new object of a type, or gives null.
     template <class F> void factory(const std::string& type, const std::string& declaration, F make) {
         add("factory " + type, declaration, {{"make", detail::asked(make)}});

@@ -188,6 +188,18 @@ class Profile:
         self.drivers += 1
         return Type(self, name, self.drivers - 1)
 
+    def enum(self, name: str, **values: int) -> None:
+        """An enumeration and its values, which callables see as ``int``: ``enum("Color", RED=1, BLUE=-2)``."""
+        self.entries.append(Entry(self.mask, f"enum {_checked(name)}", name, "", {}))
+        for value, number in values.items():
+            self.value(name, value, number)
+
+    def value(self, enum: str, name: str, number: int) -> None:
+        """One value more of an enumeration. It has the enumeration's mask."""
+        mask = next((it.mask for it in self.entries if it.line == f"enum {enum}"), self.mask)
+        line = f"value {_checked(enum)} {_checked(name)} {index(number)}"
+        self.entries.append(Entry(mask, line, name, "", {}))
+
     def function(self, declaration: str, call: Asked) -> None:
         """A function without objects: ``function("int64 sum(int64, int64)", operator.add)``."""
         self.add("function 0", declaration, call=call)

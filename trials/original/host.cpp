@@ -6,15 +6,18 @@
 #include <angelscript/scriptarray.h>
 #include <angelscript/scriptstdstring.h>
 #include <cstdio>
+#include <initializer_list>
 #include <iostream>
 #include <iterator>
 #include <string>
+#include <utility>
 using namespace AngelScript;
 
 static asINT64 sum(asINT64 a, asINT64 b) {
     printf("(%lld,%lld) ", (long long)a, (long long)b);
     return a + b;
 }
+static asINT64 shade(int color) { return 10 * color; }
 static void audit(asINT64) {}
 static void print(const std::string &) {}
 static asINT64 reg, level;
@@ -35,6 +38,11 @@ static void counts(asIScriptEngine *e, const char *type) {
     e->RegisterObjectBehaviour(type, asBEHAVE_RELEASE, "void f()", asMETHOD(Object, release), asCALL_THISCALL);
 }
 
+static void enumeration(asIScriptEngine *e, const char *type, std::initializer_list<std::pair<const char *, int>> values) {
+    e->RegisterEnum(type);
+    for (auto value : values) e->RegisterEnumValue(type, value.first, value.second);
+}
+
 static asIScriptEngine *registered() {
     asIScriptEngine *e = asCreateScriptEngine();
     e->SetMessageCallback(asFUNCTION(say), 0, asCALL_CDECL);
@@ -45,7 +53,11 @@ static asIScriptEngine *registered() {
     e->RegisterGlobalFunction("int64 sum(int64, int64)", asFUNCTION(sum), asCALL_CDECL);
     e->RegisterGlobalProperty("int64 reg", &reg);
     e->RegisterObjectType("Counter", 0, asOBJ_REF);
+    enumeration(e, "Color", {{"RED", 1}, {"GREEN", 3}, {"BLUE", -2}});
+    enumeration(e, "Light", {{"DIM", 4}, {"BLUE", 5}});
+    e->RegisterGlobalFunction("int64 shade(Color)", asFUNCTION(shade), asCALL_CDECL);
     e->SetDefaultAccessMask(2);
+    enumeration(e, "Secret", {{"HIDDEN", 7}, {"GREEN", 8}});
     e->RegisterObjectType("Cell", 0, asOBJ_REF);
     e->RegisterGlobalFunction("void audit(int64)", asFUNCTION(audit), asCALL_CDECL);
     e->RegisterGlobalProperty("int64 level", &level);

@@ -10,7 +10,8 @@ The scripts keep to what both languages mean alike (docs/COMING_FROM_ANGELSCRIPT
 signed and unsigned numbers, ~ is taken of unsigned ones and >>> of signed ones, none has constants alone (the library
 works these out otherwise than it runs them), no operand or argument changes what another reads, an &out parameter is
 given a value before it is read, a global reads those in front of it, and every loop ends. They ask the host's function
-sum, whose arguments are compared in their order, and read and write its property reg.
+sum, whose arguments are compared in their order, read and write its property reg, and use its enumerations, of which a
+variable is never changed by its own value.
 """
 import collections, os, random, re, subprocess, sys, tempfile
 from concurrent.futures import ThreadPoolExecutor
@@ -19,8 +20,12 @@ HERE = os.path.dirname(os.path.abspath(__file__))
 SIGNED = ["int8", "int16", "int", "int64"]
 UNSIGNED = ["uint8", "uint16", "uint", "uint64"]
 NUMBERS = SIGNED + UNSIGNED
+# the host's enumerations; of their names BLUE is of both, and GREEN of one more that the library does not hide
+ENUMERATIONS = {"Color": {"RED": 1, "GREEN": 3, "BLUE": -2}, "Light": {"DIM": 4, "BLUE": 5}}
+ALONE = ["RED", "DIM"]
 # globals that nothing changes, so that each expression has something that is no constant
-KEPT = [("s8", "int8"), ("s32", "int"), ("s64", "int64"), ("u16", "uint16"), ("u32", "uint"), ("u64", "uint64"), ("yes", "bool")]
+KEPT = [("s8", "int8"), ("s32", "int"), ("s64", "int64"), ("u16", "uint16"), ("u32", "uint"), ("u64", "uint64"), ("yes", "bool"),
+        ("hue", "Color"), ("lamp", "Light")]
 # scripts in a session, which takes 16 MiB at most
 BATCH = 1000
 SMALL = [0, 1, 2, 3, 7, 31, 100, 127, 128, 255, 256, 32767, 65535, 65536, 2147483647]
@@ -29,11 +34,16 @@ FAULTS = {"exception Divide by zero": "fault DivideByZero", "exception Overflow 
 
 
 def width(type):
-    return int(type.strip("uint") or 32)
+    return 32 if type in ENUMERATIONS else int(type.strip("uint") or 32)
 
 
 def family_of(type):
-    return SIGNED if type in SIGNED else UNSIGNED
+    return UNSIGNED if type in UNSIGNED else SIGNED
+
+
+def is_of(type, family):
+    """Operators take a value of an enumeration as an int."""
+    return type in family or (family is SIGNED and type in ENUMERATIONS)
 
 
 def common(left, right):
@@ -76,6 +86,9 @@ class Script:
 
     def literal(self, type):
         value = self.random.choice(SMALL)
+        if type in ENUMERATIONS:
+            name = self.pick(*ENUMERATIONS[type])
+            return name if name in ALONE and self.random.random() < 0.5 else f"{type}::{name}"
         if type == "bool":
             return self.pick("true", "false")
         return hex(value) if type in UNSIGNED else self.pick(str(value), f"(-{value})")
@@ -90,7 +103,7 @@ class Script:
         """A number of one of the family's types, which is no constant, and its type."""
         kind = self.random.randrange(9) if depth > 0 else 0
         if kind <= 1:
-            return self.known(lambda type: type in family)
+            return self.known(lambda type: is_of(type, family))
         if kind <= 4:
             return self.operation(family, depth - 1)
         if kind == 5:
@@ -113,12 +126,12 @@ class Script:
             b, right = self.number(family, depth)
             b, right = f"({b} | {1 if family is SIGNED else '0x1'})", common(right, right)
         elif operator in "/%":
-            b, right = self.known(lambda type: type in family)
+            b, right = self.known(lambda type: is_of(type, family))
         return f"({a} {operator} {b})", common(left, right)
 
     def call_or_sign(self, family, depth):
         """A call of a function without effects, else a number with a sign."""
-        found = [f for f in self.functions if f[1] in family and f[3]]
+        found = [f for f in self.functions if is_of(f[1], family) and f[3]]
         if found and self.random.random() < 0.7:
             name, result, parameters, _ = self.random.choice(found)
             return f"{name}({', '.join(self.converted(type, depth) for type, _ in parameters)})", result
@@ -142,12 +155,30 @@ class Script:
 
     def converted(self, type, depth):
         """An expression that converts to the type by itself."""
+        if type in ENUMERATIONS:
+            return self.enumerated(type, depth)
         return self.truth(depth) if type == "bool" else self.operand(family_of(type), depth)[0]
+
+    def enumerated(self, type, depth):
+        """A value of an enumeration."""
+        kind = self.random.randrange(6) if depth > 0 else 0
+        if kind == 0:
+            return self.literal(type)
+        if kind == 1:
+            return f"{type}({self.number(self.pick(SIGNED, UNSIGNED), depth - 1)[0]})"
+        if kind == 2:
+            a, b = self.enumerated(type, depth - 1), self.enumerated(type, depth - 1)
+            return f"({self.truth(depth - 1)} ? {a} : {b})"
+        found = [f for f in self.functions if f[1] == type and f[3]]
+        if kind == 3 and found:
+            name, _, parameters, _ = self.random.choice(found)
+            return f"{name}({', '.join(self.converted(each, depth - 1) for each, _ in parameters)})"
+        return self.known(lambda each: each == type)[0]
 
     # statements: each gives its lines
 
     def variable(self):
-        type = self.pick("bool", *NUMBERS)
+        type = self.pick("bool", *NUMBERS, *ENUMERATIONS)
         value, name = self.converted(type, 3), self.name("v")
         self.scopes[-1].append((name, type))
         return f"{type} {name} = {value};"
@@ -159,6 +190,8 @@ class Script:
         name, type = self.random.choice(found)
         if type == "bool":
             return f"{name} = {self.truth(3)};"
+        if type in ENUMERATIONS:
+            return f"{name} = {self.enumerated(type, 3)};"
         operator = self.pick("=", "=", "+=", "-=", "*=", "/=", "%=", "&=", "|=", "^=", "<<=", ">>=", ">>>=", "++", "--")
         if operator in ("++", "--"):
             return self.pick(f"{name}{operator};", f"{operator}{name};")
@@ -231,9 +264,10 @@ class Script:
     def function(self):
         """A function. One without effects changes and reads nothing but its own and what nothing changes."""
         self.pure = self.random.random() < 0.5
-        result, name = self.random.choice(NUMBERS), self.name("f")
+        result, name = self.pick(*NUMBERS, *ENUMERATIONS), self.name("f")
         passings = ["", "&in"] if self.pure else ["", "&in", "&out"]
-        parameters = [(self.pick("bool", *NUMBERS), self.random.choice(passings)) for _ in range(self.random.randrange(4))]
+        types = ["bool", *NUMBERS, *ENUMERATIONS]
+        parameters = [(self.pick(*types), self.random.choice(passings)) for _ in range(self.random.randrange(4))]
         own = [(self.name("p"), type) for type, _ in parameters]
         listed = ", ".join(f"{type} {passing} {p}" for (type, passing), (p, _) in zip(parameters, own))
         outer = self.scopes
@@ -276,6 +310,8 @@ def here(asrun, texts, room):
     profile, session = os.path.join(room, "profile"), os.path.join(room, "session")
     with open(profile, "w") as out:
         out.write("mask 00000001\nfunction 0 1 int64 sum(int64, int64)\nglobal 0 0 int64 reg\n")
+        for name, values in ENUMERATIONS.items():
+            out.write(f"enum {name}\n" + "".join(f"value {name} {value} {number}\n" for value, number in values.items()))
     with open(session, "w") as out:
         out.write("module a 00000001\n")
         for text in texts:

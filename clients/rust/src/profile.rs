@@ -29,8 +29,22 @@ impl Profile {
     /// A type of host objects, each of which is an `Rc` of the same Rust type.
     pub fn object_type(&mut self, name: &str) {
         self.types.push(name.to_owned());
-        let (mask, line) = (self.mask, format!("type {name} {}", self.types.len()));
-        self.entries.push(Entry { mask, line, declaration: name.to_owned(), asked: None, write: None });
+        self.name(self.mask, format!("type {name} {}", self.types.len()), name);
+    }
+
+    /// An enumeration and its values, which closures see as `i32`.
+    pub fn enumeration(&mut self, name: &str, values: &[(&str, i32)]) {
+        self.name(self.mask, format!("enum {name}"), name);
+        for (value, number) in values {
+            self.value(name, value, *number);
+        }
+    }
+
+    /// One value more of an enumeration. It has the enumeration's mask.
+    pub fn value(&mut self, of: &str, name: &str, number: i32) {
+        let line = format!("enum {of}");
+        let mask = self.entries.iter().find(|it| it.line == line).map_or(self.mask, |it| it.mask);
+        self.name(mask, format!("value {of} {name} {number}"), name);
     }
 
     /// A function. Where it has objects it is the driver's of their type, and one that it gives is one that scripts hold.
@@ -63,6 +77,11 @@ impl Profile {
     /// A property of a type.
     pub fn property<V, W>(&mut self, of: &str, declaration: &str, get: impl Function<V>, set: impl Function<W>) {
         self.add(&format!("property {of}"), declaration, get.asked(), Some(set.asked()));
+    }
+
+    /// What is declared by its name alone.
+    fn name(&mut self, mask: u32, line: String, name: &str) {
+        self.entries.push(Entry { mask, line, declaration: name.to_owned(), asked: None, write: None });
     }
 
     fn add(&mut self, words: &str, declaration: &str, asked: Asked, write: Option<Asked>) {

@@ -67,6 +67,8 @@ module _ (s : BodyContext) where
   chosen_silent word operands (resolution.Call c) =
       silent_in (arguments_for s.ancestors c.candidate.params operands) _ (arguments_silent s.ancestors c.candidate.params operands) (λ xs. tt)
   chosen_silent word operands (resolution.Type k) = refl
+  chosen_silent word operands (resolution.Enumeration k) = refl
+  chosen_silent word operands (resolution.Value v) = refl
   chosen_silent word operands (resolution.Refused why) = refl
 
   super_by_silent : (word : Token) (operands : List Operand) (b : Option ℕ) → Silent (super_by s word operands b)

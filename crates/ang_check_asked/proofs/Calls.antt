@@ -14,7 +14,7 @@ use Rattle.ang_typed.specs.declared.expression.Variable.{Variable}
 use Rattle.ang_names_known.specs.Lookup.{FoundMethod, may_use}
 use Rattle.ang_names_known.specs.Spaces.{family_type, family_of_type}
 use Rattle.ang_names_written.specs.Sources.{text_of}
-use Rattle.ang_check_operand.specs.Operands.{Operand, fit, object_of, site_in}
+use Rattle.ang_check_operand.specs.Operands.{Operand, fit, integer, object_of, site_in}
 use Rattle.ang_check_operand.specs.Refusals.{Typing, fault}
 use Rattle.ang_check_context.specs.declared.scope.LocalVariable.{LocalVariable}
 use Rattle.ang_check_context.specs.declared.scope.Within.{Within}
@@ -28,10 +28,10 @@ use Rattle.ang_check_uses.specs.declared.uses.Reach.{Reach}
 use Rattle.ang_check_uses.specs.declared.uses.Resolution.{Resolution}
 use Rattle.ang_check_uses.specs.declared.uses.Resolution.TheVariants as resolution
 use Rattle.ang_check_uses.specs.Uses.{resolution_of, factories_of, host_methods}
-use Rattle.ang_check_typing.specs.Calls.{is_out, variable_in, out_or, out_of, value_for, out_for, argument_by, argument, arguments_for, call_with, called, called_use, called_own, own_method, named_methods, call_by, call_typing, ancestor_in, scoped_by, scoped_typing, method_of_type, method_on, method_call_typing, made_by, default_typing, made_typing}
+use Rattle.ang_check_typing.specs.Calls.{is_out, variable_in, out_or, out_of, value_for, out_for, argument_by, argument, arguments_for, call_with, called, called_use, called_own, enumerated_of, bare_use, own_method, named_methods, call_by, call_typing, ancestor_in, scoped_by, scoped_typing, method_of_type, method_on, method_call_typing, made_by, default_typing, made_typing}
 use Rattle.ang_check_asked.proofs.Judged.{Silent, silent_in, either_silent}
-use Rattle.ang_check_asked.proofs.Operators.{fit_silent}
-use Rattle.ang_check_asked.proofs.Resolutions.{IsCall, best_is_call, method_is_call, name_is_call}
+use Rattle.ang_check_asked.proofs.Operators.{fit_silent, integer_silent}
+use Rattle.ang_check_asked.proofs.Resolutions.{IsBareCall, IsCall, best_is_call, method_is_call, name_is_call}
 use Rattle.ang_check_asked.proofs.Names.{Uses, no_use, refused_use}
 
 -- ---- arguments
@@ -90,6 +90,8 @@ module _ (s : BodyContext) (ps : List LocalVariable) where
   called_uses place x a operands (resolution.Property p) h e = absurd h
   called_uses place x a operands (resolution.Call c) h e = no_use s ps (called s place x c operands) (called_silent place x c operands)
   called_uses place x a operands (resolution.Type k) h e = absurd h
+  called_uses place x a operands (resolution.Enumeration k) h e = absurd h
+  called_uses place x a operands (resolution.Value v) h e = absurd h
   called_uses place x a operands (resolution.Refused why) h e = refused_use s ps why x a e
 
   called_own_silent : (place : Place) (x : Token) (operands : List Operand) (r : Resolution) → Silent (called_own s place x operands r)
@@ -97,6 +99,8 @@ module _ (s : BodyContext) (ps : List LocalVariable) where
   called_own_silent place x operands (resolution.Property p) = refl
   called_own_silent place x operands (resolution.Call c) = called_silent place x c operands
   called_own_silent place x operands (resolution.Type k) = refl
+  called_own_silent place x operands (resolution.Enumeration k) = refl
+  called_own_silent place x operands (resolution.Value v) = refl
   called_own_silent place x operands (resolution.Refused why) = refl
 
   own_method_silent : (d n : ℕ) (c : Bool) (x : Token) (receiver : Operand) (operands : List Operand) → Silent (own_method s d n c x receiver operands)
@@ -104,9 +108,25 @@ module _ (s : BodyContext) (ps : List LocalVariable) where
 
   -- ---- a bare call
 
+  enumerated_silent : (x : Token) (n : ℕ) (operands : List Operand) → Silent (enumerated_of x n operands)
+  enumerated_silent x n [] = refl
+  enumerated_silent x n (a ∷ []) = silent_in (integer a) _ (integer_silent a) (λ q. tt)
+  enumerated_silent x n (a ∷ b ∷ rest) = refl
+
+  bare_uses : (x : Token) (a : Asks) (operands : List Operand) (r : Resolution) → IsBareCall r
+      → resolution_of (scope_of s) (text_of s.text x) a ≡ r
+      → Uses s ps (bare_use s x a (is_bare a && is_there s ps (text_of s.text x)) operands r)
+  bare_uses x a operands (resolution.Variable v ty read_only) h e = absurd h
+  bare_uses x a operands (resolution.Property p) h e = absurd h
+  bare_uses x a operands (resolution.Call c) h e = called_uses x.place x a operands (resolution.Call c) tt e
+  bare_uses x a operands (resolution.Type k) h e = absurd h
+  bare_uses x a operands (resolution.Enumeration k) h e = no_use s ps (enumerated_of x k operands) (enumerated_silent x k operands)
+  bare_uses x a operands (resolution.Value v) h e = absurd h
+  bare_uses x a operands (resolution.Refused why) h e = called_uses x.place x a operands (resolution.Refused why) tt e
+
   call_by_uses : (x : Token) (operands : List Operand) (m : Option (Within × List FoundMethod)) → Uses s ps (call_by s ps x operands m)
   call_by_uses x operands None =
-      called_uses x.place x (asks.Call (types_of operands)) operands
+      bare_uses x (asks.Call (types_of operands)) operands
       (resolution_of (scope_of s) (text_of s.text x) (asks.Call (types_of operands)))
       (name_is_call (scope_of s) (text_of s.text x) (types_of operands)) refl
   call_by_uses x operands (Some m) =

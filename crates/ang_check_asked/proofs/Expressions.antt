@@ -3,7 +3,7 @@ use Rattle.std.specs.Prelude.{List, IfErr}
 use Rattle.ang_lex.specs.declared.token.Token.{Token}
 use Rattle.ang_lex.specs.declared.token.TokenKind.{TokenKind}
 use Rattle.ang_lex.specs.declared.token.TokenKind.TheVariants as k
-use Rattle.ang_tree.specs.Tree.{Tree, Args, Trees, literal, name, call, scoped_call, cast, convert, group, postfix, member, method_call, prefix, binary, conditional, assignment, arguments, none, more}
+use Rattle.ang_tree.specs.Tree.{Tree, Args, Trees, literal, name, call, scoped_call, scoped_name, cast, convert, group, postfix, member, method_call, prefix, binary, conditional, assignment, arguments, none, more}
 use Rattle.ang_names_written.specs.Sources.{text_of}
 use Rattle.ang_check_operand.specs.Refusals.{Typing, ◌>>=◌}
 use Rattle.ang_check_operators.specs.Operations.{literal_typing, binary_typing, prefix_typing, postfix_typing, convert_typing, conditional_typing, assignment_typing}
@@ -16,7 +16,7 @@ use Rattle.ang_check_typing.specs.Typing.{word_by, typing_of, typing_of_args, ty
 use Rattle.ang_check_asked.specs.Asked.{IsAskedThere}
 use Rattle.ang_check_asked.proofs.Judged.{refused_in}
 use Rattle.ang_check_asked.proofs.Operators.{literal_silent, binary_silent, prefix_silent, postfix_silent, converted_silent, conditional_silent, assignment_silent}
-use Rattle.ang_check_asked.proofs.Names.{Uses, no_use, cast_silent, this_silent, cast_type_uses, member_uses, name_uses}
+use Rattle.ang_check_asked.proofs.Names.{Uses, no_use, cast_silent, this_silent, cast_type_uses, member_uses, name_uses, scoped_name_uses}
 use Rattle.ang_check_asked.proofs.Calls.{call_uses, scoped_silent, method_call_uses}
 
 -- In a body, with these parameters and locals alive:
@@ -36,6 +36,7 @@ module _ (s : BodyContext) (ps : List LocalVariable) where
     typing_uses (scoped_call c scope x es) =
         after (typing_of_args s ps es) _ (args_use es)
         (λ operands. no_use s ps (scoped_typing s c x operands) (scoped_silent s ps c x operands))
+    typing_uses (scoped_name c scope x) = scoped_name_uses s ps c x
     typing_uses (cast word less y greater left e right) =
         after (cast_type s ps y) _ (cast_type_uses s ps y)
         (λ ty. after (typing_of s ps e) _ (typing_uses e) (λ a. no_use s ps (cast_typing word ty a) (cast_silent word ty a)))

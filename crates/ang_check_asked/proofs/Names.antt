@@ -26,15 +26,16 @@ use Rattle.ang_check_context.specs.declared.scope.Within.{Within}
 use Rattle.ang_check_context.specs.Access.{if_reached}
 use Rattle.ang_check_context.specs.Casts.{type_or_refusal, cast_type, cast_between, cast_from, cast_by, cast_typing}
 use Rattle.ang_check_context.specs.Members.{property_use, field_typing, member_of_type, member_on, member_typing}
-use Rattle.ang_check_context.specs.Names.{this_in, this_typing, value_use, field_within, field_or_global, local_named, local_or, name_typing}
+use Rattle.ang_check_context.specs.Names.{this_in, this_typing, value_or_unknown, scoped_name_use, scoped_name_typing, value_use, field_within, field_or_global, local_named, local_or, name_typing}
 use Rattle.ang_check_context.specs.Scope.{BodyContext, scope_of, space_of, family_of, is_there}
 use Rattle.ang_check_denials.specs.Denials.{is_bare}
+use Rattle.ang_check_uses.specs.declared.uses.EnumerationValue.{EnumerationValue}
 use Rattle.ang_check_uses.specs.declared.uses.Resolution.{Resolution}
 use Rattle.ang_check_uses.specs.declared.uses.Resolution.TheVariants as resolution
-use Rattle.ang_check_uses.specs.Uses.{resolution_of, type_meant}
+use Rattle.ang_check_uses.specs.Uses.{resolution_of, type_meant, value_of}
 use Rattle.ang_check_asked.specs.Asked.{IsAskedThere, IsRefusedUse}
 use Rattle.ang_check_asked.proofs.Judged.{Silent, either_silent, either_refused, unasked}
-use Rattle.ang_check_asked.proofs.Resolutions.{IsVariable, IsProperty, value_is_variable, property_is}
+use Rattle.ang_check_asked.proofs.Resolutions.{IsEnumeration, IsVariable, IsProperty, enumeration_is, value_is_variable, property_is}
 use Rattle.ang_check_asked.proofs.Types.{IfUnknown, type_refused_so}
 
 -- ---- casts
@@ -107,6 +108,8 @@ module _ (s : BodyContext) (ps : List LocalVariable) where
   property_uses a x n c (resolution.Property p) h e = tt
   property_uses a x n c (resolution.Call f) h e = absurd h
   property_uses a x n c (resolution.Type k) h e = absurd h
+  property_uses a x n c (resolution.Enumeration k) h e = absurd h
+  property_uses a x n c (resolution.Value v) h e = absurd h
   property_uses a x n c (resolution.Refused why) h e = refused_use why x (asks.Property n) e
 
   field_uses : (a : Operand) (x : Token) (c : Bool) (f : Option FoundField) → Uses (field_typing s a x c f)
@@ -127,6 +130,28 @@ module _ (s : BodyContext) (ps : List LocalVariable) where
   unfolding member_typing
   member_uses a x = member_on_uses a x (object_of a.ty)
 
+  -- ---- values of enumerations
+
+  value_of_uses : (c x : Token) (v : Option EnumerationValue) → Uses (value_or_unknown c x v)
+  value_of_uses c x None = tt
+  value_of_uses c x (Some v) = tt
+
+  scoped_uses : (c x : Token) (r : Resolution) → IsEnumeration r → resolution_of (scope_of s) (text_of s.text c) asks.Enumeration ≡ r
+      → Uses (scoped_name_use s c x (is_there s ps (text_of s.text c)) r)
+  scoped_uses c x (resolution.Variable v ty read_only) h e = absurd h
+  scoped_uses c x (resolution.Property p) h e = absurd h
+  scoped_uses c x (resolution.Call f) h e = absurd h
+  scoped_uses c x (resolution.Type k) h e = absurd h
+  scoped_uses c x (resolution.Enumeration k) h e = value_of_uses c x (value_of s.view k (text_of s.text x))
+  scoped_uses c x (resolution.Value v) h e = absurd h
+  scoped_uses c x (resolution.Refused why) h e = refused_use why c asks.Enumeration e
+
+  pub scoped_name_uses : (c x : Token) → Uses (scoped_name_typing s ps c x)
+  unfolding scoped_name_typing
+  scoped_name_uses c x =
+      scoped_uses c x (resolution_of (scope_of s) (text_of s.text c) asks.Enumeration)
+      (enumeration_is (type_of_name (space_of s) (text_of s.text c))) refl
+
   -- ---- bare names
 
   value_uses : (x : Token) (r : Resolution) → IsVariable r → resolution_of (scope_of s) (text_of s.text x) asks.Value ≡ r
@@ -135,6 +160,8 @@ module _ (s : BodyContext) (ps : List LocalVariable) where
   value_uses x (resolution.Property p) h e = absurd h
   value_uses x (resolution.Call f) h e = absurd h
   value_uses x (resolution.Type k) h e = absurd h
+  value_uses x (resolution.Enumeration k) h e = absurd h
+  value_uses x (resolution.Value v) h e = tt
   value_uses x (resolution.Refused why) h e = refused_use why x asks.Value e
 
   global_uses : (x : Token) → Uses (field_or_global s x (is_there s ps (text_of s.text x)) None)

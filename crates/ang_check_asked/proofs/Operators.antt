@@ -1,5 +1,5 @@
 -- What an operator refuses is no use.
-use Rattle.std.specs.Prelude.{ℕ, zero, suc, Bool, List, Option, Some, None, Ok, Err}
+use Rattle.std.specs.Prelude.{ℕ, zero, suc, ◌==◌, Bool, List, Option, Some, None, Ok, Err}
 use Rattle.std.proofs.Common.{refl}
 use Rattle.ang_kinds.specs.declared.error.ErrorKind.TheVariants as why
 use Rattle.ang_kinds.specs.declared.place.Place.{Place}
@@ -23,10 +23,10 @@ use Rattle.ang_check_operators.specs.declared.forms.Form.{Form}
 use Rattle.ang_check_operators.specs.declared.forms.Form.TheVariants as form
 use Rattle.ang_check_operators.specs.declared.forms.Work.{Work}
 use Rattle.ang_check_operators.specs.declared.forms.Work.TheVariants as work
-use Rattle.ang_check_operand.specs.Operands.{Operand, fit_by, fit, integer_in, integer, truth_in, truth, identity_in, identity, object_of, site_in, site_or, target_by, target, seat_by, seat}
+use Rattle.ang_check_operand.specs.Operands.{Operand, fit_by, fit, integer_in, integer, number_in, number, truth_in, truth, identity_in, identity, object_of, site_in, site_or, target_by, target, seat_by, seat}
 use Rattle.ang_check_operand.specs.Refusals.{Typing, ◌>>=◌, refused, fault}
 use Rattle.ang_check_operators.specs.Forms.{binary_form, compound_work}
-use Rattle.ang_check_operators.specs.Operations.{literal_by, literal_typing, raised_type, worked_in, arithmetic, shift, compared_in, order, equality_by, equality, conjunction, disjunction, exclusion, sameness, difference, formed, binary_typing, negated, complemented, raised_operand, opposite, handle_in, handle_typing, stepped, prefix_by, prefix_typing, postfix_by, postfix_typing, converted_by, convert_typing, choice_as, choice_of_integers, stands_for, choice_of, choice_of_objects, choice_by, choice, conditional_typing, assign_in, assigned, reseated, assigned_by, compound_in, compound_arithmetic, compound_shift, assignment_by, assignment_typing}
+use Rattle.ang_check_operators.specs.Operations.{literal_by, literal_typing, raised_type, worked_in, arithmetic, shift, compared_in, order, equality_by, equality, conjunction, disjunction, exclusion, sameness, difference, formed, binary_typing, negated, complemented, raised_operand, opposite, handle_in, handle_typing, stepped, prefix_by, prefix_typing, postfix_by, postfix_typing, converted_by, convert_typing, choice_as, choice_of_integers, stands_for, choice_of, choice_of_objects, choice_of_enumerations, choice_by, choice, conditional_typing, assign_in, assigned, reseated, assigned_by, compound_in, compound_arithmetic, compound_shift, assignment_by, assignment_typing}
 use Rattle.ang_check_asked.proofs.Judged.{Silent, silent_in, either_silent}
 
 -- ---- operands
@@ -42,11 +42,20 @@ fit_silent ancestors ty a = fit_by_silent (rank_of ancestors a.ty ty) ty a
 
 integer_in_silent : (a : Operand) (ty : ArgType) → Silent (integer_in a ty)
 integer_in_silent a (type.Plain q) = either_silent (is_integer q) (Ok q) (Err (fault why.BadConversion a.place)) tt refl
+integer_in_silent a (type.Enumeration n) = tt
 integer_in_silent a _ = refl
 
-integer_silent : (a : Operand) → Silent (integer a)
+pub integer_silent : (a : Operand) → Silent (integer a)
 unfolding integer
 integer_silent a = integer_in_silent a a.ty
+
+number_in_silent : (a : Operand) (ty : ArgType) → Silent (number_in a ty)
+number_in_silent a (type.Plain q) = either_silent (is_integer q) (Ok q) (Err (fault why.BadConversion a.place)) tt refl
+number_in_silent a _ = refl
+
+number_silent : (a : Operand) → Silent (number a)
+unfolding number
+number_silent a = number_in_silent a a.ty
 
 truth_in_silent : (a : Operand) (ty : ArgType) → Silent (truth_in a ty)
 truth_in_silent a (type.Plain p.Bool) = tt
@@ -60,6 +69,7 @@ identity_in_silent : (a : Operand) (ty : ArgType) → Silent (identity_in a ty)
 identity_in_silent a type.Void = refl
 identity_in_silent a type.Null = tt
 identity_in_silent a (type.Plain q) = refl
+identity_in_silent a (type.Enumeration n) = refl
 identity_in_silent a (type.Object n c) = tt
 identity_in_silent a (type.Handle n c) = tt
 
@@ -107,6 +117,10 @@ identity_two a b f g = silent_in (identity a) _ (identity_silent a) (λ x. silen
 integers : {B : Type 0} (a b : Operand) (f : Primitive → Primitive → Typing B) → ((q r : Primitive) → Silent (f q r))
     → Silent (integer a >>= (λ q. integer b >>= (λ r. f q r)))
 integers a b f g = silent_in (integer a) _ (integer_silent a) (λ q. silent_in (integer b) _ (integer_silent b) (λ r. g q r))
+
+number_and_integer : {B : Type 0} (a b : Operand) (f : Primitive → Primitive → Typing B) → ((q r : Primitive) → Silent (f q r))
+    → Silent (number a >>= (λ q. integer b >>= (λ r. f q r)))
+number_and_integer a b f g = silent_in (number a) _ (number_silent a) (λ q. silent_in (integer b) _ (integer_silent b) (λ r. g q r))
 
 -- ---- literals
 
@@ -211,12 +225,13 @@ opposite_silent place a = silent_in (truth a) _ (truth_silent a) (λ x. tt)
 
 stepped_silent : (kind : StepKind) (place : Place) (a : Operand) → Silent (stepped kind place a)
 unfolding stepped
-stepped_silent kind place a = silent_in (target a) _ (target_silent a) (λ x. silent_in (integer a) _ (integer_silent a) (λ q. tt))
+stepped_silent kind place a = silent_in (target a) _ (target_silent a) (λ x. silent_in (number a) _ (number_silent a) (λ q. tt))
 
 handle_in_silent : (place : Place) (a : Operand) (ty : ArgType) → Silent (handle_in place a ty)
 handle_in_silent place a type.Void = refl
 handle_in_silent place a type.Null = tt
 handle_in_silent place a (type.Plain q) = refl
+handle_in_silent place a (type.Enumeration n) = refl
 handle_in_silent place a (type.Object m c) = tt
 handle_in_silent place a (type.Handle m c) = tt
 
@@ -272,8 +287,15 @@ objects_silent : (ancestors : Ancestors) (place : Place) (c : t.Expr) (a b : Ope
 objects_silent ancestors place c a b None = refl
 objects_silent ancestors place c a b (Some x) = one_of_two_silent ancestors place c a b
 
+enumerations_silent : (ancestors : Ancestors) (place : Place) (c : t.Expr) (a b : Operand) (n : ℕ) (ty : ArgType)
+    → Silent (choice_of_enumerations ancestors place c a b n ty)
+enumerations_silent ancestors place c a b n (type.Enumeration m) =
+    either_silent (n == m) _ _ (chosen_silent ancestors (type.Enumeration n) place c a b) (integers_silent ancestors place c a b)
+enumerations_silent ancestors place c a b n _ = integers_silent ancestors place c a b
+
 choice_by_silent : (ancestors : Ancestors) (place : Place) (c : t.Expr) (a b : Operand) (ty : ArgType) → Silent (choice_by ancestors place c a b ty)
 choice_by_silent ancestors place c a b (type.Plain p.Bool) = chosen_silent ancestors (type.Plain p.Bool) place c a b
+choice_by_silent ancestors place c a b (type.Enumeration n) = enumerations_silent ancestors place c a b n b.ty
 choice_by_silent ancestors place c a b (type.Object m r) = objects_silent ancestors place c a b (object_of b.ty)
 choice_by_silent ancestors place c a b (type.Handle m r) = objects_silent ancestors place c a b (object_of b.ty)
 choice_by_silent ancestors place c a b _ = integers_silent ancestors place c a b
@@ -290,6 +312,8 @@ conditional_silent ancestors c a b = silent_in (truth c) _ (truth_silent c) (λ 
 
 assign_in_silent : (ancestors : Ancestors) (at place : Place) (x : t.Site) (b : Operand) (ty : ArgType) → Silent (assign_in ancestors at place x b ty)
 assign_in_silent ancestors at place x b (type.Plain q) = silent_in (fit ancestors (type.Plain q) b) _ (fit_silent ancestors (type.Plain q) b) (λ y. tt)
+assign_in_silent ancestors at place x b (type.Enumeration n) =
+    silent_in (fit ancestors (type.Enumeration n) b) _ (fit_silent ancestors (type.Enumeration n) b) (λ y. tt)
 assign_in_silent ancestors at place x b _ = refl
 
 assigned_silent : (ancestors : Ancestors) (at : Place) (a b : Operand) → Silent (assigned ancestors at a b)
@@ -311,12 +335,12 @@ compound_silent ancestors op place x q r b = silent_in (fit ancestors (type.Plai
 compound_arithmetic_silent : (ancestors : Ancestors) (op : Operator) (a b : Operand) → Silent (compound_arithmetic ancestors op a b)
 unfolding compound_arithmetic
 compound_arithmetic_silent ancestors op a b =
-    silent_in (target a) _ (target_silent a) (λ x. integers a b _ (λ q r. compound_silent ancestors op a.place x q (common_type q r) b))
+    silent_in (target a) _ (target_silent a) (λ x. number_and_integer a b _ (λ q r. compound_silent ancestors op a.place x q (common_type q r) b))
 
 compound_shift_silent : (ancestors : Ancestors) (op : Operator) (a b : Operand) → Silent (compound_shift ancestors op a b)
 unfolding compound_shift
 compound_shift_silent ancestors op a b =
-    silent_in (target a) _ (target_silent a) (λ x. integers a b _ (λ q r. compound_silent ancestors op a.place x q (raised_type q) b))
+    silent_in (target a) _ (target_silent a) (λ x. number_and_integer a b _ (λ q r. compound_silent ancestors op a.place x q (raised_type q) b))
 
 assignment_by_silent : (ancestors : Ancestors) (at : Place) (w : Option Work) (a b : Operand) → Silent (assignment_by ancestors at w a b)
 assignment_by_silent ancestors at None a b = assigned_by_silent ancestors at a b a.seat

@@ -90,6 +90,7 @@ value_returned_silent : (ancestors : Ancestors) (ty : ArgType) (a : Operand) →
 value_returned_silent ancestors type.Void a = refl
 value_returned_silent ancestors type.Null a = fit_silent ancestors type.Null a
 value_returned_silent ancestors (type.Plain p) a = fit_silent ancestors (type.Plain p) a
+value_returned_silent ancestors (type.Enumeration n) a = fit_silent ancestors (type.Enumeration n) a
 value_returned_silent ancestors (type.Object n c) a = fit_silent ancestors (type.Object n c) a
 value_returned_silent ancestors (type.Handle n c) a = fit_silent ancestors (type.Handle n c) a
 
@@ -97,6 +98,7 @@ nothing_returned_silent : (ty : ArgType) (word : Token) → Silent (nothing_retu
 nothing_returned_silent type.Void word = tt
 nothing_returned_silent type.Null word = refl
 nothing_returned_silent (type.Plain p) word = refl
+nothing_returned_silent (type.Enumeration n) word = refl
 nothing_returned_silent (type.Object n c) word = refl
 nothing_returned_silent (type.Handle n c) word = refl
 

@@ -39,6 +39,7 @@ object_refused : (d : Named) (constant : Bool) (h : Option Handle) → Refuses d
 object_refused named.Unknown constant h = refl
 object_refused (named.Object n) constant None = tt
 object_refused (named.Object n) constant (Some h) = tt
+object_refused (named.Enumeration n) constant h = without_refused (named.Enumeration n) (type.Enumeration n) h
 
 kind_refused : (E : Space) (text : List ℕ) (y : TypeName) (kind : TokenKind) → Refuses (type_of_name E (text_of text y.name)) (written_type E text y kind)
 kind_refused E text y (k.Primitive p) = without_refused _ (type.Plain p) y.handle
@@ -56,6 +57,7 @@ module _ (d : Named) where
   void_refused type.Void = tt
   void_refused type.Null = tt
   void_refused (type.Plain p) = tt
+  void_refused (type.Enumeration n) = tt
   void_refused (type.Object n c) = tt
   void_refused (type.Handle n c) = tt
 
@@ -63,6 +65,7 @@ module _ (d : Named) where
   value_refused type.Void = tt
   value_refused type.Null = tt
   value_refused (type.Plain p) = tt
+  value_refused (type.Enumeration n) = tt
   value_refused (type.Object n c) = tt
   value_refused (type.Handle n c) = tt
 
@@ -70,6 +73,7 @@ module _ (d : Named) where
   taken_refused type.Void = tt
   taken_refused type.Null = tt
   taken_refused (type.Plain p) = tt
+  taken_refused (type.Enumeration n) = tt
   taken_refused (type.Object n c) = either_type c (Ok (type.Object n c)) (Err ByValue) tt tt
   taken_refused (type.Handle n c) = tt
 
@@ -77,6 +81,7 @@ module _ (d : Named) where
   changed_refused type.Void = tt
   changed_refused type.Null = tt
   changed_refused (type.Plain p) = tt
+  changed_refused (type.Enumeration n) = tt
   changed_refused (type.Object n c) = tt
   changed_refused (type.Handle n c) = tt
 
@@ -90,6 +95,7 @@ module _ (d : Named) where
   crossing_refused by_value type.Void = tt
   crossing_refused by_value type.Null = tt
   crossing_refused by_value (type.Plain p) = either_type by_value (Ok (type.Plain p)) (Err BadImport) tt tt
+  crossing_refused by_value (type.Enumeration n) = either_type by_value (Ok (type.Enumeration n)) (Err BadImport) tt tt
   crossing_refused by_value (type.Object n c) = tt
   crossing_refused by_value (type.Handle n c) = either_type (is_family_type n) (Err BadImport) (Ok (type.Handle n c)) tt tt
 
@@ -97,6 +103,7 @@ module _ (d : Named) where
   cast_refused type.Void = tt
   cast_refused type.Null = tt
   cast_refused (type.Plain p) = tt
+  cast_refused (type.Enumeration n) = tt
   cast_refused (type.Object n c) = tt
   cast_refused (type.Handle n c) = tt
 

@@ -36,6 +36,7 @@ module _ (s : BodyContext) (ps : List LocalVariable) where
   absent_uses y type.Void = tt
   absent_uses y type.Null = tt
   absent_uses y (type.Plain p) = tt
+  absent_uses y (type.Enumeration n) = tt
   absent_uses y (type.Object n c) = object_uses (default_typing s ps y.name n) (default_uses s ps y.name n)
   absent_uses y (type.Handle n c) = tt
 
@@ -43,6 +44,7 @@ module _ (s : BodyContext) (ps : List LocalVariable) where
   value_uses ancestors equals type.Void a = fitted_uses ancestors type.Void a
   value_uses ancestors equals type.Null a = fitted_uses ancestors type.Null a
   value_uses ancestors equals (type.Plain p) a = fitted_uses ancestors (type.Plain p) a
+  value_uses ancestors equals (type.Enumeration n) a = fitted_uses ancestors (type.Enumeration n) a
   value_uses ancestors equals (type.Object n c) a = tt
   value_uses ancestors equals (type.Handle n c) a = fitted_uses ancestors (type.Handle n c) a
 
@@ -50,6 +52,7 @@ module _ (s : BodyContext) (ps : List LocalVariable) where
   arguments_uses y type.Void operands = tt
   arguments_uses y type.Null operands = tt
   arguments_uses y (type.Plain p) operands = tt
+  arguments_uses y (type.Enumeration n) operands = tt
   arguments_uses y (type.Object n c) operands = object_uses (made_typing s ps y.name n operands) (made_uses s ps y.name n operands)
   arguments_uses y (type.Handle n c) operands = tt
 

@@ -64,6 +64,7 @@ abbrev pub is_void : ArgType → Bool
 is_void type.Void = true
 is_void type.Null = false
 is_void (type.Plain p) = false
+is_void (type.Enumeration n) = false
 is_void (type.Object n c) = false
 is_void (type.Handle n c) = false
 

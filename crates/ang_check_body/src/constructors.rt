@@ -115,9 +115,11 @@ fn super_chosen(
             })
         }
         Resolution::Refused(kind) => Err(refused(kind, word)),
-        Resolution::Variable(..) | Resolution::Property(_) | Resolution::Type(_) => {
-            Err(refused(ErrorKind::UnknownName, word))
-        }
+        Resolution::Variable(..)
+        | Resolution::Property(_)
+        | Resolution::Type(_)
+        | Resolution::Enumeration(_)
+        | Resolution::Value(_) => { Err(refused(ErrorKind::UnknownName, word)) }
     }
 }
 

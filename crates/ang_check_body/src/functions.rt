@@ -131,9 +131,11 @@ fn is_void(ty: ArgType) -> bool
 {
     match ty {
         ArgType::Void => true,
-        ArgType::Null | ArgType::Plain(_) | ArgType::Object { .. } | ArgType::Handle { .. } => {
-            false
-        }
+        ArgType::Null
+        | ArgType::Plain(_)
+        | ArgType::Enumeration { .. }
+        | ArgType::Object { .. }
+        | ArgType::Handle { .. } => { false }
     }
 }
 

@@ -1,7 +1,10 @@
--- Bare names, and `this` (docs/LANGUAGE.md, "Expressions"; the AngelScript manual, "Variables" and "Script classes").
-use Rattle.std.specs.Prelude.{ℕ, Bool, true, ◌||◌, List, option_map, option_and_then, Option, Some, None, Ok, Err, slice_get}
+-- Bare names, values of enumerations, and `this` (docs/LANGUAGE.md, "Expressions"; the AngelScript manual, "Variables", "Enums" and "Script
+-- classes").
+use Rattle.std.specs.Prelude.{ℕ, Bool, true, ◌||◌, List, option_map, option_and_then, Option, Some, None, Ok, Err, slice_get, ℤ}
+use Rattle.std.specs.Int.{w64, cast_unsigned}
 use Rattle.ang_kinds.specs.declared.error.ErrorKind.TheVariants as kind
 use Rattle.ang_kinds.specs.declared.place.Place.{Place}
+use Rattle.ang_kinds.specs.declared.primitive.Primitive.TheVariants as p
 use Rattle.ang_lex.specs.declared.token.Token.{Token}
 use Rattle.ang_types.specs.declared.arg_type.ArgType.{ArgType}
 use Rattle.ang_types.specs.declared.arg_type.ArgType.TheVariants as type
@@ -12,6 +15,7 @@ use Rattle.ang_typed.specs.Typed as t
 use Rattle.ang_names_known.specs.declared.names.FoundField.{FoundField}
 use Rattle.ang_check_context.specs.declared.scope.LocalVariable.{LocalVariable}
 use Rattle.ang_check_context.specs.declared.scope.Within.{Within}
+use Rattle.ang_check_uses.specs.declared.uses.EnumerationValue.{EnumerationValue}
 use Rattle.ang_check_uses.specs.declared.uses.Resolution.{Resolution}
 use Rattle.ang_check_uses.specs.declared.uses.Resolution.TheVariants as resolution
 use Rattle.ang_names_known.specs.Lookup.{is_read_only, field_named}
@@ -20,7 +24,7 @@ use Rattle.ang_check_operand.specs.Operands.{Operand, operand, reading}
 use Rattle.ang_check_operand.specs.Refusals.{Typing, refused, use_refused}
 use Rattle.ang_check_context.specs.Access.{if_reached}
 use Rattle.ang_check_context.specs.Scope.{BodyContext, scope_of, last_named, is_there}
-use Rattle.ang_check_uses.specs.Uses.{resolution_of, why}
+use Rattle.ang_check_uses.specs.Uses.{resolution_of, value_of, why}
 use Rattle.ang_names_written.specs.Sources.{text_of}
 
 -- ---- `this`
@@ -40,6 +44,29 @@ this_in x (Some w) = Ok (this_operand x.place w)
 unfoldable pub this_typing : BodyContext → Token → Typing Operand
 this_typing s x = this_in x s.within
 
+-- ---- values of enumerations
+
+-- The 64 bits in which an `int` is kept: two's complement.
+abbrev pub int_bits : ℤ → ℕ
+int_bits z = cast_unsigned w64 z
+
+-- a value of an enumeration, which is a number
+abbrev pub value_operand : Place → EnumerationValue → Operand
+value_operand place v = operand place (type.Enumeration v.enumeration) (t.number p.I32 (int_bits v.number))
+
+abbrev pub value_or_unknown : Token → Token → Option EnumerationValue → Typing Operand
+value_or_unknown e x None = Err (refused kind.UnknownName x)
+value_or_unknown e x (Some v) = Ok (value_operand e.place v)
+
+abbrev pub scoped_name_use : BodyContext → Token → Token → Bool → Resolution → Typing Operand
+scoped_name_use s e x there (resolution.Enumeration n) = value_or_unknown e x (value_of s.view n (text_of s.text x))
+scoped_name_use s e x there r = Err (use_refused (why r) e asks.Enumeration there)
+
+-- `E::V`: a value by the names of its enumeration and of itself. A local or member of the enumeration's name plays no part.
+unfoldable pub scoped_name_typing : BodyContext → List LocalVariable → Token → Token → Typing Operand
+scoped_name_typing s ps e x =
+    let name = text_of s.text e in scoped_name_use s e x (is_there s ps name) (resolution_of (scope_of s) name asks.Enumeration)
+
 -- ---- a bare name
 
 abbrev pub variable_at : Token → Variable → ArgType → Bool → Operand
@@ -47,6 +74,7 @@ variable_at x v ty read_only = reading x.place (t.named v) ty (record { read_onl
 
 abbrev pub value_use : BodyContext → Token → Bool → Resolution → Typing Operand
 value_use s x there (resolution.Variable v ty read_only) = Ok (variable_at x v ty read_only)
+value_use s x there (resolution.Value v) = Ok (value_operand x.place v)
 value_use s x there r = Err (use_refused (why r) x asks.Value there)
 
 -- the field of this name that `this` has, with the body's class
@@ -70,7 +98,8 @@ abbrev pub local_or : Option Operand → Typing Operand → Typing Operand
 local_or None otherwise = otherwise
 local_or (Some a) otherwise = Ok a
 
--- A bare name: the innermost local or parameter, else a field of the class, else a global. A method of the name is none of these.
+-- A bare name: the innermost local or parameter, else a field of the class, else a global or a value of an enumeration. A method of the name is
+-- none of these.
 unfoldable pub name_typing : BodyContext → List LocalVariable → Token → Typing Operand
 name_typing s ps x =
     let name = text_of s.text x in

@@ -1,5 +1,5 @@
 //! What the expressions of a body stand in, and what is typed of them without a look at another
-//! expression: names, fields and properties, and casts (docs/LANGUAGE.md, "Expressions").
+//! expression: names, values of enumerations, fields and properties, and casts (docs/LANGUAGE.md, "Expressions").
 #![tactic(auto)]
 
 mod casts;
@@ -9,6 +9,7 @@ mod names;
 mod operands;
 mod receiver;
 mod scope;
+mod values;
 
 pub use casts::{cast, cast_type};
 pub use context::{
@@ -19,3 +20,4 @@ pub use names::named;
 pub use operands::types_of;
 pub use receiver::{Receiver, own_type, receiver_within, this, this_operand};
 pub use scope::{LocalVariable, Locals, Within};
+pub use values::scoped_name;

@@ -59,7 +59,11 @@ fn property_use(
             Ok(member_at(alloc, object, name, member, host.ty, read_only)?)
         }
         Resolution::Refused(kind) => Err(use_refused(kind, name, Asks::Property(on.number), false)),
-        Resolution::Variable(..) | Resolution::Call(_) | Resolution::Type(_) => Err(use_refused(
+        Resolution::Variable(..)
+        | Resolution::Call(_)
+        | Resolution::Type(_)
+        | Resolution::Enumeration(_)
+        | Resolution::Value(_) => Err(use_refused(
             ErrorKind::UnknownName,
             name,
             Asks::Property(on.number),

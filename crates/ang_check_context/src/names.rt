@@ -8,6 +8,7 @@ ghost use Rattle.ang_names_written.specs.Sources as sources;
 
 use crate::context::{BodyContext, access_error, is_there, may_reach, resolved};
 use crate::scope::{Locals, Within};
+use crate::values::value_operand;
 use ang_check_operand::{Operand, Stop, Target, reading, refused, use_refused};
 use ang_check_uses::Resolution;
 use ang_kinds::ErrorKind;
@@ -64,8 +65,12 @@ fn value_use(
         Resolution::Variable(variable, ty, read_only) => {
             Ok(variable_at(alloc, name, variable, ty, read_only)?)
         }
+        Resolution::Value(value) => Ok(value_operand(alloc, name.place, value)?),
         Resolution::Refused(kind) => Err(value_refused(context, locals, kind, name)),
-        Resolution::Property(_) | Resolution::Call(_) | Resolution::Type(_) => {
+        Resolution::Property(_)
+        | Resolution::Call(_)
+        | Resolution::Type(_)
+        | Resolution::Enumeration(_) => {
             Err(value_refused(context, locals, ErrorKind::UnknownName, name))
         }
     }
@@ -143,7 +148,7 @@ fn local_named(
 }
 
 /// A bare name that is not called: the innermost local or parameter, else a field of the class,
-/// else a global.
+/// else a global or a value of an enumeration.
 ///
 /// # Errors
 ///

@@ -18,8 +18,9 @@ use Rattle.ang_view.specs.declared.entry.Entry.{Entry}
 use Rattle.ang_view.specs.declared.entry.EntryKind.{EntryKind}
 use Rattle.ang_view.specs.declared.entry.EntryKind.TheVariants as entry
 use Rattle.ang_view.specs.Hidden.{hidden_entry, is_hidden, numbers_of, seen_with}
-use Rattle.ang_view.specs.Registration.{RegistrationList, entry_at, is_function, is_function_named, is_number, is_type, seen}
-use Rattle.ang_view.specs.Types.{is_type_named}
+use Rattle.ang_view.specs.Named.{is_value, is_value_named, values_named}
+use Rattle.ang_view.specs.Registration.{RegistrationList, entry_at, is_function, is_function_named, is_host_type, is_number, is_type, seen}
+use Rattle.ang_view.specs.Types.{is_enumeration, is_enumeration_named, is_type_named}
 use Rattle.ang_view.proofs.Lists.{and_gives}
 use Rattle.ang_names_host.specs.declared.host.HostProperty.{HostProperty}
 use Rattle.ang_names_host.specs.declared.host.Wanted.TheVariants as wanted
@@ -27,12 +28,13 @@ use Rattle.ang_names_host.specs.declared.host.WantedProperty.{WantedProperty}
 use Rattle.ang_names_host.specs.declared.host.WantedProperty.TheVariants as property
 use Rattle.ang_names_known.specs.declared.space.Named.{Named}
 use Rattle.ang_names_host.specs.Added.{added_property}
+use Rattle.ang_names_known.specs.Items.{is_empty}
 use Rattle.ang_names_host.specs.Host.{first_found, found, function_of_entry, host_type, is_factory, is_global, is_method, is_property, is_wanted, is_wanted_property, property_found, property_where, property_with}
 use Rattle.ang_names_host.proofs.Adding.{past_end, same_number}
-use Rattle.ang_check_uses.specs.Uses.{Scope, candidates_of, host_methods, resolution_of}
-use Rattle.ang_check_denials.specs.Added.{adds, call_wins, factories, has_global, is_called_by, is_factory_of, is_number_of, is_property_of, is_type_number, named_with, plain, wins, with_receiver}
+use Rattle.ang_check_uses.specs.Uses.{Scope, candidates_of, host_methods, resolution_of, value_in}
+use Rattle.ang_check_denials.specs.Added.{adds, call_wins, factories, has_global, is_called_by, is_enumeration_number, is_factory_of, is_number_of, is_property_of, is_type_number, is_value_at, named_with, plain, value_wins, wins, with_receiver}
 use Rattle.ang_check_denials.specs.Denials.{helps, means_entry, stays}
-use Rattle.ang_check_denials.specs.Names.{PutsHidden, help_row, hidden_named, is_hidden_named, name_meant, name_sought, own_name, owner_name}
+use Rattle.ang_check_denials.specs.Names.{PutsHidden, help_row, hidden_named, is_a_type_named, is_hidden_named, name_meant, name_sought, own_name, owner_name}
 use Rattle.ang_check_denials.proofs.Helping.{entry_at-hidden, helps_is, hidden_unseen, seen_helps_not}
 use Rattle.ang_check_denials.proofs.Kept.{one_more}
 use Rattle.ang_check_denials.proofs.Meaning.{wins_wanted}
@@ -46,6 +48,8 @@ no_factory p f entry.Method e = refl
 no_factory p f entry.Property e = refl
 no_factory p f entry.Function e = refl
 no_factory p f entry.Global e = refl
+no_factory p f entry.Enumeration e = refl
+no_factory p f (entry.EnumValue v) e = refl
 
 -- what is no factory is meant by its own name
 own_meant : (p : EntryKind → Bool) → p entry.Factory ≡ false → (R : RegistrationList) (y : Entry) (name : List ℕ)
@@ -61,14 +65,24 @@ function_name R name None e = cc
 function_name R name (Some y) e =
     let both = and_gives (is_function y.kind) (bytes_eq y.signature.name name) e in own_meant is_function refl R y name both.0 both.1
 
-type_name : (R : RegistrationList) (name : List ℕ) (o : Option Entry) → is_type_named name o ≡ true → name_meant R o ≡ name
+type_name : (R : RegistrationList) (name : List ℕ) (o : Option Entry) → is_a_type_named name o ≡ true → name_meant R o ≡ name
 type_name R name None e = cc
 type_name R name (Some y) e =
     let both = and_gives (is_type y.kind) (bytes_eq y.signature.name name) e in own_meant is_type refl R y name both.0 both.1
 
+enumeration_name : (R : RegistrationList) (name : List ℕ) (o : Option Entry) → is_enumeration_named name o ≡ true → name_meant R o ≡ name
+enumeration_name R name None e = cc
+enumeration_name R name (Some y) e =
+    let both = and_gives (is_enumeration y.kind) (bytes_eq y.signature.name name) e in own_meant is_enumeration refl R y name both.0 both.1
+
+value_name : (R : RegistrationList) (name : List ℕ) (o : Option Entry) → is_value_named name o ≡ true → name_meant R o ≡ name
+value_name R name None e = cc
+value_name R name (Some y) e =
+    let both = and_gives (is_value y.kind) (bytes_eq y.signature.name name) e in own_meant is_value refl R y name both.0 both.1
+
 type_own_name : (name : List ℕ) (o : Option Entry) → is_type_named name o ≡ true → own_name o ≡ name
 type_own_name name None e = cc
-type_own_name name (Some t) e = (bytes_eq-Decides t.signature.name name).0 (and_gives (is_type t.kind) (bytes_eq t.signature.name name) e).1
+type_own_name name (Some t) e = (bytes_eq-Decides t.signature.name name).0 (and_gives (is_host_type t.kind) (bytes_eq t.signature.name name) e).1
 
 owner_of_name : (R : RegistrationList) (name : List ℕ) (o : Option EntityNo) → is_type_number R name o ≡ true → owner_name R o ≡ name
 owner_of_name R name None e = cc
@@ -79,11 +93,12 @@ factory_name R name None e = cc
 factory_name R name (Some y) e =
     let both = and_gives (is_factory y.kind) (is_type_number R name y.owner) e in factory_meant R y both.0 ∙ owner_of_name R name y.owner both.1
 
-called_name : (R : RegistrationList) (name : List ℕ) (o : Option Entry) (b c : Bool) → is_function_named name o ≡ b → is_factory_of R name o ≡ c → (b || c) ≡ true
-    → name_meant R o ≡ name
-called_name R name o true c f g e = function_name R name o f
-called_name R name o false true f g e = factory_name R name o g
-called_name R name o false false f g e = cc
+called_name : (R : RegistrationList) (name : List ℕ) (o : Option Entry) (b c d : Bool) → is_function_named name o ≡ b → is_enumeration_named name o ≡ c
+    → is_factory_of R name o ≡ d → (b || (c || d)) ≡ true → name_meant R o ≡ name
+called_name R name o true c d f g h e = function_name R name o f
+called_name R name o false true d f g h e = enumeration_name R name o g
+called_name R name o false false true f g h e = factory_name R name o h
+called_name R name o false false false f g h e = cc
 
 owner_number : (R : RegistrationList) (n : ℕ) (o : Option EntityNo) → is_number n o ≡ true → owner_name R o ≡ own_name (entry_at R n)
 owner_number R n None e = cc
@@ -122,6 +137,15 @@ global_name R name x (Some y) e =
     let both = some_wanted (is_wanted_property (property.Global name) y) (property_with x y (host_type R y.signature.result)) e in
     let parts = and_gives (is_global y.kind) (bytes_eq y.signature.name name) both in
     own_meant is_global refl R y name parts.0 parts.1
+
+-- of a bare name that means an entry, which is a property or a value, the property that is seen is none
+bare_name : (R : RegistrationList) (s : Scope) (name : List ℕ) (x : ℕ) (own seen : Option HostProperty) → own ≡ property_found (property.Global name) R x (entry_at R x)
+    → is_property_of x seen ≡ false → value_wins R s name x (added_property own seen) ≡ true → name_meant R (entry_at R x) ≡ name
+bare_name R s name x (Some p) seen is f e = global_name R name x (entry_at R x) (ap is_some (sym is))
+bare_name R s name x None (Some h) is f e = let no' : false ≡ true = sym f ∙ e in cc
+bare_name R s name x None None is f e =
+    let both = and_gives (is_value_at name x (entry_at R x)) (is_empty (values_named s.view name)) e in
+    value_name R name (entry_at R x) (and_gives (is_value_named name (entry_at R x)) (is_some (value_in x (entry_at R x))) both.0).0
 
 member_name : (R : RegistrationList) (name : List ℕ) (x n : ℕ) (o : Option Entry) → is_some (property_found (property.Member n name) R x o) ≡ true → name_meant R o ≡ name
 member_name R name x n None e = cc
@@ -166,12 +190,13 @@ adds_name : (R : RegistrationList) (m : ℕ) (s : Scope) (name : List ℕ) (x : 
 adds_name R m s name x t asks.Value view unseen e =
     let won = (and_gives (not (has_global s.names.globals name)) _ e).1 in
     let apart = ap (λ V. is_property_of x (property_where (property.Global name) V)) view ∙ property_apart (property.Global name) (seen R m) x unseen in
-    global_name R name x (entry_at R x)
-    (own_wins x (property_found (property.Global name) R x (entry_at R x)) (property_where (property.Global name) s.view) apart won)
+    bare_name R s name x (property_found (property.Global name) R x (entry_at R x)) (property_where (property.Global name) s.view) refl apart won
 adds_name R m s name x t asks.Type view unseen e =
-    type_name R name (entry_at R x) (and_gives (is_type_named name (entry_at R x)) (is_number_of x t) e).0
+    type_name R name (entry_at R x) (and_gives (is_a_type_named name (entry_at R x)) (is_number_of x t) e).0
+adds_name R m s name x t asks.Enumeration view unseen e =
+    enumeration_name R name (entry_at R x) (and_gives (is_enumeration_named name (entry_at R x)) (is_enumeration_number x t) e).0
 adds_name R m s name x t (asks.Call args) view unseen e =
-    called_name R name (entry_at R x) (is_function_named name (entry_at R x)) (is_factory_of R name (entry_at R x)) refl refl
+    called_name R name (entry_at R x) (is_function_named name (entry_at R x)) (is_enumeration_named name (entry_at R x)) (is_factory_of R name (entry_at R x)) refl refl refl
     (and_gives (is_called_by R name x) (call_wins R s name args x t) e).0
 adds_name R m s name x t (asks.Make n args) view unseen e = made_name s.ancestors (factories s.view n) args R x n (entry_at R x) e
 adds_name R m s name x t (asks.Default n) view unseen e = made_name s.ancestors (factories s.view n) [] R x n (entry_at R x) e

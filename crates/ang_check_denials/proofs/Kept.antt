@@ -1,5 +1,5 @@
 -- Numbers of a list that are kept, and entries that come with one of those.
-use Rattle.std.specs.Prelude.{ℕ, ◌≡◌, ◌+◌, Bool, true, false, cond, ◌&&◌, ◌||◌, if◌then◌else◌, List, [], ◌∷◌, ◌++◌, filter}
+use Rattle.std.specs.Prelude.{ℕ, ◌≡◌, ◌+◌, Bool, true, false, cond, ◌&&◌, ◌||◌, if◌then◌else◌, List, [], ◌∷◌, ◌++◌, filter, find, Option, Some}
 use Rattle.std.specs.List.{list_any, range_with_len}
 use Rattle.std.proofs.Common.{arith, refl, sym, ap, ◌∙◌}
 use Rattle.std.proofs.lemmas.List.{map-id}
@@ -31,6 +31,20 @@ one_more p false n row rest h e = left_out (p n) n (filter p row) rest h e
 pub kept_of_part : (p q : ℕ → Bool) → ((k : ℕ) → p k ≡ true → q k ≡ true) → (ks : List ℕ) → filter p (filter q ks) ≡ filter p ks
 kept_of_part p q h [] = refl
 kept_of_part p q h (k ∷ ks) = one_more p (q k) k (filter q ks) (filter p ks) (h k) (kept_of_part p q h ks)
+
+-- Nor is the first one another.
+found_more : (p : ℕ → Bool) (b : Bool) (n : ℕ) (row : List ℕ) (rest : Option ℕ) → (p n ≡ true → b ≡ true) → find p row ≡ rest
+    → find p (if b then n ∷ row else row) ≡ cond (p n) (Some n) rest
+found_more p true n row rest h e = ap (cond (p n) (Some n)) e
+found_more p false n row rest h e = none_of_it (p n) h
+  where
+    none_of_it : (q : Bool) → (q ≡ true → false ≡ true) → find p row ≡ cond q (Some n) rest
+    none_of_it true g = let no' : false ≡ true = g refl in cc
+    none_of_it false g = e
+
+pub found_of_part : (p q : ℕ → Bool) → ((k : ℕ) → p k ≡ true → q k ≡ true) → (ks : List ℕ) → find p (filter q ks) ≡ find p ks
+found_of_part p q h [] = refl
+found_of_part p q h (k ∷ ks) = found_more p (q k) k (filter q ks) (find p ks) (h k) (found_of_part p q h ks)
 
 any_with : (b : Bool) (q : ℕ → Bool) (n : ℕ) (ks : List ℕ) (rest : Bool) → list_any q ks ≡ rest → list_any q (cond b (n ∷ ks) ks) ≡ ((b && q n) || rest)
 any_with true q n ks rest e = ap (λ r. q n || r) e

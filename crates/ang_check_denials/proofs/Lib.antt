@@ -6,3 +6,4 @@ pub mod Meaning
 pub mod Merging
 pub mod Places
 pub mod Types
+pub mod Values

@@ -1,5 +1,5 @@
 -- What a use means where a hidden entry is added is what is told from the entry and from what is seen alone.
-use Rattle.std.specs.Prelude.{ℕ, ◌≡◌, ◌<◌, ◌-◌, Bool, true, false, cond, nat_lt, not, ◌&&◌, ◌||◌, List, [], ◌∷◌, ◌++◌, map, slice_get, is_some, option_to_list, Option, Some, None}
+use Rattle.std.specs.Prelude.{ℕ, ◌≡◌, ◌<◌, ◌-◌, ◌==◌, Bool, true, false, cond, nat_lt, not, ◌&&◌, ◌||◌, List, [], ◌∷◌, ◌++◌, map, slice_get, is_some, option_to_list, Option, Some, None}
 use Rattle.std.specs.List.{flat_map}
 use Rattle.std.proofs.Common.{arith, refl, sym, ap, subst, ◌∙◌}
 use Rattle.ang_kinds.specs.declared.error.ErrorKind.{ErrorKind}
@@ -17,7 +17,8 @@ use Rattle.ang_types.specs.Ranks.{Ancestors}
 use Rattle.ang_view.specs.declared.entry.Entry.{Entry}
 use Rattle.ang_view.specs.Hidden.{seen_with}
 use Rattle.ang_view.specs.Registration.{RegistrationList, entry_at, is_function_named, is_number, seen}
-use Rattle.ang_view.specs.Types.{is_type_named}
+use Rattle.ang_view.specs.Named.{values_named}
+use Rattle.ang_view.specs.Types.{is_enumeration_named, is_type_named}
 use Rattle.ang_names_host.specs.declared.host.HostFunction.{HostFunction}
 use Rattle.ang_names_host.specs.declared.host.HostProperty.{HostProperty}
 use Rattle.ang_names_host.specs.declared.host.Wanted.TheVariants as wanted
@@ -31,17 +32,22 @@ use Rattle.ang_names_known.specs.declared.names.ScriptFunction.{ScriptFunction}
 use Rattle.ang_names_known.specs.declared.names.ScriptGlobal.{ScriptGlobal}
 use Rattle.ang_names_known.specs.declared.space.Named.{Named}
 use Rattle.ang_names_known.specs.declared.space.Named.TheVariants as named
-use Rattle.ang_names_host.specs.Host.{found, function_of_entry, host_where, is_factory, is_wanted, property_where}
+use Rattle.ang_names_host.specs.Added.{added_property}
+use Rattle.ang_names_host.specs.Host.{found, function_of_entry, host_where, is_factory, is_wanted, property_found, property_where}
 use Rattle.ang_names_known.specs.Items.{is_empty}
 use Rattle.ang_names_known.specs.Lookup.{default_of, functions_named, global_named}
 use Rattle.ang_names_known.specs.Spaces.{family_of_type}
 use Rattle.ang_names_host.proofs.AddingProperties.{one_property_added}
 use Rattle.ang_check_uses.specs.declared.uses.Callable.{Callable}
-use Rattle.ang_check_uses.specs.Uses.{Scope, best_function, best_method, best_of_those, called_by, called_name, callable_at, callable_in, candidates_of, constructor_of, default_maker, factories_of, functions_of, global_meant, global_or_host, host_callable, host_meant, host_method, host_methods, imported_function, maker, makers_for, makers_in, makers_of, own_function, picked, property_meant, resolution_of, script_callables, type_meant, unmatched, variable_meant}
-use Rattle.ang_check_denials.specs.Added.{adds, call_wins, factories, factory_wins, found_in, has_global, has_place, is_called_by, is_factory_of, is_number_of, is_property_of, is_type_number, named_with, plain, property_wins, wins, with_receiver}
+use Rattle.ang_check_uses.specs.declared.uses.Resolution.{Resolution}
+use Rattle.ang_check_uses.specs.declared.uses.Resolution.TheVariants as resolution
+use Rattle.ang_check_uses.specs.Uses.{Scope, best_function, best_method, best_of_those, called_by, called_name, callable_at, callable_in, candidates_of, constructor_of, default_maker, enumeration_meant, factories_of, functions_of, global_meant, global_or_host, host_callable, host_meant, host_method, host_methods, imported_function, maker, makers_for, makers_in, makers_of, own_function, picked, property_meant, resolution_of, script_callables, takes_number, type_meant, unmatched, value_meant, variable_meant}
+use Rattle.ang_check_denials.specs.Added.{adds, call_wins, factories, factory_wins, found_in, has_global, has_place, is_called_by, is_enumeration_number, is_factory_of, is_number_of, is_property_of, is_type_number, is_value_at, named_with, plain, property_wins, value_wins, wins, with_receiver}
 use Rattle.ang_check_denials.specs.Denials.{is_called, means_entry}
+use Rattle.ang_check_denials.specs.Names.{is_a_type_named}
 use Rattle.ang_check_denials.proofs.Places.{Apart, apart_append, candidates_map, means_added, none_meant}
-use Rattle.ang_check_denials.proofs.Types.{named_type}
+use Rattle.ang_check_denials.proofs.Types.{enumeration_has_kind, named_enumeration, named_type, type_has_kind}
+use Rattle.ang_check_denials.proofs.Values.{value_added}
 
 -- ---- a test that another one follows from
 
@@ -60,33 +66,65 @@ second_of_two false c e = cc
 
 -- ---- values and properties
 
-meant_property : (x : ℕ) (h : Option HostProperty) → means_entry x (host_meant h) ≡ is_property_of x h
-meant_property x None = refl
-meant_property x (Some h) = refl
-
 meant_member : (x : ℕ) (h : Option HostProperty) → means_entry x (property_meant h) ≡ is_property_of x h
 meant_member x None = refl
 meant_member x (Some h) = refl
 
-meant_variable : (x n : ℕ) (g : Option ScriptGlobal) (h : Option HostProperty)
-    → means_entry x (variable_meant n g h) ≡ (not (is_some g) && is_property_of x h)
-meant_variable x n None h = meant_property x h
-meant_variable x n (Some g) h = refl
+module _ (R : RegistrationList) (s : Scope) (name : List ℕ) (x : ℕ) (otherwise : Resolution) (meant : means_entry x otherwise ≡ value_wins R s name x None) where
+  meant_property : (h : Option HostProperty) → means_entry x (host_meant otherwise h) ≡ value_wins R s name x h
+  meant_property None = meant
+  meant_property (Some h) = refl
 
-meant_value : (x : ℕ) (gs : List ScriptGlobal) (o : Option ℕ) (h : Option HostProperty)
-    → means_entry x (global_or_host gs o h) ≡ (not (has_place gs o) && is_property_of x h)
-meant_value x gs None h = meant_property x h
-meant_value x gs (Some n) h = meant_variable x n (slice_get gs n) h
+  meant_variable : (n : ℕ) (g : Option ScriptGlobal) (h : Option HostProperty)
+      → means_entry x (variable_meant otherwise n g h) ≡ (not (is_some g) && value_wins R s name x h)
+  meant_variable n None h = meant_property h
+  meant_variable n (Some g) h = refl
+
+  meant_value : (gs : List ScriptGlobal) (o : Option ℕ) (h : Option HostProperty)
+      → means_entry x (global_or_host otherwise gs o h) ≡ (not (has_place gs o) && value_wins R s name x h)
+  meant_value gs None h = meant_property h
+  meant_value gs (Some n) h = meant_variable n (slice_get gs n) h
 
 -- ---- types
 
 meant_type : (x : ℕ) (n : Named) → means_entry x (type_meant n) ≡ is_number_of x n
 meant_type x named.Unknown = refl
 meant_type x (named.Object n) = refl
+meant_type x (named.Enumeration n) = refl
 
-is_the_number : (x : ℕ) (n : Named) → is_number_of x n ≡ true → n ≡ named.Object x
-is_the_number x named.Unknown e = cc
-is_the_number x (named.Object n) e = let same : n ≡ x = search (arith, e) in ap named.Object same
+meant_enumeration : (x : ℕ) (n : Named) → means_entry x (enumeration_meant n) ≡ is_enumeration_number x n
+meant_enumeration x named.Unknown = refl
+meant_enumeration x (named.Object n) = refl
+meant_enumeration x (named.Enumeration n) = refl
+
+same_as : (x n : ℕ) → (n == x) ≡ true → n ≡ x
+same_as x n e = search (arith, e)
+
+module _ (R : RegistrationList) (m : ℕ) (s : Scope) (name : List ℕ) (x : ℕ) where
+  of_the_name : (t : Named) → named_with R m s x name ≡ t → x < 1024 → is_number_of x t ≡ true → is_a_type_named name (entry_at R x) ≡ true
+  of_the_name named.Unknown e lt h = cc
+  of_the_name (named.Object n) e lt h =
+      type_has_kind name (entry_at R x) (named_type R m s x name x (e ∙ ap named.Object (same_as x n h)) lt)
+  of_the_name (named.Enumeration n) e lt h =
+      enumeration_has_kind name (entry_at R x) (named_enumeration R m s x name x (e ∙ ap named.Enumeration (same_as x n h)))
+
+  enumeration_of_the_name : (t : Named) → named_with R m s x name ≡ t → is_enumeration_number x t ≡ true → is_enumeration_named name (entry_at R x) ≡ true
+  enumeration_of_the_name named.Unknown e h = cc
+  enumeration_of_the_name (named.Object n) e h = cc
+  enumeration_of_the_name (named.Enumeration n) e h = named_enumeration R m s x name x (e ∙ ap named.Enumeration (same_as x n h))
+
+-- an enumeration that is called
+meant_number : (x n : ℕ) (takes : Bool) → (n == x && takes) ≡ means_entry x (cond takes (resolution.Enumeration n) (resolution.Refused kind.NoMatch))
+meant_number x n true = and_all (n == x)
+  where
+    and_all : (b : Bool) → (b && true) ≡ b
+    and_all true = refl
+    and_all false = refl
+meant_number x n false = and_none (n == x)
+  where
+    and_none : (b : Bool) → (b && false) ≡ false
+    and_none true = refl
+    and_none false = refl
 
 -- ---- what is called
 
@@ -195,14 +233,20 @@ module _ (R : RegistrationList) (m : ℕ) (s : Scope) (name : List ℕ) (x : ℕ
   by_family n e (Some c) f w = cc
   by_family n e None f w =
       let named_so = named_type R m s x name n e (host_number n (nat_lt n 1024) refl f) in
-      or_second (is_function_named name (entry_at R x)) (is_factory_of R name (entry_at R x))
-      (factory_wins_named s.ancestors (factories s.view n) args R name x n (entry_at R x) named_so w)
+      or_second (is_function_named name (entry_at R x)) (is_enumeration_named name (entry_at R x) || is_factory_of R name (entry_at R x))
+      (or_second (is_enumeration_named name (entry_at R x)) (is_factory_of R name (entry_at R x))
+      (factory_wins_named s.ancestors (factories s.view n) args R name x n (entry_at R x) named_so w))
 
   wins_called : (t : Named) → named_with R m s x name ≡ t → call_wins R s name args x t ≡ true → is_called_by R name x ≡ true
   wins_called named.Unknown e w =
-      or_first (is_function_named name (entry_at R x)) (is_factory_of R name (entry_at R x))
+      or_first (is_function_named name (entry_at R x)) (is_enumeration_named name (entry_at R x) || is_factory_of R name (entry_at R x))
       (function_wins_named s.ancestors (candidates_of (functions_of s name)) args R name x (entry_at R x) w)
   wins_called (named.Object n) e w = by_family n e (family_of_type n) refl w
+  wins_called (named.Enumeration n) e w =
+      let same = same_as x n (first_of_two (n == x) (takes_number args) w) in
+      or_second (is_function_named name (entry_at R x)) (is_enumeration_named name (entry_at R x) || is_factory_of R name (entry_at R x))
+      (or_first (is_enumeration_named name (entry_at R x)) (is_factory_of R name (entry_at R x))
+      (named_enumeration R m s x name x (e ∙ ap named.Enumeration same)))
 
 -- ---- calls over the larger view
 
@@ -238,6 +282,7 @@ module _ (R : RegistrationList) (m : ℕ) (s : Scope) (x : ℕ) (view : s.view �
   unfolding makers_of
   call_meant name named.Unknown = function_meant name ∙ sym (meant_function x s.ancestors (functions_of (with_added R m x s) name) args)
   call_meant name (named.Object n) = made_meant n (family_of_type n)
+  call_meant name (named.Enumeration n) = meant_number x n (takes_number args)
 
   property_added : (w : WantedProperty) → property_wins R x w (property_where w s.view) ≡ is_property_of x (property_where w (seen_with R m x))
   property_added w =
@@ -249,11 +294,19 @@ pub adds_means : (R : RegistrationList) (m : ℕ) (s : Scope) (name : List ℕ) 
     → adds R s name x (named_with R m s x name) a ≡ means_entry x (resolution_of (record s { view = seen_with R m x }) name a)
 unfolding global_meant called_name
 adds_means R m s name x asks.Value view lt unseen =
-    ap (λ h. not (has_global s.names.globals name) && h) (property_added R m s x view unseen [] (property.Global name))
-    ∙ sym (meant_value x s.names.globals (global_named s.names.globals name) (property_where (property.Global name) (seen_with R m x)))
+    let own = property_found (property.Global name) R x (entry_at R x) in
+    let meant : means_entry x (value_meant (seen_with R m x) name) ≡ value_wins R s name x None =
+    value_added R m x name unseen ∙ sym (ap (λ V. is_value_at name x (entry_at R x) && is_empty (values_named V name)) view) in
+    ap (λ V. not (has_global s.names.globals name) && value_wins R s name x (added_property own (property_where (property.Global name) V))) view
+    ∙ sym (ap (λ h. not (has_global s.names.globals name) && value_wins R s name x h) (one_property_added R m x (property.Global name) unseen))
+    ∙ sym (meant_value R s name x (value_meant (seen_with R m x) name) meant s.names.globals (global_named s.names.globals name)
+    (property_where (property.Global name) (seen_with R m x)))
 adds_means R m s name x asks.Type view lt unseen =
     let t = named_with R m s x name in
-    and_absorbed (is_type_named name (entry_at R x)) (is_number_of x t) (λ e. named_type R m s x name x (is_the_number x t e) lt) ∙ sym (meant_type x t)
+    and_absorbed (is_a_type_named name (entry_at R x)) (is_number_of x t) (of_the_name R m s name x t refl lt) ∙ sym (meant_type x t)
+adds_means R m s name x asks.Enumeration view lt unseen =
+    let t = named_with R m s x name in
+    and_absorbed (is_enumeration_named name (entry_at R x)) (is_enumeration_number x t) (enumeration_of_the_name R m s name x t refl) ∙ sym (meant_enumeration x t)
 adds_means R m s name x (asks.Call args) view lt unseen =
     let t = named_with R m s x name in
     and_absorbed (is_called_by R name x) (call_wins R s name args x t) (wins_called R m s name x args t refl) ∙ call_meant R m s x view unseen args name t

@@ -13,7 +13,8 @@ use Rattle.ang_types.specs.Ranks.{Ancestors}
 use Rattle.ang_view.specs.declared.entry.Entry.{Entry}
 use Rattle.ang_view.specs.Hidden.{is_with, seen_with}
 use Rattle.ang_view.specs.Registration.{RegistrationList, entry_at, is_function_named}
-use Rattle.ang_view.specs.Types.{is_type_named}
+use Rattle.ang_view.specs.Named.{is_value_named, values_named}
+use Rattle.ang_view.specs.Types.{is_enumeration_named, is_type_named}
 use Rattle.ang_names_host.specs.declared.host.HostFunction.{HostFunction}
 use Rattle.ang_names_host.specs.declared.host.HostProperty.{HostProperty}
 use Rattle.ang_names_host.specs.declared.host.Wanted.{Wanted}
@@ -28,8 +29,9 @@ use Rattle.ang_names_host.specs.Host.{found, host_where, is_factory, property_fo
 use Rattle.ang_names_known.specs.Items.{is_empty}
 use Rattle.ang_names_known.specs.Lookup.{global_named}
 use Rattle.ang_names_known.specs.Spaces.{family_of_type, space_of_names, type_of_name}
-use Rattle.ang_check_uses.specs.Uses.{Scope, candidates_of, functions_of, host_methods}
+use Rattle.ang_check_uses.specs.Uses.{Scope, candidates_of, functions_of, host_methods, takes_number, value_in}
 use Rattle.ang_check_denials.specs.Denials.{is_call}
+use Rattle.ang_check_denials.specs.Names.{is_a_type_named}
 
 -- ---- what is seen beside the entry that is added
 
@@ -47,6 +49,7 @@ factories V n = map plain (host_where (wanted.Factory n) V)
 abbrev pub candidates_for : Scope → List ℕ → Asks → List Candidate
 candidates_for s name asks.Value = []
 candidates_for s name asks.Type = []
+candidates_for s name asks.Enumeration = []
 candidates_for s name (asks.Call args) = candidates_of (functions_of s name)
 candidates_for s name (asks.Make n args) = factories s.view n
 candidates_for s name (asks.Default n) = factories s.view n
@@ -57,6 +60,7 @@ candidates_for s name (asks.Method n c args) = candidates_of (host_methods s.vie
 abbrev pub types_of : Asks → List ArgType
 types_of asks.Value = []
 types_of asks.Type = []
+types_of asks.Enumeration = []
 types_of (asks.Call args) = args
 types_of (asks.Make n args) = args
 types_of (asks.Default n) = []
@@ -67,6 +71,7 @@ types_of (asks.Method n c args) = type.Object n c ∷ args
 abbrev pub property_for : Scope → List ℕ → Asks → Option HostProperty
 property_for s name asks.Value = property_where (property.Global name) s.view
 property_for s name asks.Type = None
+property_for s name asks.Enumeration = None
 property_for s name (asks.Call args) = None
 property_for s name (asks.Make n args) = None
 property_for s name (asks.Default n) = None
@@ -82,6 +87,12 @@ is_joined s name a = is_call a && not (is_empty (functions_of s name))
 -- an entry is seen, or comes with entry x
 abbrev pub is_shown : RegistrationList → RegistrationList → ℕ → ℕ → Bool
 is_shown R V x k = is_some (entry_at V k) || is_with R x k
+
+abbrev pub is_shown_type : RegistrationList → RegistrationList → List ℕ → ℕ → ℕ → Bool
+is_shown_type R V name x k = is_type_named name (entry_at R k) && is_shown R V x k
+
+abbrev pub is_shown_enumeration : RegistrationList → RegistrationList → List ℕ → ℕ → ℕ → Bool
+is_shown_enumeration R V name x k = is_enumeration_named name (entry_at R k) && is_shown R V x k
 
 -- what a name means as a type where entry x is added
 abbrev pub named_with : RegistrationList → ℕ → Scope → ℕ → List ℕ → Named
@@ -105,6 +116,15 @@ is_property_of x (Some h) = h.entity.0 == x
 abbrev pub property_wins : RegistrationList → ℕ → WantedProperty → Option HostProperty → Bool
 property_wins R x w seen = is_property_of x (added_property (property_found w R x (entry_at R x)) seen)
 
+-- entry x is a value of the name, of some enumeration
+abbrev pub is_value_at : List ℕ → ℕ → Option Entry → Bool
+is_value_at name x o = is_value_named name o && is_some (value_in x o)
+
+-- what a bare name means that no global of the script has: this property, else entry x, where that is the only value of the name
+abbrev pub value_wins : RegistrationList → Scope → List ℕ → ℕ → Option HostProperty → Bool
+value_wins R s name x None = is_value_at name x (entry_at R x) && is_empty (values_named s.view name)
+value_wins R s name x (Some h) = h.entity.0 == x
+
 -- a function that is found would be the best beside some candidates
 abbrev pub wins : Ancestors → (HostFunction → Candidate) → List Candidate → List ArgType → Option HostFunction → Bool
 wins ancestors candidate cs args None = false
@@ -116,16 +136,24 @@ found_in R x w = found w R x (entry_at R x)
 abbrev pub is_number_of : ℕ → Named → Bool
 is_number_of x named.Unknown = false
 is_number_of x (named.Object n) = n == x
+is_number_of x (named.Enumeration n) = n == x
+
+abbrev pub is_enumeration_number : ℕ → Named → Bool
+is_enumeration_number x named.Unknown = false
+is_enumeration_number x (named.Object n) = false
+is_enumeration_number x (named.Enumeration n) = n == x
 
 abbrev pub factory_wins : RegistrationList → Scope → List ArgType → ℕ → ℕ → Option ℕ → Bool
 factory_wins R s args x n (Some c) = false
 factory_wins R s args x n None = wins s.ancestors plain (factories s.view n) args (found_in R x (wanted.Factory n))
 
--- a call of a name: entry x makes an object of the type of the name, or is the best function of it
+-- a call of a name: entry x makes an object of the type of the name, or is the enumeration of it where that takes the argument, or is
+-- the best function of it
 abbrev pub call_wins : RegistrationList → Scope → List ℕ → List ArgType → ℕ → Named → Bool
 call_wins R s name args x named.Unknown =
     wins s.ancestors plain (candidates_of (functions_of s name)) args (found_in R x (wanted.Function name))
 call_wins R s name args x (named.Object n) = factory_wins R s args x n (family_of_type n)
+call_wins R s name args x (named.Enumeration n) = n == x && takes_number args
 
 abbrev pub is_type_number : RegistrationList → List ℕ → Option EntityNo → Bool
 is_type_number R name None = false
@@ -135,15 +163,18 @@ abbrev pub is_factory_of : RegistrationList → List ℕ → Option Entry → Bo
 is_factory_of R name None = false
 is_factory_of R name (Some x) = is_factory x.kind && is_type_number R name x.owner
 
--- entry x is a function of the name, or a factory of a type of the name
+-- entry x is a function or an enumeration of the name, or a factory of a type of the name
 abbrev pub is_called_by : RegistrationList → List ℕ → ℕ → Bool
-is_called_by R name x = is_function_named name (entry_at R x) || is_factory_of R name (entry_at R x)
+is_called_by R name x =
+    is_function_named name (entry_at R x) || (is_enumeration_named name (entry_at R x) || is_factory_of R name (entry_at R x))
 
 -- The use would mean entry x, where its name means this as a type.
 abbrev pub adds : RegistrationList → Scope → List ℕ → ℕ → Named → Asks → Bool
 adds R s name x as_type asks.Value =
-    not (has_global s.names.globals name) && property_wins R x (property.Global name) (property_for s name asks.Value)
-adds R s name x as_type asks.Type = is_type_named name (entry_at R x) && is_number_of x as_type
+    not (has_global s.names.globals name)
+    && value_wins R s name x (added_property (property_found (property.Global name) R x (entry_at R x)) (property_for s name asks.Value))
+adds R s name x as_type asks.Type = is_a_type_named name (entry_at R x) && is_number_of x as_type
+adds R s name x as_type asks.Enumeration = is_enumeration_named name (entry_at R x) && is_enumeration_number x as_type
 adds R s name x as_type (asks.Call args) = is_called_by R name x && call_wins R s name args x as_type
 adds R s name x as_type (asks.Make n args) = wins s.ancestors plain (factories s.view n) args (found_in R x (wanted.Factory n))
 adds R s name x as_type (asks.Default n) = wins s.ancestors plain (factories s.view n) [] (found_in R x (wanted.Factory n))

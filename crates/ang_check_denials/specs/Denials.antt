@@ -39,14 +39,17 @@ means_entry x (resolution.Variable v ty read_only) = is_variable x v
 means_entry x (resolution.Property h) = h.entity.0 == x
 means_entry x (resolution.Call c) = is_called x c.called
 means_entry x (resolution.Type n) = n == x
+means_entry x (resolution.Enumeration n) = n == x
+means_entry x (resolution.Value v) = v.entity.0 == x
 means_entry x (resolution.Refused why) = false
 
 -- ---- names that stay the script's
 
--- the use of a bare name, a type's in a declaration that makes an object included
+-- the use of a bare name, a type's in a declaration that makes an object and an enumeration's in front of `::` included
 abbrev pub is_bare : Asks → Bool
 is_bare asks.Value = true
 is_bare asks.Type = true
+is_bare asks.Enumeration = true
 is_bare (asks.Call args) = true
 is_bare (asks.Make n args) = true
 is_bare (asks.Default n) = true
@@ -56,6 +59,7 @@ is_bare (asks.Method n c args) = false
 abbrev pub is_call : Asks → Bool
 is_call asks.Value = false
 is_call asks.Type = false
+is_call asks.Enumeration = false
 is_call (asks.Call args) = true
 is_call (asks.Make n args) = false
 is_call (asks.Default n) = false

@@ -7,7 +7,6 @@ use Rattle.ang_types.specs.declared.asks.Asks.TheVariants as asks
 use Rattle.ang_view.specs.declared.entry.Entry.{Entry}
 use Rattle.ang_view.specs.Hidden.{is_hidden, numbers_of}
 use Rattle.ang_view.specs.Registration.{RegistrationList, entry_at, is_type}
-use Rattle.ang_view.specs.Types.{is_type_named}
 use Rattle.ang_names_host.specs.Host.{is_factory}
 
 -- ---- names
@@ -29,6 +28,7 @@ name_meant R (Some x) = if is_factory x.kind then owner_name R x.owner else x.si
 abbrev pub name_sought : RegistrationList → List ℕ → Asks → List ℕ
 name_sought R name asks.Value = name
 name_sought R name asks.Type = name
+name_sought R name asks.Enumeration = name
 name_sought R name (asks.Call args) = name
 name_sought R name (asks.Make n args) = own_name (entry_at R n)
 name_sought R name (asks.Default n) = own_name (entry_at R n)
@@ -60,9 +60,14 @@ help_row R m name a = hidden_named R m (name_sought R name a)
 
 -- ---- types by name
 
--- the numbers of the types of a name, rising
+-- an object type or an enumeration of this name
+abbrev pub is_a_type_named : List ℕ → Option Entry → Bool
+is_a_type_named name None = false
+is_a_type_named name (Some t) = is_type t.kind && bytes_eq t.signature.name name
+
+-- the numbers of the object types and the enumerations of a name, rising
 unfoldable pub types_named : RegistrationList → List ℕ → List ℕ
-types_named R name = filter (λ k. is_type_named name (entry_at R k)) (numbers_of R)
+types_named R name = filter (λ k. is_a_type_named name (entry_at R k)) (numbers_of R)
 
 -- ---- what comes with an entry
 
@@ -75,6 +80,6 @@ pub record Picked (R : RegistrationList) (ns : List ℕ) : Type 0 where
   pub passes : ℕ → Bool
   pub are : ns ≡ filter passes (numbers_of R)
 
--- the numbers of the types of a list
+-- the numbers of the object types and the enumerations of a list
 abbrev pub type_numbers : RegistrationList → List ℕ
 type_numbers R = filter (λ y. is_type_entry (entry_at R y)) (numbers_of R)

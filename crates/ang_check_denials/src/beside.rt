@@ -27,13 +27,11 @@ pub struct Beside {
     pub property: Option<HostProperty>,
     /// Whether there are functions of the name, which a hidden one would join.
     pub joined: bool,
-    /// The types of the name in the whole list, seen or hidden, by their numbers.
+    /// The object types and the enumerations of the name in the whole list, seen or hidden, by their numbers.
     pub named: Vec<u32>,
 }
 
-/// The factories of the host type of this number that are seen, as candidates.
-///
-/// The only error is want of memory.
+/// The factories of the host type of this number that are seen, as candidates. The only error is want of memory.
 pub fn factories(alloc: Global, view: &View, number: u32) -> Result<Vec<Candidate>, AllocError>
     ensures exact { IfOk result (λ found. found.items ≡ spec.factories view.now number) }
 {
@@ -160,9 +158,7 @@ fn of_methods(
     of_candidates(alloc, scope, methods.candidates(), types, false, named)
 }
 
-/// What is kept, for a use of this name, of what a module sees.
-///
-/// The only error is want of memory.
+/// What is kept, for a use of this name, of what a module sees. The only error is want of memory.
 pub fn beside_of(
     alloc: Global,
     masked: &Masked<'_>,
@@ -185,7 +181,7 @@ pub fn beside_of(
             let wanted = WantedProperty::Global(Text::new(name));
             of_property(alloc, scope, property_where(scope.view(), &wanted), named)
         }
-        Asks::Type => of_property(alloc, scope, None, named),
+        Asks::Type | Asks::Enumeration => of_property(alloc, scope, None, named),
         Asks::Call(args) => of_functions(alloc, scope, name, args.as_slice(), named),
         Asks::Make(number, args) => of_factories(alloc, scope, *number, args.as_slice(), named),
         Asks::Default(number) => of_factories(alloc, scope, *number, &[], named),

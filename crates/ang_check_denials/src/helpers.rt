@@ -25,7 +25,12 @@ fn is_bare(asks: &Asks) -> bool
     ensures exact { result ≡ spec.is_bare asks.now }
 {
     match asks {
-        Asks::Value | Asks::Type | Asks::Call(_) | Asks::Make(_, _) | Asks::Default(_) => true,
+        Asks::Value
+        | Asks::Type
+        | Asks::Enumeration
+        | Asks::Call(_)
+        | Asks::Make(_, _)
+        | Asks::Default(_) => true,
         Asks::Property(_) | Asks::Method(_, _, _) => false,
     }
 }
@@ -195,7 +200,6 @@ fn helpers_among(
 }
 
 /// The numbers of the hidden entries that would resolve a refused use, rising. `rows` are those of `help_rows`.
-///
 /// The only error is want of memory.
 pub fn helpers(
     alloc: Global,

@@ -82,13 +82,13 @@ impl<'a> Masked<'a> {
         }
     }
 
-    /// Whether the entry of this number is a type.
+    /// Whether the entry of this number is an object type or an enumeration.
     pub fn has_type(&self, number: u32) -> bool
         ensures exact { result ≡ names.is_type_entry (entry_at self.now.list number) }
     {
         match self.whole.get(EntityNo(number)) {
             None => false,
-            Some(entry) => matches!(entry.kind, EntryKind::HostType),
+            Some(entry) => matches!(entry.kind, EntryKind::HostType | EntryKind::Enumeration),
         }
     }
 
@@ -103,7 +103,7 @@ impl<'a> Masked<'a> {
     }
 
     /// Whether an entry comes with another one that is added to what is seen: it is that entry, or a type that its
-    /// declaration names.
+    /// declaration names, and of a value its enumeration.
     pub fn comes_with(&self, added: u32, number: u32) -> bool
         ensures exact { result ≡ spec.is_with self.now.list added number }
     {

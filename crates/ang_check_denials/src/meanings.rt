@@ -3,10 +3,13 @@ ghost use Rattle.std.specs.Prelude.{◌≡◌, not, ◌&&◌, length, List, IfOk
 ghost use Rattle.ang_types.specs.declared.asks.Asks.TheVariants as asks_of;
 ghost use Rattle.ang_types.specs.declared.candidate.Candidate.{Candidate};
 ghost use Rattle.ang_types.specs.Rivals.{AreRivals};
-ghost use Rattle.ang_view.specs.Registration.{seen};
+ghost use Rattle.ang_view.specs.Named.{values_named};
+ghost use Rattle.ang_view.specs.Registration.{entry_at, seen};
 ghost use Rattle.ang_names_host.specs.declared.host.Wanted.TheVariants as sought;
 ghost use Rattle.ang_names_host.specs.declared.host.WantedProperty.TheVariants as sought_property;
 ghost use Rattle.ang_names_host.specs.Added.{added_property};
+ghost use Rattle.ang_names_host.specs.Host.{property_found};
+ghost use Rattle.ang_names_known.specs.Items.{is_empty};
 ghost use Rattle.ang_names_known.specs.Spaces as spaces;
 ghost use Rattle.ang_check_uses.specs.Uses.{candidates_of, functions_of};
 ghost use Rattle.ang_check_denials.specs.Added as spec;
@@ -14,12 +17,13 @@ ghost use Rattle.ang_check_denials.specs.Names.{types_named};
 
 use crate::beside::{Beside, factories};
 use crate::masked::Masked;
-use crate::named::{is_called_by, is_type_named, named_with};
-use ang_check_uses::{Scope, params_with_receiver};
+use crate::named::{is_a_type_named, is_called_by, is_enumeration_named, named_with};
+use ang_check_uses::{Scope, params_with_receiver, takes_number};
 use ang_kinds::EntityNo;
 use ang_names_host::{HostProperty, Wanted, WantedProperty, found_at, property_at};
 use ang_names_known::{Named, Names, Text, family_of_type};
 use ang_types::{ArgType, Asks, Lineage, Rivals};
+use ang_view::{EntryKind, View};
 use std::alloc::{AllocError, Global};
 
 /// Whether the script has a global of this name.
@@ -72,8 +76,47 @@ fn property_wins(
     is_property_of(first_property(found, seen), added)
 }
 
-/// Whether a bare name would mean the global property that is added.
+/// Whether the entry of this number is a value of this name, of some enumeration.
+fn is_value_at(whole: &View, number: u32, name: &[u8]) -> bool
+    ensures exact { result ≡ spec.is_value_at name.now number (entry_at whole.now number) }
+{
+    match whole.get(EntityNo(number)) {
+        None => false,
+        Some(entry) => {
+            matches!(entry.kind, EntryKind::EnumValue(_))
+                && entry.owner.is_some()
+                && entry.signature.name.as_slice() == name
+        }
+    }
+}
+
+/// Whether no enumeration that is seen has a value of this name.
+fn has_no_values(view: &View, name: &[u8]) -> bool
+    ensures exact { result ≡ is_empty (values_named view.now name.now) }
+{
+    view.values(name).is_empty()
+}
+
+/// Whether a bare name that is no global of the script would mean the entry that is added: this property is what the name
+/// means of the host, or else it is the only value of the name.
 fn value_wins(
+    masked: &Masked<'_>,
+    scope: &Scope<'_>,
+    name: &[u8],
+    added: u32,
+    property: Option<HostProperty>,
+) -> bool
+    ensures exact { result
+        ≡ spec.value_wins masked.now.list scope.now name.now added property }
+{
+    match property {
+        Some(property) => property.entity.0 == added,
+        None => { is_value_at(masked.whole(), added, name) && has_no_values(scope.view(), name) }
+    }
+}
+
+/// Whether a bare name would mean the global property or the value that is added.
+fn value_means(
     masked: &Masked<'_>,
     scope: &Scope<'_>,
     added: u32,
@@ -81,10 +124,14 @@ fn value_wins(
     seen: Option<HostProperty>,
 ) -> bool
     ensures exact { result ≡ (not (spec.has_global scope.now.names.globals name.now)
-        && spec.property_wins masked.now.list added (sought_property.Global name.now) seen) }
+        && spec.value_wins masked.now.list scope.now name.now added (added_property
+        (property_found (sought_property.Global name.now) masked.now.list added
+        (entry_at masked.now.list added)) seen)) }
 {
     let wanted = WantedProperty::Global(Text::new(name));
-    !has_global(scope.names(), name) && property_wins(masked, added, &wanted, seen)
+    let found = property_at(masked.whole(), &wanted, EntityNo(added));
+    !has_global(scope.names(), name)
+        && value_wins(masked, scope, name, added, first_property(found, seen))
 }
 
 /// Whether a type's name would mean the type that is added.
@@ -100,7 +147,7 @@ fn type_wins(
     ensures exact { result ≡ spec.adds masked.now.list scope.now name.now added
         (spec.named_with masked.now.list masked.now.mask scope.now added name.now) asks_of.Type }
 {
-    is_type_named(masked.whole(), added, name)
+    is_a_type_named(masked.whole(), added, name)
         && is_number_of(
             added,
             named_with(masked, scope, added, name, beside.named.as_slice()),
@@ -112,7 +159,37 @@ fn is_number_of(number: u32, named: Named) -> bool
 {
     match named {
         Named::Unknown => false,
-        Named::Object(own) => own == number,
+        Named::Object(own) | Named::Enumeration(own) => own == number,
+    }
+}
+
+/// Whether the name of an enumeration, in front of `::`, would mean the one that is added.
+fn enumeration_wins(
+    masked: &Masked<'_>,
+    scope: &Scope<'_>,
+    added: u32,
+    name: &[u8],
+    beside: &Beside,
+) -> bool
+    requires view { scope.now.view ≡ seen masked.now.list masked.now.mask }
+    requires named { beside.now.named.items ≡ types_named masked.now.list name.now }
+    ensures exact { result ≡ spec.adds masked.now.list scope.now name.now added
+        (spec.named_with masked.now.list masked.now.mask scope.now added name.now)
+        asks_of.Enumeration }
+{
+    is_enumeration_named(masked.whole(), added, name)
+        && is_enumeration_number(
+            added,
+            named_with(masked, scope, added, name, beside.named.as_slice()),
+        )
+}
+
+fn is_enumeration_number(number: u32, named: Named) -> bool
+    ensures exact { result ≡ spec.is_enumeration_number number named }
+{
+    match named {
+        Named::Unknown | Named::Object(_) => false,
+        Named::Enumeration(own) => own == number,
     }
 }
 
@@ -193,7 +270,7 @@ fn factory_wins(
     )
 }
 
-/// Whether a call of a name would mean the entry that is added, which is a function or a factory.
+/// Whether a call of a name would mean the entry that is added, which is a function, a factory or an enumeration.
 fn call_wins(
     alloc: Global,
     masked: &Masked<'_>,
@@ -213,6 +290,7 @@ fn call_wins(
     let types = beside.types.as_slice();
     match named_with(masked, scope, added, name, beside.named.as_slice()) {
         Named::Object(number) => factory_wins(alloc, masked, scope, added, number, types),
+        Named::Enumeration(number) => Ok(number == added && takes_number(types)),
         Named::Unknown => {
             let wanted = Wanted::Function(Text::new(name));
             let lineage = scope.lineage();
@@ -229,8 +307,8 @@ fn call_wins(
     }
 }
 
-/// Whether a call of a name would mean the entry that is added: most entries are neither functions of the name nor
-/// factories of a type of it.
+/// Whether a call of a name would mean the entry that is added: most entries are neither functions or enumerations of the
+/// name nor factories of a type of it.
 fn call_means(
     alloc: Global,
     masked: &Masked<'_>,
@@ -279,8 +357,9 @@ pub fn adds(
     let lineage = scope.lineage();
     let types = beside.types.as_slice();
     match asks {
-        Asks::Value => Ok(value_wins(masked, scope, added, name, beside.property)),
+        Asks::Value => Ok(value_means(masked, scope, added, name, beside.property)),
         Asks::Type => Ok(type_wins(masked, scope, added, name, beside)),
+        Asks::Enumeration => Ok(enumeration_wins(masked, scope, added, name, beside)),
         Asks::Call(_) => call_means(alloc, masked, scope, added, name, beside),
         Asks::Make(number, _) | Asks::Default(number) => {
             let wanted = Wanted::Factory(*number);

@@ -1,5 +1,5 @@
-//! Types by name, where a hidden entry is added to what a module sees.
-ghost use Rattle.std.specs.Prelude.{◌≡◌, ◌<◌, [], ◌∷◌, bytes_eq, filter, find, is_some, map as list_map, option_to_list, IfOk, IfSome, Some};
+//! Object types and enumerations by name, where a hidden entry is added to what a module sees.
+ghost use Rattle.std.specs.Prelude.{◌≡◌, ◌<◌, [], ◌∷◌, bytes_eq, filter, is_some, map as list_map, option_to_list, IfOk, IfSome, Some};
 ghost use Rattle.std.specs.List.{position};
 ghost use Rattle.ang_view.specs.Hidden.{seen_with};
 ghost use Rattle.ang_view.specs.Registration as registration;
@@ -16,14 +16,39 @@ use ang_names_known::{Named, family_or_host};
 use ang_view::{Entry, EntryKind, View};
 use std::alloc::{AllocError, Global};
 
-/// Whether the entry of this number is a type of this name.
-pub fn is_type_named(whole: &View, number: u32, name: &[u8]) -> bool
+/// Whether the entry of this number is an object type of this name.
+fn is_type_named(whole: &View, number: u32, name: &[u8]) -> bool
     ensures exact { result ≡ types.is_type_named name.now (entry_at whole.now number) }
 {
     match whole.get(EntityNo(number)) {
         None => false,
         Some(entry) => {
             matches!(entry.kind, EntryKind::HostType) && entry.signature.name.as_slice() == name
+        }
+    }
+}
+
+/// Whether the entry of this number is an enumeration of this name.
+pub fn is_enumeration_named(whole: &View, number: u32, name: &[u8]) -> bool
+    ensures exact { result ≡ types.is_enumeration_named name.now (entry_at whole.now number) }
+{
+    match whole.get(EntityNo(number)) {
+        None => false,
+        Some(entry) => {
+            matches!(entry.kind, EntryKind::Enumeration) && entry.signature.name.as_slice() == name
+        }
+    }
+}
+
+/// Whether the entry of this number is an object type or an enumeration of this name.
+pub fn is_a_type_named(whole: &View, number: u32, name: &[u8]) -> bool
+    ensures exact { result ≡ names.is_a_type_named name.now (entry_at whole.now number) }
+{
+    match whole.get(EntityNo(number)) {
+        None => false,
+        Some(entry) => {
+            matches!(entry.kind, EntryKind::HostType | EntryKind::Enumeration)
+                && entry.signature.name.as_slice() == name
         }
     }
 }
@@ -35,21 +60,19 @@ fn sees(view: &View, number: u32) -> bool
     view.get(EntityNo(number)).is_some()
 }
 
-/// The number of an entry, where it is a type of this name.
+/// The number of an entry, where it is an object type or an enumeration of this name.
 fn type_at(whole: &View, name: &[u8], number: EntityNo) -> Option<u32>
     ensures exact { option_to_list result ≡ filter
-        (λ k. types.is_type_named name.now (entry_at whole.now k)) (number.0 ∷ []) }
+        (λ k. names.is_a_type_named name.now (entry_at whole.now k)) (number.0 ∷ []) }
 {
-    if is_type_named(whole, number.0, name) {
+    if is_a_type_named(whole, number.0, name) {
         Some(number.0)
     } else {
         None
     }
 }
 
-/// The numbers of the types of this name, rising.
-///
-/// The only error is want of memory.
+/// The numbers of the object types and the enumerations of this name, rising. The only error is want of memory.
 pub fn types_named(alloc: Global, whole: &View, name: &[u8]) -> Result<Vec<u32>, AllocError>
     ensures exact { IfOk result (λ numbers. numbers.items ≡ names.types_named whole.now name.now) }
 {
@@ -68,20 +91,29 @@ fn is_shown(masked: &Masked<'_>, view: &View, added: u32, number: u32) -> bool
     sees(view, number) || masked.comes_with(added, number)
 }
 
-/// The first of these numbers whose entry is seen, or comes with the entry that is added.
-fn first_shown(masked: &Masked<'_>, view: &View, added: u32, numbers: &[u32]) -> Option<u32>
-    ensures exact { result ≡ find (spec.is_shown masked.now.list view.now added) numbers.now }
+/// Whether an entry is an object type of this name, and is seen or comes with the entry that is added.
+fn is_shown_type(masked: &Masked<'_>, view: &View, name: &[u8], added: u32, number: u32) -> bool
+    ensures exact { result ≡ spec.is_shown_type masked.now.list view.now name.now added number }
 {
-    for number in numbers {
-        if is_shown(masked, view, added, *number) {
-            return Some(*number);
-        }
-    }
-    None
+    is_type_named(masked.whole(), number, name) && is_shown(masked, view, added, number)
+}
+
+/// Whether an entry is an enumeration of this name, and is seen or comes with the entry that is added.
+fn is_shown_enumeration(
+    masked: &Masked<'_>,
+    view: &View,
+    name: &[u8],
+    added: u32,
+    number: u32,
+) -> bool
+    ensures exact { result
+        ≡ spec.is_shown_enumeration masked.now.list view.now name.now added number }
+{
+    is_enumeration_named(masked.whole(), number, name) && is_shown(masked, view, added, number)
 }
 
 /// The number of the host type of this name, where an entry is added to what is seen. `numbers` are those of all
-/// types of the name.
+/// object types and enumerations of the name.
 #[tactic(auto, using(crate::proofs::Types::first_type_is))]
 fn type_with(
     masked: &Masked<'_>,
@@ -95,7 +127,35 @@ fn type_with(
     ensures exact { result
         ≡ types.type_named (seen_with masked.now.list masked.now.mask added) name.now }
 {
-    first_shown(masked, view, added, numbers)
+    for number in numbers {
+        if is_shown_type(masked, view, name, added, *number) {
+            return Some(*number);
+        }
+    }
+    None
+}
+
+/// The number of the enumeration of this name, where an entry is added to what is seen. `numbers` are those of all
+/// object types and enumerations of the name.
+#[tactic(auto, using(crate::proofs::Types::first_enumeration_is))]
+fn enumeration_with(
+    masked: &Masked<'_>,
+    view: &View,
+    added: u32,
+    name: &[u8],
+    numbers: &[u32],
+) -> Option<u32>
+    requires view { view.now ≡ seen masked.now.list masked.now.mask }
+    requires numbers { numbers.now ≡ names.types_named masked.now.list name.now }
+    ensures exact { result
+        ≡ types.enumeration_named (seen_with masked.now.list masked.now.mask added) name.now }
+{
+    for number in numbers {
+        if is_shown_enumeration(masked, view, name, added, *number) {
+            return Some(*number);
+        }
+    }
+    None
 }
 
 /// The number of the script's family of this name.
@@ -107,8 +167,8 @@ fn family_named(scope: &Scope<'_>, name: &[u8]) -> Option<usize>
     scope.names().family_named(name)
 }
 
-/// What a name means as a type, where an entry is added to what a module sees. `numbers` are those of all types of the
-/// name, seen or hidden. It takes no memory.
+/// What a name means as a type, where an entry is added to what a module sees. `numbers` are those of all object types and
+/// enumerations of the name, seen or hidden. It takes no memory.
 #[tactic(auto, unfolding(ang_names_known::specs::Spaces::type_of_name))]
 pub fn named_with(
     masked: &Masked<'_>,
@@ -124,16 +184,21 @@ pub fn named_with(
 {
     let family = family_named(scope, name);
     let host = type_with(masked, scope.view(), added, name, numbers);
-    family_or_host(family, host)
+    let enumeration = enumeration_with(masked, scope.view(), added, name, numbers);
+    family_or_host(family, host, enumeration)
 }
 
-/// Whether an entry is a function of this name, or a factory of a type of this name.
+/// Whether an entry is a function or an enumeration of this name, or a factory of a type of this name.
 pub fn is_called_by(whole: &View, name: &[u8], number: u32) -> bool
     ensures exact { result ≡ spec.is_called_by whole.now name.now number }
 {
     match whole.get(EntityNo(number)) {
         None => false,
-        Some(entry) => is_function_named(entry, name) || is_factory_of(whole, name, entry),
+        Some(entry) => {
+            is_function_named(entry, name)
+                || is_enumeration_named(whole, number, name)
+                || is_factory_of(whole, name, entry)
+        }
     }
 }
 

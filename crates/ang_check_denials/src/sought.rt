@@ -67,9 +67,7 @@ fn push_hidden(
     Ok(())
 }
 
-/// The hidden entries by the names by which uses can mean them.
-///
-/// The only error is want of memory.
+/// The hidden entries by the names by which uses can mean them. The only error is want of memory.
 pub fn help_rows(alloc: Global, masked: &Masked<'_>) -> Result<Index<u32>, AllocError>
     ensures exact { IfOk result (λ rows. spec.HasHidden masked.now.list masked.now.mask rows) }
 {
@@ -80,9 +78,7 @@ pub fn help_rows(alloc: Global, masked: &Masked<'_>) -> Result<Index<u32>, Alloc
     Ok(rows)
 }
 
-/// The numbers of the types of the list, rising.
-///
-/// The only error is want of memory.
+/// The numbers of the object types and the enumerations of the list, rising. The only error is want of memory.
 pub fn type_numbers(alloc: Global, masked: &Masked<'_>) -> Result<Vec<u32>, AllocError>
     ensures exact { IfOk result (λ numbers. numbers.items ≡ spec.type_numbers masked.now.list) }
 {
@@ -99,9 +95,12 @@ fn name_sought<'n>(whole: &'n View, name: &'n [u8], asks: &Asks) -> &'n [u8]
 {
     match asks {
         Asks::Make(number, _) | Asks::Default(number) => own_name(whole, *number),
-        Asks::Value | Asks::Type | Asks::Call(_) | Asks::Property(_) | Asks::Method(_, _, _) => {
-            name
-        }
+        Asks::Value
+        | Asks::Type
+        | Asks::Enumeration
+        | Asks::Call(_)
+        | Asks::Property(_)
+        | Asks::Method(_, _, _) => name,
     }
 }
 

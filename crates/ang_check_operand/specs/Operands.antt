@@ -33,9 +33,11 @@ reading place site ty x = record { place = place; ty = ty; tree = t.read site ty
 
 -- ---- conversions
 
--- Between two primitive types a conversion is written out; of objects, handles and null nothing changes.
+-- Between two primitive types a conversion is written out, and so it is from an enumeration, whose values are `int`s; of objects,
+-- handles and null nothing changes.
 abbrev pub conversion : ArgType → ArgType → t.Expr → t.Expr
 conversion (type.Plain p) (type.Plain q) e = t.convert p q e
+conversion (type.Enumeration n) (type.Plain q) e = t.convert p.I32 q e
 conversion from to e = e
 
 abbrev pub fit_by : Option ℕ → ArgType → Operand → Typing t.Expr
@@ -51,11 +53,20 @@ fit ancestors ty a = fit_by (rank_of ancestors a.ty ty) ty a
 
 abbrev pub integer_in : Operand → ArgType → Typing Primitive
 integer_in a (type.Plain q) = if is_integer q then Ok q else Err (fault kind.BadConversion a.place)
+integer_in a (type.Enumeration n) = Ok p.I32
 integer_in a _ = Err (fault kind.BadConversion a.place)
 
--- the operand's integer type
+-- the operand's integer type: `int` where it is of an enumeration
 unfoldable pub integer : Operand → Typing Primitive
 integer a = integer_in a a.ty
+
+abbrev pub number_in : Operand → ArgType → Typing Primitive
+number_in a (type.Plain q) = if is_integer q then Ok q else Err (fault kind.BadConversion a.place)
+number_in a _ = Err (fault kind.BadConversion a.place)
+
+-- the integer type of what is changed in place, which no enumeration is: the `int` that comes out does not convert back
+unfoldable pub number : Operand → Typing Primitive
+number a = number_in a a.ty
 
 abbrev pub truth_in : Operand → ArgType → Typing t.Expr
 truth_in a (type.Plain p.Bool) = Ok a.tree
@@ -70,6 +81,7 @@ abbrev pub object_of : ArgType → Option (ℕ × Bool)
 object_of type.Void = None
 object_of type.Null = None
 object_of (type.Plain q) = None
+object_of (type.Enumeration n) = None
 object_of (type.Object n c) = Some (n, c)
 object_of (type.Handle n c) = Some (n, c)
 
@@ -77,6 +89,7 @@ abbrev pub identity_in : Operand → ArgType → Typing t.Expr
 identity_in a type.Void = Err (fault kind.BadConversion a.place)
 identity_in a type.Null = Ok a.tree
 identity_in a (type.Plain q) = Err (fault kind.BadConversion a.place)
+identity_in a (type.Enumeration n) = Err (fault kind.BadConversion a.place)
 identity_in a (type.Object n c) = Ok a.tree
 identity_in a (type.Handle n c) = Ok a.tree
 

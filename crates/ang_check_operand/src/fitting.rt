@@ -34,6 +34,16 @@ fn conversion(
                 },
             )
         }
+        (ArgType::Enumeration { .. }, ArgType::Plain(to)) => {
+            boxed(
+                alloc,
+                Expression::Convert {
+                    from: Prim::I32,
+                    to,
+                    operand: tree,
+                },
+            )
+        }
         _ => Ok(tree),
     }
 }
@@ -60,7 +70,7 @@ pub fn fit(
     }
 }
 
-/// The integer type of an expression.
+/// The integer type of an expression, which is `int` where it is of an enumeration.
 ///
 /// # Errors
 ///
@@ -72,6 +82,28 @@ pub fn integer(operand: &Operand) -> Result<Prim, Stop>
 {
     match operand.ty {
         ArgType::Plain(Prim::Bool)
+        | ArgType::Void
+        | ArgType::Null
+        | ArgType::Object { .. }
+        | ArgType::Handle { .. } => Err(fault(ErrorKind::BadConversion, operand.place)),
+        ArgType::Plain(primitive) => Ok(primitive),
+        ArgType::Enumeration { .. } => Ok(Prim::I32),
+    }
+}
+
+/// The integer type of an expression that is changed in place, which none of an enumeration is.
+///
+/// # Errors
+///
+/// `BadConversion` at its first token where it has none. It takes no memory.
+#[tactic(auto, unfolding(crate::specs::Operands::number))]
+pub fn number(operand: &Operand) -> Result<Prim, Stop>
+    ensures exact { Gives (λ p. p) result (spec.number (view_operand operand.now)) }
+    ensures kind { IfOk result (λ p. IsInteger p) }
+{
+    match operand.ty {
+        ArgType::Plain(Prim::Bool)
+        | ArgType::Enumeration { .. }
         | ArgType::Void
         | ArgType::Null
         | ArgType::Object { .. }
@@ -103,7 +135,7 @@ pub fn object_of(ty: ArgType) -> Option<(u32, bool)>
         ArgType::Object { number, read_only } | ArgType::Handle { number, read_only } => {
             Some((number, read_only))
         }
-        ArgType::Void | ArgType::Null | ArgType::Plain(_) => None,
+        ArgType::Void | ArgType::Null | ArgType::Plain(_) | ArgType::Enumeration { .. } => None,
     }
 }
 
@@ -118,7 +150,9 @@ pub fn identity(operand: Operand) -> Result<Box<Expression>, Stop>
 {
     match operand.ty {
         ArgType::Null | ArgType::Object { .. } | ArgType::Handle { .. } => Ok(operand.tree),
-        ArgType::Void | ArgType::Plain(_) => { Err(fault(ErrorKind::BadConversion, operand.place)) }
+        ArgType::Void | ArgType::Plain(_) | ArgType::Enumeration { .. } => {
+            Err(fault(ErrorKind::BadConversion, operand.place))
+        }
     }
 }
 

@@ -5,6 +5,6 @@ mod fitting;
 mod operand;
 mod refusal;
 
-pub use fitting::{fit, identity, integer, object_of, seat, site_in, target, truth};
+pub use fitting::{fit, identity, integer, number, object_of, seat, site_in, target, truth};
 pub use operand::{Operand, Seat, Target, boxed, plain_operand, reading};
 pub use refusal::{Refusal, Stop, fault, refused, refused_for, use_refused};

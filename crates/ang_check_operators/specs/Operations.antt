@@ -1,7 +1,7 @@
 -- What operators make of typed operands (docs/LANGUAGE.md, "Expressions": types of operations; the AngelScript manual,
 -- "Math operators", "Bitwise operators", "Comparison operators", "Identity comparison", "Logic operators", "Conditional expression",
 -- "Handle of" and "Assignments").
-use Rattle.std.specs.Prelude.{ℕ, Bool, true, false, if◌then◌else◌, is_some, List, Option, Some, None, Ok, Err}
+use Rattle.std.specs.Prelude.{ℕ, Bool, true, false, ◌==◌, if◌then◌else◌, is_some, List, Option, Some, None, Ok, Err}
 use Rattle.ang_kinds.specs.declared.error.ErrorKind.TheVariants as kind
 use Rattle.ang_kinds.specs.declared.place.Place.{Place}
 use Rattle.ang_kinds.specs.declared.primitive.Primitive.{Primitive}
@@ -27,7 +27,7 @@ use Rattle.ang_check_operators.specs.declared.forms.Form.TheVariants as form
 use Rattle.ang_check_operators.specs.declared.forms.Work.{Work}
 use Rattle.ang_check_operators.specs.declared.forms.Work.TheVariants as work
 use Rattle.ang_check_operand.specs.Refusals.{Typing, ◌>>=◌, fault}
-use Rattle.ang_check_operand.specs.Operands.{Operand, operand, fit, integer, truth, identity, object_of, target, seat}
+use Rattle.ang_check_operand.specs.Operands.{Operand, operand, fit, integer, number, truth, identity, object_of, target, seat}
 use Rattle.ang_check_operators.specs.Forms.{binary_form, compound_work}
 
 -- what no grammar puts here
@@ -190,17 +190,18 @@ abbrev pub handle_in : Place → Operand → ArgType → Typing Operand
 handle_in place a type.Void = Err (fault kind.BadConversion a.place)
 handle_in place a type.Null = Ok (operand place type.Null a.tree)
 handle_in place a (type.Plain q) = Err (fault kind.BadConversion a.place)
+handle_in place a (type.Enumeration n) = Err (fault kind.BadConversion a.place)
 handle_in place a (type.Object n c) = Ok (record { place = place; ty = type.Handle n c; tree = a.tree; target = None; seat = seat_of true a.target })
 handle_in place a (type.Handle n c) = Ok (record { place = place; ty = type.Handle n c; tree = a.tree; target = None; seat = seat_of false a.target })
 
 unfoldable pub handle_typing : Place → Operand → Typing Operand
 handle_typing place a = handle_in place a a.ty
 
--- `++` and `--` of what stands at a site of an integer type, which keeps its type
+-- `++` and `--` of what stands at a site of an integer type, which keeps its type; of an enumeration there is no next value
 unfoldable pub stepped : StepKind → Place → Operand → Typing Operand
 stepped kind place a = do
   x ← target a
-  q ← integer a
+  q ← number a
   Ok (operand place (type.Plain q) (t.step x q kind))
 
 abbrev pub prefix_by : Ancestors → Token → TokenKind → Operand → Typing Operand
@@ -274,9 +275,16 @@ abbrev pub choice_of_objects : Ancestors → Place → t.Expr → Operand → Op
 choice_of_objects ancestors place c a b None = Err (fault kind.BadConversion b.place)
 choice_of_objects ancestors place c a b (Some x) = choice_of ancestors place c a b
 
--- two truth values, two integers, or two objects or handles
+-- Two values of one enumeration are one of it, and any others are integers.
+abbrev pub choice_of_enumerations : Ancestors → Place → t.Expr → Operand → Operand → ℕ → ArgType → Typing Operand
+choice_of_enumerations ancestors place c a b n (type.Enumeration m) =
+    if n == m then choice_as ancestors (type.Enumeration n) place c a b else choice_of_integers ancestors place c a b
+choice_of_enumerations ancestors place c a b n _ = choice_of_integers ancestors place c a b
+
+-- two truth values, two of one enumeration, two integers, or two objects or handles
 abbrev pub choice_by : Ancestors → Place → t.Expr → Operand → Operand → ArgType → Typing Operand
 choice_by ancestors place c a b (type.Plain p.Bool) = choice_as ancestors (type.Plain p.Bool) place c a b
+choice_by ancestors place c a b (type.Enumeration n) = choice_of_enumerations ancestors place c a b n b.ty
 choice_by ancestors place c a b (type.Object n read_only) = choice_of_objects ancestors place c a b (object_of b.ty)
 choice_by ancestors place c a b (type.Handle n read_only) = choice_of_objects ancestors place c a b (object_of b.ty)
 choice_by ancestors place c a b _ = choice_of_integers ancestors place c a b
@@ -297,6 +305,9 @@ abbrev pub assign_in : Ancestors → Place → Place → t.Site → Operand → 
 assign_in ancestors at place x b (type.Plain q) = do
   y ← fit ancestors (type.Plain q) b
   Ok (operand place (type.Plain q) (t.assign x (type.Plain q) y))
+assign_in ancestors at place x b (type.Enumeration n) = do
+  y ← fit ancestors (type.Enumeration n) b
+  Ok (operand place (type.Enumeration n) (t.assign x (type.Enumeration n) y))
 assign_in ancestors at place x b _ = Err (fault kind.NoAssign at)
 
 -- the value is converted to the site's type
@@ -325,14 +336,14 @@ compound_in ancestors op place x q r b = do
 unfoldable pub compound_arithmetic : Ancestors → Operator → Operand → Operand → Typing Operand
 compound_arithmetic ancestors op a b = do
   x ← target a
-  q ← integer a
+  q ← number a
   r ← integer b
   compound_in ancestors op a.place x q (common_type q r) b
 
 unfoldable pub compound_shift : Ancestors → Operator → Operand → Operand → Typing Operand
 compound_shift ancestors op a b = do
   x ← target a
-  q ← integer a
+  q ← number a
   r ← integer b
   compound_in ancestors op a.place x q (raised_type q) b
 

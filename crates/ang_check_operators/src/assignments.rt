@@ -7,7 +7,9 @@ ghost use Rattle.ang_typed.specs.View.{view_site};
 
 use crate::forms::{Work, compound_work};
 use crate::trees::{assign, compound};
-use ang_check_operand::{Operand, Seat, Stop, fault, fit, integer, plain_operand, seat, target};
+use ang_check_operand::{
+    Operand, Seat, Stop, fault, fit, integer, number, plain_operand, seat, target,
+};
 use ang_kinds::{ErrorKind, Place, Prim};
 use ang_lex::Token;
 use ang_typed::{Operator, Site};
@@ -32,6 +34,11 @@ fn assign_in(
             let value = fit(alloc, lineage, ArgType::Plain(ty), value)?;
             let tree = assign(alloc, site, ArgType::Plain(ty), value)?;
             Ok(plain_operand(place, ArgType::Plain(ty), tree))
+        }
+        ArgType::Enumeration { number } => {
+            let value = fit(alloc, lineage, ArgType::Enumeration { number }, value)?;
+            let tree = assign(alloc, site, ArgType::Enumeration { number }, value)?;
+            Ok(plain_operand(place, ArgType::Enumeration { number }, tree))
         }
         _ => Err(fault(ErrorKind::NoAssign, at)),
     }
@@ -119,7 +126,7 @@ fn compound_arithmetic(
         (view_operand written) (view_operand value)) }
 {
     let place = written.place;
-    let own = integer(&written);
+    let own = number(&written);
     let site = target(written)?;
     let own = own?;
     let other = integer(&value)?;
@@ -139,7 +146,7 @@ fn compound_shift(
         (view_operand written) (view_operand value)) }
 {
     let place = written.place;
-    let own = integer(&written);
+    let own = number(&written);
     let site = target(written)?;
     let own = own?;
     let _ = integer(&value)?;

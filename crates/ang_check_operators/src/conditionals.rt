@@ -98,6 +98,29 @@ fn choice_of_objects(
     }
 }
 
+/// The first is of the enumeration of this number, and the other of this type.
+fn choice_of_enumerations(
+    alloc: Global,
+    lineage: &Lineage,
+    place: Place,
+    condition: Box<Expression>,
+    chosen: Operand,
+    otherwise: Operand,
+    number: u32,
+    other: ArgType,
+) -> Result<Operand, Stop>
+    ensures exact { Gives view_operand result (spec.choice_of_enumerations lineage.now place
+        (view_tree condition) (view_operand chosen) (view_operand otherwise) number other) }
+{
+    match other {
+        ArgType::Enumeration { number: own } if number == own => {
+            let ty = ArgType::Enumeration { number };
+            choice_as(alloc, lineage, ty, place, condition, chosen, otherwise)
+        }
+        _ => choice_of_integers(alloc, lineage, place, condition, chosen, otherwise),
+    }
+}
+
 #[tactic(auto, unfolding(crate::specs::Operations::choice))]
 fn choice(
     alloc: Global,
@@ -115,6 +138,12 @@ fn choice(
             let ty = ArgType::Plain(Prim::Bool);
             choice_as(alloc, lineage, ty, place, condition, chosen, otherwise)
         }
+        ArgType::Enumeration { number } => {
+            let other = otherwise.ty;
+            choice_of_enumerations(
+                alloc, lineage, place, condition, chosen, otherwise, number, other,
+            )
+        }
         ArgType::Object { .. } | ArgType::Handle { .. } => {
             let object = object_of(otherwise.ty);
             choice_of_objects(alloc, lineage, place, condition, chosen, otherwise, object)
@@ -123,8 +152,8 @@ fn choice(
     }
 }
 
-/// A condition, and the two values of which it chooses one: two truth values, two integers, which are made values of
-/// their common type, or objects and handles of which one can stand for the other.
+/// A condition, and the two values of which it chooses one: two truth values, two of one enumeration, two integers,
+/// which are made values of their common type, or objects and handles of which one can stand for the other.
 ///
 /// # Errors
 ///

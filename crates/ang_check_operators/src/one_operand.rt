@@ -6,7 +6,7 @@ ghost use Rattle.ang_check_operators.specs.Operations as spec;
 
 use crate::trees::{complement, negate, not, step_of};
 use ang_check_operand::{
-    Operand, Seat, Stop, Target, fault, fit, integer, plain_operand, target, truth,
+    Operand, Seat, Stop, Target, fault, fit, integer, number, plain_operand, target, truth,
 };
 use ang_kinds::{ErrorKind, Place, Prim};
 use ang_lex::{Token, TokenKind};
@@ -88,7 +88,9 @@ fn handle_of(place: Place, operand: Operand) -> Result<Operand, Stop>
     ensures exact { Gives view_operand result (spec.handle_typing place (view_operand operand)) }
 {
     match operand.ty {
-        ArgType::Void | ArgType::Plain(_) => Err(fault(ErrorKind::BadConversion, operand.place)),
+        ArgType::Void | ArgType::Plain(_) | ArgType::Enumeration { .. } => {
+            Err(fault(ErrorKind::BadConversion, operand.place))
+        }
         ArgType::Null => Ok(plain_operand(place, ArgType::Null, operand.tree)),
         ArgType::Object { number, read_only } => {
             Ok(Operand {
@@ -115,7 +117,7 @@ fn handle_of(place: Place, operand: Operand) -> Result<Operand, Stop>
 fn stepped(alloc: Global, step: StepKind, place: Place, operand: Operand) -> Result<Operand, Stop>
     ensures exact { Gives view_operand result (spec.stepped step place (view_operand operand)) }
 {
-    let own = integer(&operand);
+    let own = number(&operand);
     let site = target(operand)?;
     let ty = own?;
     let tree = step_of(alloc, site, ty, step)?;

@@ -3,7 +3,7 @@
 use Rattle.std.specs.Prelude.{Bool, true, false, not, ◌&&◌, ◌||◌}
 use Rattle.ang_lex.specs.declared.token.TokenKind.{TokenKind}
 use Rattle.ang_lex.specs.declared.token.TokenKind.TheVariants as k
-use Rattle.ang_tree.specs.Tree.{Tree, literal, name, call, scoped_call, cast, convert, group, postfix, member, method_call, prefix, binary, conditional, assignment}
+use Rattle.ang_tree.specs.Tree.{Tree, literal, name, call, scoped_call, scoped_name, cast, convert, group, postfix, member, method_call, prefix, binary, conditional, assignment}
 use Rattle.ang_tree.specs.Stmt.{Stmt, Body, Stmts, block, variables, expression, break, continue, return, when, either, while, do_while, for, body, end, then}
 
 abbrev pub is_true : TokenKind → Bool
@@ -16,6 +16,7 @@ is_true_word (literal x) = is_true x.kind
 is_true_word (name x) = false
 is_true_word (call x es) = false
 is_true_word (scoped_call c s x es) = false
+is_true_word (scoped_name c s x) = false
 is_true_word (cast word less y greater left e right) = false
 is_true_word (convert p left e right) = false
 is_true_word (group left e right) = false

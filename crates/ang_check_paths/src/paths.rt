@@ -21,6 +21,7 @@ fn is_true_word(expression: &Expression) -> bool
         Expression::Name(_)
         | Expression::Call { .. }
         | Expression::ScopedCall { .. }
+        | Expression::ScopedName { .. }
         | Expression::Cast { .. }
         | Expression::Convert { .. }
         | Expression::Parenthesized { .. }

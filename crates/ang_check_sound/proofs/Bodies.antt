@@ -143,6 +143,8 @@ module _ (s : BodyContext) (built : IsBuiltContext s) where
   chosen_base n word operands (resolution.Variable v ty read_only) h all = tt
   chosen_base n word operands (resolution.Property p) h all = tt
   chosen_base n word operands (resolution.Type k) h all = tt
+  chosen_base n word operands (resolution.Enumeration k) h all = tt
+  chosen_base n word operands (resolution.Value v) h all = tt
   chosen_base n word operands (resolution.Refused why) h all = tt
 
   super_base : (n : ℕ) (word : Token) (operands : List Operand) (b : Option ℕ) → Every (SoundOperand (Here s) n) operands

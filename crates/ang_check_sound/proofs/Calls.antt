@@ -6,6 +6,7 @@ use Rattle.std.proofs.lemmas.List.{length-map}
 use Rattle.std.proofs.lemmas.Option.{slice_get_within}
 use Rattle.ang_kinds.specs.declared.error.ErrorKind.TheVariants as kind
 use Rattle.ang_kinds.specs.declared.place.Place.{Place}
+use Rattle.ang_kinds.specs.declared.primitive.Primitive.TheVariants as primitive
 use Rattle.ang_kinds.specs.declared.types.Pass.{Pass}
 use Rattle.ang_kinds.specs.declared.types.Pass.TheVariants as pass
 use Rattle.ang_lex.specs.declared.token.Token.{Token}
@@ -26,28 +27,29 @@ use Rattle.ang_names_known.specs.Spaces.{family_type}
 use Rattle.ang_names_written.specs.Sources.{text_of}
 use Rattle.ang_check_operand.specs.declared.operand.Target.{Target}
 use Rattle.ang_check_operand.specs.Refusals.{Typing, fault}
-use Rattle.ang_check_operand.specs.Operands.{Operand, fit, site_in}
+use Rattle.ang_check_operand.specs.Operands.{Operand, fit, integer, site_in}
 use Rattle.ang_check_context.specs.declared.scope.LocalVariable.{LocalVariable}
 use Rattle.ang_check_context.specs.declared.scope.Within.{Within}
 use Rattle.ang_check_context.specs.Scope.{BodyContext, scope_of, last_named, family_of, is_there}
 use Rattle.ang_check_context.specs.Access.{if_in_reach}
-use Rattle.ang_check_context.specs.Names.{own_type, this_operand, value_use, field_within, field_or_global, local_at, local_named, local_or, name_typing, this_in, this_typing}
+use Rattle.ang_check_context.specs.Names.{own_type, this_operand, int_bits, value_or_unknown, scoped_name_use, scoped_name_typing, value_use, field_within, field_or_global, local_at, local_named, local_or, name_typing, this_in, this_typing}
 use Rattle.ang_check_context.specs.Operands.{types_of}
-use Rattle.ang_check_typing.specs.Calls.{is_out_variable, is_out_type, is_out, variable_in, out_or, out_of, value_for, out_for, argument_by, argument, arguments_for, call_of, call_with, called_use, called_own, virtual_method, direct_by, direct_method, own_method, named_methods, call_by, call_typing, ancestor_by, ancestor_in, scoped_by, scoped_typing}
+use Rattle.ang_check_typing.specs.Calls.{is_out_variable, is_out_type, is_out, variable_in, out_or, out_of, value_for, out_for, argument_by, argument, arguments_for, call_of, call_with, called_use, called_own, virtual_method, direct_by, direct_method, own_method, enumerated_of, bare_use, named_methods, call_by, call_typing, ancestor_by, ancestor_in, scoped_by, scoped_typing}
 use Rattle.ang_check_uses.specs.declared.uses.Callable.{Callable}
 use Rattle.ang_check_uses.specs.declared.uses.Called.{Called}
 use Rattle.ang_check_uses.specs.declared.uses.Called.TheVariants as calls
+use Rattle.ang_check_uses.specs.declared.uses.EnumerationValue.{EnumerationValue}
 use Rattle.ang_check_uses.specs.declared.uses.Reach.{Reach}
 use Rattle.ang_check_uses.specs.declared.uses.Resolution.{Resolution}
 use Rattle.ang_check_uses.specs.declared.uses.Resolution.TheVariants as resolution
-use Rattle.ang_check_uses.specs.Uses.{resolution_of}
+use Rattle.ang_check_uses.specs.Uses.{resolution_of, value_of}
 use Rattle.ang_tree.specs.Stmt.{Every}
 use Rattle.ang_source.specs.Sound.{Module, IsStored, IsTarget, Sound, SoundArguments, SoundArgument, SoundValues, argument_count}
 use Rattle.ang_meaning.specs.declared.routine.Passing.TheVariants as passing
 use Rattle.ang_source.specs.Meaning.{passing_by, passing_of}
 use Rattle.ang_check_sound.specs.Built.{IsMethodIn, IsBuiltContext, HasThis}
 use Rattle.ang_check_sound.specs.Checked.{with_this}
-use Rattle.ang_check_sound.proofs.Judged.{holds, either_holds}
+use Rattle.ang_check_sound.proofs.Judged.{holds, either_holds, any}
 use Rattle.ang_check_sound.proofs.Families.{named_hold}
 use Rattle.ang_check_sound.proofs.Passings.{takes, TakeAlike, params_alike, only_out, in_order}
 use Rattle.ang_check_sound.proofs.Items.{every_mapped, every_flat_of, first_true, second_true, not_true}
@@ -195,6 +197,8 @@ module _ (s : BodyContext) (n : ℕ) where
   use_sound place x a there operands args (resolution.Variable v ty read_only) h count all = tt
   use_sound place x a there operands args (resolution.Property p) h count all = tt
   use_sound place x a there operands args (resolution.Type k) h count all = tt
+  use_sound place x a there operands args (resolution.Enumeration k) h count all = tt
+  use_sound place x a there operands args (resolution.Value v) h count all = tt
   use_sound place x a there operands args (resolution.Refused why) h count all = tt
 
   pub own_use_sound : (place : Place) (x : Token) (operands : List Operand) (args : List ArgType) (r : Resolution) → IsMeantCall s args r
@@ -204,6 +208,8 @@ module _ (s : BodyContext) (n : ℕ) where
   own_use_sound place x operands args (resolution.Variable v ty read_only) h count all = tt
   own_use_sound place x operands args (resolution.Property p) h count all = tt
   own_use_sound place x operands args (resolution.Type k) h count all = tt
+  own_use_sound place x operands args (resolution.Enumeration k) h count all = tt
+  own_use_sound place x operands args (resolution.Value v) h count all = tt
   own_use_sound place x operands args (resolution.Refused why) h count all = tt
 
   pub types_counted : (operands : List Operand) → length (types_of operands) ≡ length operands
@@ -265,10 +271,27 @@ module _ (s : BodyContext) (n : ℕ) where
 
   -- ---- a bare call
 
+  -- a conversion to an enumeration, of one operand
+  enumerated_sound : (x : Token) (k : ℕ) (operands : List Operand) → Every (SoundOperand M n) operands → IfOk (enumerated_of x k operands) (SoundOperand M n)
+  enumerated_sound x k [] all = tt
+  enumerated_sound x k (a ∷ []) all =
+      holds (λ q. Unit {0}) (SoundOperand M n) (integer a) _ (any (integer a)) (λ q h. no_site M n x.place (type.Enumeration k) (t.convert q primitive.I32 a.tree) all.0.tree)
+  enumerated_sound x k (a ∷ b ∷ rest) all = tt
+
+  bare_sound : (x : Token) (a : Asks) (there : Bool) (operands : List Operand) (args : List ArgType) (r : Resolution) → IsMeantCall s args r
+      → length args ≡ length operands → Every (SoundOperand M n) operands → IfOk (bare_use s x a there operands r) (SoundOperand M n)
+  bare_sound x a there operands args (resolution.Enumeration k) h count all = enumerated_sound x k operands all
+  bare_sound x a there operands args (resolution.Call c) h count all = use_sound x.place x a there operands args (resolution.Call c) h count all
+  bare_sound x a there operands args (resolution.Variable v ty read_only) h count all = tt
+  bare_sound x a there operands args (resolution.Property q) h count all = tt
+  bare_sound x a there operands args (resolution.Type k) h count all = tt
+  bare_sound x a there operands args (resolution.Value v) h count all = tt
+  bare_sound x a there operands args (resolution.Refused why) h count all = tt
+
   call_by_name : (ps : List LocalVariable) (x : Token) (operands : List Operand) → IsBuiltContext s → Every (SoundOperand M n) operands
       → IfOk (call_by s ps x operands None) (SoundOperand M n)
   call_by_name ps x operands built all =
-      use_sound x.place x (asks.Call (types_of operands)) (is_there s ps (text_of s.text x)) operands (types_of operands)
+      bare_sound x (asks.Call (types_of operands)) (is_there s ps (text_of s.text x)) operands (types_of operands)
       (resolution_of (scope_of s) (text_of s.text x) (asks.Call (types_of operands)))
       (call_there s built (text_of s.text x) (types_of operands)) (types_counted operands) all
 
@@ -331,7 +354,28 @@ module _ (s : BodyContext) (n : ℕ) where
   value_sound x there (resolution.Property p) h = tt
   value_sound x there (resolution.Call c) h = tt
   value_sound x there (resolution.Type k) h = tt
+  value_sound x there (resolution.Enumeration k) h = tt
+  value_sound x there (resolution.Value v) h = no_site M n x.place (type.Enumeration v.enumeration) (t.number primitive.I32 (int_bits v.number)) tt
   value_sound x there (resolution.Refused why) h = tt
+
+  -- `E::V`
+  or_unknown : (c x : Token) (v : Option EnumerationValue) → IfOk (value_or_unknown c x v) (SoundOperand M n)
+  or_unknown c x None = tt
+  or_unknown c x (Some v) = no_site M n c.place (type.Enumeration v.enumeration) (t.number primitive.I32 (int_bits v.number)) tt
+
+  scoped_name_sound : (c x : Token) (there : Bool) (r : Resolution) → IfOk (scoped_name_use s c x there r) (SoundOperand M n)
+  scoped_name_sound c x there (resolution.Enumeration k) = or_unknown c x (value_of s.view k (text_of s.text x))
+  scoped_name_sound c x there (resolution.Variable v ty read_only) = tt
+  scoped_name_sound c x there (resolution.Property q) = tt
+  scoped_name_sound c x there (resolution.Call k) = tt
+  scoped_name_sound c x there (resolution.Type k) = tt
+  scoped_name_sound c x there (resolution.Value v) = tt
+  scoped_name_sound c x there (resolution.Refused why) = tt
+
+  pub scoped_name_typed : (ps : List LocalVariable) (c x : Token) → IfOk (scoped_name_typing s ps c x) (SoundOperand M n)
+  unfolding scoped_name_typing
+  scoped_name_typed ps c x =
+      let name = text_of s.text c in scoped_name_sound c x (is_there s ps name) (resolution_of (scope_of s) name asks.Enumeration)
 
   -- a field of `this`, else a global
   global_typed : (x : Token) (there : Bool) → IfOk (field_or_global s x there None) (SoundOperand M n)

@@ -4,7 +4,7 @@ use Rattle.ang_lex.specs.declared.token.Token.{Token}
 use Rattle.ang_lex.specs.declared.token.TokenKind.{TokenKind}
 use Rattle.ang_lex.specs.declared.token.TokenKind.TheVariants as k
 use Rattle.ang_tree.specs.Stmt.{Every}
-use Rattle.ang_tree.specs.Tree.{Tree, Args, Trees, literal, name, call, scoped_call, cast, convert, group, postfix, member, method_call, prefix, binary, conditional, assignment, arguments, none, more}
+use Rattle.ang_tree.specs.Tree.{Tree, Args, Trees, literal, name, call, scoped_call, scoped_name, cast, convert, group, postfix, member, method_call, prefix, binary, conditional, assignment, arguments, none, more}
 use Rattle.ang_types.specs.declared.arg_type.ArgType.{ArgType}
 use Rattle.ang_names_written.specs.Sources.{text_of}
 use Rattle.ang_check_operand.specs.Refusals.{Typing}
@@ -19,7 +19,7 @@ use Rattle.ang_check_sound.specs.Checked.{module_in}
 use Rattle.ang_check_sound.proofs.Judged.{holds}
 use Rattle.ang_check_sound.proofs.Operators.{SoundOperand, literal_sound, binary_sound, prefix_sound, postfix_sound, converted_sound, group_sound, conditional_sound, assignment_sound}
 use Rattle.ang_check_sound.proofs.Uses.{Here}
-use Rattle.ang_check_sound.proofs.Calls.{this_typed, call_typed, scoped_typed, name_typed}
+use Rattle.ang_check_sound.proofs.Calls.{this_typed, call_typed, scoped_typed, scoped_name_typed, name_typed}
 use Rattle.ang_check_sound.proofs.Objects.{IsCastable, member_typed, method_call_typed, cast_typed, cast_type_there}
 
 -- In a body, with these parameters and locals alive:
@@ -45,6 +45,7 @@ module _ (s : BodyContext) (ps : List LocalVariable) (built : IsBuiltContext s) 
         holds (Every Typed) Typed (typing_of_args s ps es) _ (args_typed es) (λ operands all. call_typed s n ps x operands built alive all)
     typed (scoped_call c scope x es) =
         holds (Every Typed) Typed (typing_of_args s ps es) _ (args_typed es) (λ operands all. scoped_typed s n c x operands built alive all)
+    typed (scoped_name c scope x) = scoped_name_typed s n ps c x
     typed (cast word less y greater left e right) =
         holds (λ (ty : ArgType). IsCastable s n (object_of ty)) Typed (cast_type s ps y) _ (cast_type_there s n built ps y)
         (λ ty there. holds Typed Typed (typing_of s ps e) _ (typed e) (λ a sa. cast_typed s n word ty a there sa))

@@ -75,6 +75,8 @@ function_kind entry.Method e = cc
 function_kind entry.Property e = cc
 function_kind entry.Function e = refl
 function_kind entry.Global e = cc
+function_kind entry.Enumeration e = cc
+function_kind (entry.EnumValue v) e = cc
 
 factory_kind : (k : EntryKind) → is_factory k ≡ true → k ≡ entry.Factory
 factory_kind entry.HostType e = cc
@@ -83,6 +85,8 @@ factory_kind entry.Method e = cc
 factory_kind entry.Property e = cc
 factory_kind entry.Function e = cc
 factory_kind entry.Global e = cc
+factory_kind entry.Enumeration e = cc
+factory_kind (entry.EnumValue v) e = cc
 
 method_kind : (k : EntryKind) → is_method k ≡ true → k ≡ entry.Method
 method_kind entry.HostType e = cc
@@ -91,6 +95,8 @@ method_kind entry.Method e = refl
 method_kind entry.Property e = cc
 method_kind entry.Function e = cc
 method_kind entry.Global e = cc
+method_kind entry.Enumeration e = cc
+method_kind (entry.EnumValue v) e = cc
 
 global_kind : (k : EntryKind) → is_global k ≡ true → k ≡ entry.Global
 global_kind entry.HostType e = cc
@@ -99,6 +105,8 @@ global_kind entry.Method e = cc
 global_kind entry.Property e = cc
 global_kind entry.Function e = cc
 global_kind entry.Global e = refl
+global_kind entry.Enumeration e = cc
+global_kind (entry.EnumValue v) e = cc
 
 member_kind : (k : EntryKind) → is_property k ≡ true → k ≡ entry.Property
 member_kind entry.HostType e = cc
@@ -107,6 +115,8 @@ member_kind entry.Method e = cc
 member_kind entry.Property e = refl
 member_kind entry.Function e = cc
 member_kind entry.Global e = cc
+member_kind entry.Enumeration e = cc
+member_kind (entry.EnumValue v) e = cc
 
 -- what kind of entity is wanted
 abbrev pub kind_wanted : Wanted → EntryKind

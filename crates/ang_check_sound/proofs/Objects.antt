@@ -51,6 +51,8 @@ module _ (s : BodyContext) (n : ℕ) where
   property_use_sound a x number c (resolution.Variable v ty read_only) sa there = tt
   property_use_sound a x number c (resolution.Call k) sa there = tt
   property_use_sound a x number c (resolution.Type k) sa there = tt
+  property_use_sound a x number c (resolution.Enumeration k) sa there = tt
+  property_use_sound a x number c (resolution.Value v) sa there = tt
   property_use_sound a x number c (resolution.Refused why) sa there = tt
 
   field_sound : (a : Operand) (x : Token) (c : Bool) (f : Option FoundField) → SoundOperand M n a → IfOk (field_typing s a x c f) (SoundOperand M n)

@@ -1,5 +1,5 @@
 -- The tree that an operator makes is sound where those of its operands are.
-use Rattle.std.specs.Prelude.{◌≡◌, ℕ, zero, suc, Bool, true, false, if◌then◌else◌, List, Option, Some, None, IfSome, Ok, Err, IfOk}
+use Rattle.std.specs.Prelude.{◌≡◌, ℕ, zero, suc, ◌==◌, Bool, true, false, if◌then◌else◌, List, Option, Some, None, IfSome, Ok, Err, IfOk}
 use Rattle.std.proofs.Common.{refl}
 use Rattle.ang_kinds.specs.declared.error.ErrorKind.TheVariants as why
 use Rattle.ang_kinds.specs.declared.place.Place.{Place}
@@ -26,10 +26,10 @@ use Rattle.ang_check_operators.specs.declared.forms.Form.{Form}
 use Rattle.ang_check_operators.specs.declared.forms.Form.TheVariants as form
 use Rattle.ang_check_operators.specs.declared.forms.Work.{Work}
 use Rattle.ang_check_operators.specs.declared.forms.Work.TheVariants as work
-use Rattle.ang_check_operand.specs.Operands.{Operand, operand, reading, conversion, fit_by, fit, integer, truth_in, truth, identity_in, identity, object_of, site_in, site_or, target_by, target, seat_by, seat}
+use Rattle.ang_check_operand.specs.Operands.{Operand, operand, reading, conversion, fit_by, fit, integer, number, truth_in, truth, identity_in, identity, object_of, site_in, site_or, target_by, target, seat_by, seat}
 use Rattle.ang_check_operand.specs.Refusals.{Typing, ◌>>=◌, refused}
 use Rattle.ang_check_operators.specs.Forms.{binary_form, compound_work}
-use Rattle.ang_check_operators.specs.Operations.{literal_by, literal_typing, raised_type, worked_in, arithmetic, shift, compared_in, order, equality_by, equality, conjunction, disjunction, exclusion, sameness, difference, formed, binary_typing, negated, complemented, raised_operand, opposite, seat_of, handle_in, handle_typing, stepped, prefix_by, prefix_typing, postfix_by, postfix_typing, converted_by, convert_typing, inside, group_typing, choice_as, choice_of_integers, stands_for, choice_of, choice_of_objects, choice_by, choice, conditional_typing, assign_in, assigned, reseated, assigned_by, compound_in, compound_arithmetic, compound_shift, assignment_by, assignment_typing}
+use Rattle.ang_check_operators.specs.Operations.{literal_by, literal_typing, raised_type, worked_in, arithmetic, shift, compared_in, order, equality_by, equality, conjunction, disjunction, exclusion, sameness, difference, formed, binary_typing, negated, complemented, raised_operand, opposite, seat_of, handle_in, handle_typing, stepped, prefix_by, prefix_typing, postfix_by, postfix_typing, converted_by, convert_typing, inside, group_typing, choice_as, choice_of_integers, stands_for, choice_of, choice_of_objects, choice_of_enumerations, choice_by, choice, conditional_typing, assign_in, assigned, reseated, assigned_by, compound_in, compound_arithmetic, compound_shift, assignment_by, assignment_typing}
 use Rattle.ang_source.specs.Sound.{Module, IsVariable, IsStored, IsMember, IsStoredMember, Sound}
 use Rattle.ang_check_sound.proofs.Judged.{holds, either_holds, any}
 
@@ -90,8 +90,15 @@ module _ (M : Module) (n : ℕ) where
   convert_sound (type.Plain p) type.Void e s = s
   convert_sound (type.Plain p) type.Null e s = s
   convert_sound (type.Plain p) (type.Plain q) e s = s
+  convert_sound (type.Plain p) (type.Enumeration m) e s = s
   convert_sound (type.Plain p) (type.Object m c) e s = s
   convert_sound (type.Plain p) (type.Handle m c) e s = s
+  convert_sound (type.Enumeration m) type.Void e s = s
+  convert_sound (type.Enumeration m) type.Null e s = s
+  convert_sound (type.Enumeration m) (type.Plain q) e s = s
+  convert_sound (type.Enumeration m) (type.Enumeration k) e s = s
+  convert_sound (type.Enumeration m) (type.Object k c) e s = s
+  convert_sound (type.Enumeration m) (type.Handle k c) e s = s
   convert_sound (type.Object m c) to e s = s
   convert_sound (type.Handle m c) to e s = s
 
@@ -141,6 +148,7 @@ module _ (M : Module) (n : ℕ) where
   identity_by_sound type.Void a s = tt
   identity_by_sound type.Null a s = s.tree
   identity_by_sound (type.Plain q) a s = tt
+  identity_by_sound (type.Enumeration m) a s = tt
   identity_by_sound (type.Object m c) a s = s.tree
   identity_by_sound (type.Handle m c) a s = s.tree
 
@@ -151,6 +159,10 @@ module _ (M : Module) (n : ℕ) where
   -- what comes of an integer's type
   with_integer : {B : Type 0} (Q : B → Type 0) (a : Operand) (f : Primitive → Typing B) → ((q : Primitive) → IfOk (f q) Q) → IfOk (integer a >>= f) Q
   with_integer Q a f g = holds (λ q. Unit {0}) Q (integer a) f (any (integer a)) (λ q h. g q)
+
+  -- and of one that is changed in place
+  with_number : {B : Type 0} (Q : B → Type 0) (a : Operand) (f : Primitive → Typing B) → ((q : Primitive) → IfOk (f q) Q) → IfOk (number a >>= f) Q
+  with_number Q a f g = holds (λ q. Unit {0}) Q (number a) f (any (number a)) (λ q h. g q)
 
   -- two operands in one type, and what is made of them
   fit_two : (ancestors : Ancestors) (r : ArgType) (a b : Operand) (f : t.Expr → t.Expr → Typing Operand) → SoundOperand a → SoundOperand b
@@ -294,7 +306,7 @@ module _ (M : Module) (n : ℕ) where
   unfolding stepped
   stepped_sound kind place a sa =
       holds IsStoredSite SoundOperand (target a) _ (target_sound a sa)
-      (λ x sx. with_integer SoundOperand a _ (λ q. no_site _ _ _ (step_sound x q kind sx)))
+      (λ x sx. with_number SoundOperand a _ (λ q. no_site _ _ _ (step_sound x q kind sx)))
 
   seated : (is_object : Bool) (x : Option Target) (e : t.Expr) → IsTargeted x e → IsSeated (seat_of is_object x) e
   seated is_object None e s = tt
@@ -304,6 +316,7 @@ module _ (M : Module) (n : ℕ) where
   handle_by_sound place a type.Void sa = tt
   handle_by_sound place a type.Null sa = no_site _ _ _ sa.tree
   handle_by_sound place a (type.Plain q) sa = tt
+  handle_by_sound place a (type.Enumeration m) sa = tt
   handle_by_sound place a (type.Object m c) sa = record { tree = sa.tree; target = tt; seat = seated true a.target a.tree sa.target }
   handle_by_sound place a (type.Handle m c) sa = record { tree = sa.tree; target = tt; seat = seated false a.target a.tree sa.target }
 
@@ -373,9 +386,16 @@ module _ (M : Module) (n : ℕ) where
   objects_sound ancestors place c a b None sc sa sb = tt
   objects_sound ancestors place c a b (Some x) sc sa sb = one_of_two_sound ancestors place c a b sc sa sb
 
+  enumerations_sound : (ancestors : Ancestors) (place : Place) (c : t.Expr) (a b : Operand) (m : ℕ) (ty : ArgType) → Sound M n c → SoundOperand a → SoundOperand b
+      → IfOk (choice_of_enumerations ancestors place c a b m ty) SoundOperand
+  enumerations_sound ancestors place c a b m (type.Enumeration k) sc sa sb =
+      either_holds SoundOperand (m == k) _ _ (chosen_sound ancestors (type.Enumeration m) place c a b sc sa sb) (integers_sound ancestors place c a b sc sa sb)
+  enumerations_sound ancestors place c a b m _ sc sa sb = integers_sound ancestors place c a b sc sa sb
+
   choice_by_sound : (ancestors : Ancestors) (place : Place) (c : t.Expr) (a b : Operand) (ty : ArgType) → Sound M n c → SoundOperand a → SoundOperand b
       → IfOk (choice_by ancestors place c a b ty) SoundOperand
   choice_by_sound ancestors place c a b (type.Plain p.Bool) sc sa sb = chosen_sound ancestors (type.Plain p.Bool) place c a b sc sa sb
+  choice_by_sound ancestors place c a b (type.Enumeration m) sc sa sb = enumerations_sound ancestors place c a b m b.ty sc sa sb
   choice_by_sound ancestors place c a b (type.Object m r) sc sa sb = objects_sound ancestors place c a b (object_of b.ty) sc sa sb
   choice_by_sound ancestors place c a b (type.Handle m r) sc sa sb = objects_sound ancestors place c a b (object_of b.ty) sc sa sb
   choice_by_sound ancestors place c a b _ sc sa sb = integers_sound ancestors place c a b sc sa sb
@@ -397,6 +417,8 @@ module _ (M : Module) (n : ℕ) where
       → IfOk (assign_in ancestors at place x b ty) SoundOperand
   assign_in_sound ancestors at place x b (type.Plain q) sx sb =
       fit_one ancestors (type.Plain q) b _ sb (λ y sy. no_site _ _ _ (assign_sound x (type.Plain q) y sx sy))
+  assign_in_sound ancestors at place x b (type.Enumeration m) sx sb =
+      fit_one ancestors (type.Enumeration m) b _ sb (λ y sy. no_site _ _ _ (assign_sound x (type.Enumeration m) y sx sy))
   assign_in_sound ancestors at place x b _ sx sb = tt
 
   assigned_sound : (ancestors : Ancestors) (at : Place) (a b : Operand) → SoundOperand a → SoundOperand b → IfOk (assigned ancestors at a b) SoundOperand
@@ -425,14 +447,14 @@ module _ (M : Module) (n : ℕ) where
   unfolding compound_arithmetic
   compound_arithmetic_sound ancestors op a b sa sb =
       holds IsStoredSite SoundOperand (target a) _ (target_sound a sa)
-      (λ x sx. with_integer SoundOperand a _ (λ q. with_integer SoundOperand b _ (λ r. compound_sound ancestors op a.place x q (common_type q r) b sx sb)))
+      (λ x sx. with_number SoundOperand a _ (λ q. with_integer SoundOperand b _ (λ r. compound_sound ancestors op a.place x q (common_type q r) b sx sb)))
 
   compound_shift_sound : (ancestors : Ancestors) (op : Operator) (a b : Operand) → SoundOperand a → SoundOperand b
       → IfOk (compound_shift ancestors op a b) SoundOperand
   unfolding compound_shift
   compound_shift_sound ancestors op a b sa sb =
       holds IsStoredSite SoundOperand (target a) _ (target_sound a sa)
-      (λ x sx. with_integer SoundOperand a _ (λ q. with_integer SoundOperand b _ (λ r. compound_sound ancestors op a.place x q (raised_type q) b sx sb)))
+      (λ x sx. with_number SoundOperand a _ (λ q. with_integer SoundOperand b _ (λ r. compound_sound ancestors op a.place x q (raised_type q) b sx sb)))
 
   assignment_by_sound : (ancestors : Ancestors) (at : Place) (w : Option Work) (a b : Operand) → SoundOperand a → SoundOperand b
       → IfOk (assignment_by ancestors at w a b) SoundOperand

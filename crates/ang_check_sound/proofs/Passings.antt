@@ -32,6 +32,7 @@ never_referred : (ty : ArgType) → referred ty ≡ Out → ⊥
 never_referred type.Void e = cc
 never_referred type.Null e = cc
 never_referred (type.Plain p) e = cc
+never_referred (type.Enumeration n) e = cc
 never_referred (type.Object n c) e = cc
 never_referred (type.Handle n c) e = cc
 

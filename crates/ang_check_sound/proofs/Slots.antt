@@ -58,6 +58,7 @@ own_type : (ty : ArgType) → same_type ty ty ≡ true
 own_type type.Void = refl
 own_type type.Null = refl
 own_type (type.Plain p) = same_number (primitive_number p)
+own_type (type.Enumeration n) = same_number n
 own_type (type.Object n c) = both (n == n) (beq c c) (same_number n) (same_truth c)
 own_type (type.Handle n c) = both (n == n) (beq c c) (same_number n) (same_truth c)
 
@@ -103,26 +104,37 @@ same_referred : (x y : ArgType) → same_type x y ≡ true → referred x ≡ re
 same_referred type.Void type.Void e = refl
 same_referred type.Void type.Null e = refl
 same_referred type.Void (type.Plain q) e = refl
+same_referred type.Void (type.Enumeration m) e = refl
 same_referred type.Void (type.Object m d) e = cc
 same_referred type.Void (type.Handle m d) e = refl
 same_referred type.Null type.Void e = refl
 same_referred type.Null type.Null e = refl
 same_referred type.Null (type.Plain q) e = refl
+same_referred type.Null (type.Enumeration m) e = refl
 same_referred type.Null (type.Object m d) e = cc
 same_referred type.Null (type.Handle m d) e = refl
 same_referred (type.Plain p) type.Void e = refl
 same_referred (type.Plain p) type.Null e = refl
 same_referred (type.Plain p) (type.Plain q) e = refl
+same_referred (type.Plain p) (type.Enumeration m) e = refl
 same_referred (type.Plain p) (type.Object m d) e = cc
 same_referred (type.Plain p) (type.Handle m d) e = refl
+same_referred (type.Enumeration n) type.Void e = refl
+same_referred (type.Enumeration n) type.Null e = refl
+same_referred (type.Enumeration n) (type.Plain q) e = refl
+same_referred (type.Enumeration n) (type.Enumeration m) e = refl
+same_referred (type.Enumeration n) (type.Object m d) e = cc
+same_referred (type.Enumeration n) (type.Handle m d) e = refl
 same_referred (type.Object n c) type.Void e = cc
 same_referred (type.Object n c) type.Null e = cc
 same_referred (type.Object n c) (type.Plain q) e = cc
+same_referred (type.Object n c) (type.Enumeration m) e = cc
 same_referred (type.Object n c) (type.Object m d) e = refl
 same_referred (type.Object n c) (type.Handle m d) e = cc
 same_referred (type.Handle n c) type.Void e = refl
 same_referred (type.Handle n c) type.Null e = refl
 same_referred (type.Handle n c) (type.Plain q) e = refl
+same_referred (type.Handle n c) (type.Enumeration m) e = refl
 same_referred (type.Handle n c) (type.Object m d) e = cc
 same_referred (type.Handle n c) (type.Handle m d) e = refl
 

@@ -66,6 +66,7 @@ module _ (s : BodyContext) (built : IsBuiltContext s) (ps : List LocalVariable) 
   absent_sound y type.Void = tt
   absent_sound y type.Null = tt
   absent_sound y (type.Plain p) = tt
+  absent_sound y (type.Enumeration m) = tt
   absent_sound y (type.Object m c) = made_sound (default_typing s ps y.name m) (default_typed s n built ps y.name m)
   absent_sound y (type.Handle m c) = tt
 
@@ -73,6 +74,7 @@ module _ (s : BodyContext) (built : IsBuiltContext s) (ps : List LocalVariable) 
   value_in_sound equals type.Void a sa = fitted_sound s.ancestors type.Void a sa
   value_in_sound equals type.Null a sa = fitted_sound s.ancestors type.Null a sa
   value_in_sound equals (type.Plain p) a sa = fitted_sound s.ancestors (type.Plain p) a sa
+  value_in_sound equals (type.Enumeration m) a sa = fitted_sound s.ancestors (type.Enumeration m) a sa
   value_in_sound equals (type.Object m c) a sa = tt
   value_in_sound equals (type.Handle m c) a sa = fitted_sound s.ancestors (type.Handle m c) a sa
 
@@ -81,6 +83,7 @@ module _ (s : BodyContext) (built : IsBuiltContext s) (ps : List LocalVariable) 
   arguments_in_sound y type.Void operands all = tt
   arguments_in_sound y type.Null operands all = tt
   arguments_in_sound y (type.Plain p) operands all = tt
+  arguments_in_sound y (type.Enumeration m) operands all = tt
   arguments_in_sound y (type.Object m c) operands all = made_sound (made_typing s ps y.name m operands) (made_typed s n built ps y.name m operands all)
   arguments_in_sound y (type.Handle m c) operands all = tt
 
@@ -190,6 +193,7 @@ module _ (f : Frame) (built : IsBuiltContext f.context) (can : CanReturn f.retur
   value_sound n type.Void a s = tt
   value_sound n type.Null a s = fit_sound M n f.context.ancestors type.Null a s
   value_sound n (type.Plain p) a s = fit_sound M n f.context.ancestors (type.Plain p) a s
+  value_sound n (type.Enumeration m) a s = fit_sound M n f.context.ancestors (type.Enumeration m) a s
   value_sound n (type.Object m c) a s = fit_sound M n f.context.ancestors (type.Object m c) a s
   value_sound n (type.Handle m c) a s = fit_sound M n f.context.ancestors (type.Handle m c) a s
 
@@ -197,6 +201,7 @@ module _ (f : Frame) (built : IsBuiltContext f.context) (can : CanReturn f.retur
   nothing_sound n type.Void word = tt
   nothing_sound n type.Null word = tt
   nothing_sound n (type.Plain p) word = tt
+  nothing_sound n (type.Enumeration m) word = tt
   nothing_sound n (type.Object m c) word = tt
   nothing_sound n (type.Handle m c) word = tt
 

@@ -9,7 +9,7 @@ use Rattle.ang_tree.specs.declared.type_name.TypeName.{TypeName}
 use Rattle.ang_tree.specs.declared.type_name.Handle.{Handle}
 use Rattle.ang_types.specs.declared.arg_type.ArgType.{ArgType}
 use Rattle.ang_types.specs.declared.arg_type.ArgType.TheVariants as type
-use Rattle.ang_view.specs.Types.{is_type_named, type_named}
+use Rattle.ang_view.specs.Types.{enumeration_named, is_type_named, type_named}
 use Rattle.ang_names_known.specs.declared.space.Named.{Named}
 use Rattle.ang_names_known.specs.declared.space.Named.TheVariants as named
 use Rattle.ang_names_known.specs.Spaces.{Space, first_family, family_type, family_of_type, family_or_host, type_of_name}
@@ -46,6 +46,7 @@ module _ (E : Space) (few : length E.view ≤ first_family) where
   abbrev NamesOneThere : Named → Type 0
   NamesOneThere named.Unknown = Unit {0}
   NamesOneThere (named.Object n) = IsThere n
+  NamesOneThere (named.Enumeration n) = Unit {0}
 
   host_there : (name : List ℕ) (n : ℕ) → position (is_type_named name) E.view ≡ Some n → IsThere n
   host_there name n e =
@@ -55,15 +56,16 @@ module _ (E : Space) (few : length E.view ≤ first_family) where
   family_there : (name : List ℕ) (c : ℕ) → position (bytes_eq name) E.families ≡ Some c → IsThere (family_type c)
   family_there name c e = family_number c (length E.families) (position-Some (bytes_eq name) E.families c [] e).0
 
-  one_there : (name : List ℕ) (c n : Option ℕ) → position (bytes_eq name) E.families ≡ c → position (is_type_named name) E.view ≡ n
-      → NamesOneThere (family_or_host c n)
-  one_there name (Some c) n e f = family_there name c e
-  one_there name None (Some n) e f = host_there name n f
-  one_there name None None e f = tt
+  one_there : (name : List ℕ) (c n m : Option ℕ) → position (bytes_eq name) E.families ≡ c → position (is_type_named name) E.view ≡ n
+      → NamesOneThere (family_or_host c n m)
+  one_there name (Some c) n m e f = family_there name c e
+  one_there name None (Some n) m e f = host_there name n f
+  one_there name None None (Some m) e f = tt
+  one_there name None None None e f = tt
 
   name_there : (name : List ℕ) → NamesOneThere (type_of_name E name)
   unfolding type_of_name type_named
-  name_there name = one_there name (position (bytes_eq name) E.families) (position (is_type_named name) E.view) refl refl
+  name_there name = one_there name (position (bytes_eq name) E.families) (position (is_type_named name) E.view) (enumeration_named E.view name) refl refl
 
   -- ---- a written type
 
@@ -71,14 +73,15 @@ module _ (E : Space) (few : length E.view ≤ first_family) where
   abbrev pub IsTypeThere : ArgType → Type 0
   IsTypeThere ty = IfSome (object_of ty) (λ o. IfSome (family_of_type o.0) (λ d. d < length E.families))
 
+  without_there : (ty : ArgType) (h : Option Handle) → IsTypeThere ty → IfOk (without_handle ty h) IsTypeThere
+  without_there ty None there = there
+  without_there ty (Some h) there = tt
+
   object_there : (d : Named) (constant : Bool) (h : Option Handle) → NamesOneThere d → IfOk (object_type d constant h) IsTypeThere
   object_there named.Unknown constant h there = tt
   object_there (named.Object n) constant None there = there
   object_there (named.Object n) constant (Some h) there = there
-
-  without_there : (ty : ArgType) (h : Option Handle) → IsTypeThere ty → IfOk (without_handle ty h) IsTypeThere
-  without_there ty None there = there
-  without_there ty (Some h) there = tt
+  object_there (named.Enumeration n) constant h there = without_there (type.Enumeration n) h tt
 
   kind_there : (text : List ℕ) (y : TypeName) (kind : TokenKind) → IfOk (written_type E text y kind) IsTypeThere
   kind_there text y (k.Primitive p) = without_there (type.Plain p) y.handle tt
@@ -89,6 +92,7 @@ module _ (E : Space) (few : length E.view ≤ first_family) where
   cast_to_there type.Void there = tt
   cast_to_there type.Null there = tt
   cast_to_there (type.Plain p) there = tt
+  cast_to_there (type.Enumeration n) there = tt
   cast_to_there (type.Object n c) there = there
   cast_to_there (type.Handle n c) there = there
 

@@ -15,6 +15,7 @@ use Rattle.ang_types.specs.Overloads.{Params, params_in, params_at}
 use Rattle.ang_types.specs.Best.{best_of}
 use Rattle.ang_types.proofs.BestLaws.{best_of-says}
 use Rattle.ang_view.specs.declared.entry.EntryKind.TheVariants as entry
+use Rattle.ang_view.specs.Named.{values_named}
 use Rattle.ang_names_host.specs.declared.host.HostFunction.{HostFunction}
 use Rattle.ang_names_host.specs.declared.host.HostProperty.{HostProperty}
 use Rattle.ang_names_host.specs.declared.host.Wanted.TheVariants as wanted
@@ -36,9 +37,10 @@ use Rattle.ang_check_context.specs.Scope.{BodyContext, scope_of}
 use Rattle.ang_check_uses.specs.declared.uses.Callable.{Callable}
 use Rattle.ang_check_uses.specs.declared.uses.Called.{Called}
 use Rattle.ang_check_uses.specs.declared.uses.Called.TheVariants as calls
+use Rattle.ang_check_uses.specs.declared.uses.EnumerationValue.{EnumerationValue}
 use Rattle.ang_check_uses.specs.declared.uses.Resolution.{Resolution}
 use Rattle.ang_check_uses.specs.declared.uses.Resolution.TheVariants as resolution
-use Rattle.ang_check_uses.specs.Uses.{host_meant, variable_meant, global_or_host, global_meant, own_function, imported_function, callable_in, callable_at, script_callables, host_callable, maker, factories_of, constructor_of, default_maker, makers_in, makers_for, makers_of, candidates_of, called_at, picked, best_of_those, functions_of, called_by, called_name, property_meant, host_method, host_methods, unmatched, best_method, resolution_of}
+use Rattle.ang_check_uses.specs.Uses.{value_at, one_value, value_among, value_meant, takes_number, host_meant, variable_meant, global_or_host, global_meant, own_function, imported_function, callable_in, callable_at, script_callables, host_callable, maker, factories_of, constructor_of, default_maker, makers_in, makers_for, makers_of, candidates_of, called_at, picked, best_of_those, functions_of, called_by, called_name, property_meant, host_method, host_methods, unmatched, best_method, resolution_of}
 use Rattle.ang_check_body.specs.Typing.{typed_parameter, typed_parameters, this_parameter}
 use Rattle.ang_source.specs.Sound as sound
 use Rattle.ang_source.specs.Sound.{Module, IsVariable, IsStored, IsHostCallee}
@@ -64,26 +66,44 @@ module _ (s : BodyContext) where
   IsMeant n (resolution.Property h) = IsHostProperty s.view entry.Property h
   IsMeant n (resolution.Call c) = Unit {0}
   IsMeant n (resolution.Type k) = Unit {0}
+  IsMeant n (resolution.Enumeration k) = Unit {0}
+  IsMeant n (resolution.Value v) = Unit {0}
   IsMeant n (resolution.Refused why) = Unit {0}
 
-  host_there : (n : ℕ) (g : Option HostProperty) → IfSome g (IsHostProperty s.view entry.Global) → IsMeant n (host_meant g)
-  host_there n None h = tt
-  host_there n (Some g) h = (h.entity, h.writable)
+  -- a value of an enumeration is a number
+  one_value_there : (n : ℕ) (v : Option EnumerationValue) → IsMeant n (one_value v)
+  one_value_there n None = tt
+  one_value_there n (Some v) = tt
 
-  script_there : (n i : ℕ) (g : Option ScriptGlobal) (host : Option HostProperty) → slice_get s.names.globals i ≡ g
-      → IfSome host (IsHostProperty s.view entry.Global) → IsMeant n (variable_meant i g host)
-  script_there n i None host e h = host_there n host h
-  script_there n i (Some g) host e h = let there = slice_get_within s.names.globals i g e in (there, λ writable. there)
+  value_among_there : (n : ℕ) (found : List ℕ) → IsMeant n (value_among s.view found)
+  value_among_there n [] = tt
+  value_among_there n (k ∷ []) = one_value_there n (value_at s.view k)
+  value_among_there n (k ∷ m ∷ rest) = tt
 
-  global_there : (n : ℕ) (o : Option ℕ) (host : Option HostProperty) → IfSome host (IsHostProperty s.view entry.Global)
-      → IsMeant n (global_or_host s.names.globals o host)
-  global_there n None host h = host_there n host h
-  global_there n (Some i) host h = script_there n i (slice_get s.names.globals i) host refl h
+  value_there : (n : ℕ) (name : List ℕ) → IsMeant n (value_meant s.view name)
+  unfolding value_meant
+  value_there n name = value_among_there n (values_named s.view name)
+
+  host_there : (n : ℕ) (otherwise : Resolution) (g : Option HostProperty) → IsMeant n otherwise → IfSome g (IsHostProperty s.view entry.Global)
+      → IsMeant n (host_meant otherwise g)
+  host_there n otherwise None o h = o
+  host_there n otherwise (Some g) o h = (h.entity, h.writable)
+
+  script_there : (n : ℕ) (otherwise : Resolution) (i : ℕ) (g : Option ScriptGlobal) (host : Option HostProperty) → slice_get s.names.globals i ≡ g
+      → IsMeant n otherwise → IfSome host (IsHostProperty s.view entry.Global) → IsMeant n (variable_meant otherwise i g host)
+  script_there n otherwise i None host e o h = host_there n otherwise host o h
+  script_there n otherwise i (Some g) host e o h = let there = slice_get_within s.names.globals i g e in (there, λ writable. there)
+
+  global_there : (n : ℕ) (otherwise : Resolution) (i : Option ℕ) (host : Option HostProperty) → IsMeant n otherwise
+      → IfSome host (IsHostProperty s.view entry.Global) → IsMeant n (global_or_host otherwise s.names.globals i host)
+  global_there n otherwise None host o h = host_there n otherwise host o h
+  global_there n otherwise (Some i) host o h = script_there n otherwise i (slice_get s.names.globals i) host refl o h
 
   pub global_sound : (n : ℕ) (name : List ℕ) → IsMeant n (resolution_of (scope_of s) name asks.Value)
   unfolding global_meant
   global_sound n name =
-      global_there n (global_named s.names.globals name) (property_where (property.Global name) s.view) (property_there s.view (property.Global name))
+      global_there n (value_meant s.view name) (global_named s.names.globals name) (property_where (property.Global name) s.view) (value_there n name)
+      (property_there s.view (property.Global name))
 
   property_or_none : (n : ℕ) (g : Option HostProperty) → IfSome g (IsHostProperty s.view entry.Property) → IsMeant n (property_meant g)
   property_or_none n None h = tt
@@ -225,6 +245,8 @@ module _ (s : BodyContext) where
   IsMeantCall args (resolution.Property h) = Unit {0}
   IsMeantCall args (resolution.Call c) = IsCallable c × (length c.candidate.params ≡ length args)
   IsMeantCall args (resolution.Type k) = Unit {0}
+  IsMeantCall args (resolution.Enumeration k) = Unit {0}
+  IsMeantCall args (resolution.Value v) = Unit {0}
   IsMeantCall args (resolution.Refused why) = Unit {0}
 
   candidate_at : (cs : List Callable) (i : ℕ) (c : Callable) → slice_get cs i ≡ Some c → params_at (candidates_of cs) i ≡ c.candidate.params
@@ -254,8 +276,14 @@ module _ (s : BodyContext) where
   or_unknown args true r h = tt
   or_unknown args false r h = h
 
+  -- an enumeration is no function
+  enumeration_there : (k : ℕ) (args : List ArgType) (b : Bool) → IsMeantCall args (if b then resolution.Enumeration k else resolution.Refused kind.NoMatch)
+  enumeration_there k args true = tt
+  enumeration_there k args false = tt
+
   by_name : IsBuiltContext s → (name : List ℕ) (args : List ArgType) (d : Named) → IsMeantCall args (called_by (scope_of s) name args d)
   by_name built name args (named.Object t) = those_there kind.NoMatch (makers_of (scope_of s) t) args (makers_there built t)
+  by_name built name args (named.Enumeration k) = enumeration_there k args (takes_number args)
   by_name built name args named.Unknown =
       let cs = functions_of (scope_of s) name in
       or_unknown args (is_empty cs) _ (those_there kind.NoMatch cs args (functions_there built name))

@@ -32,7 +32,11 @@ fn made_by_default(
             let object = default_typing(alloc, context, locals, &declared.name, number)?;
             Ok(Some(object.tree))
         }
-        ArgType::Void | ArgType::Null | ArgType::Plain(_) | ArgType::Handle { .. } => Ok(None),
+        ArgType::Void
+        | ArgType::Null
+        | ArgType::Plain(_)
+        | ArgType::Enumeration { .. }
+        | ArgType::Handle { .. } => Ok(None),
     }
 }
 
@@ -49,7 +53,11 @@ fn assigned(
 {
     match ty {
         ArgType::Object { .. } => Err(fault(ErrorKind::NoAssign, equals.place)),
-        ArgType::Void | ArgType::Null | ArgType::Plain(_) | ArgType::Handle { .. } => {
+        ArgType::Void
+        | ArgType::Null
+        | ArgType::Plain(_)
+        | ArgType::Enumeration { .. }
+        | ArgType::Handle { .. } => {
             let value = fit(alloc, lineage, ty, operand)?;
             Ok(Some(value))
         }
@@ -74,10 +82,11 @@ fn made_with(
             let object = made_typing(alloc, context, locals, &declared.name, number, operands)?;
             Ok(Some(object.tree))
         }
-        ArgType::Void | ArgType::Null | ArgType::Plain(_) | ArgType::Handle { .. } => Err(refused(
-            ErrorKind::NoMatch,
-            &declared.name,
-        )),
+        ArgType::Void
+        | ArgType::Null
+        | ArgType::Plain(_)
+        | ArgType::Enumeration { .. }
+        | ArgType::Handle { .. } => Err(refused(ErrorKind::NoMatch, &declared.name)),
     }
 }
 

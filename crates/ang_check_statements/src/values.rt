@@ -133,9 +133,11 @@ fn value_returned(
 {
     match ty {
         ArgType::Void => Err(fault(ErrorKind::BadConversion, operand.place)),
-        ArgType::Null | ArgType::Plain(_) | ArgType::Object { .. } | ArgType::Handle { .. } => fit(
-            alloc, lineage, ty, operand,
-        ),
+        ArgType::Null
+        | ArgType::Plain(_)
+        | ArgType::Enumeration { .. }
+        | ArgType::Object { .. }
+        | ArgType::Handle { .. } => fit(alloc, lineage, ty, operand),
     }
 }
 
@@ -144,9 +146,11 @@ fn nothing_returned(ty: ArgType, word: &Token) -> Result<Option<Box<Expression>>
 {
     match ty {
         ArgType::Void => Ok(None),
-        ArgType::Null | ArgType::Plain(_) | ArgType::Object { .. } | ArgType::Handle { .. } => Err(
-            fault(ErrorKind::BadConversion, word.place),
-        ),
+        ArgType::Null
+        | ArgType::Plain(_)
+        | ArgType::Enumeration { .. }
+        | ArgType::Object { .. }
+        | ArgType::Handle { .. } => Err(fault(ErrorKind::BadConversion, word.place)),
     }
 }
 

@@ -5,6 +5,7 @@ use Rattle.std.specs.List.{position, flat_map}
 use Rattle.ang_kinds.specs.declared.error.ErrorKind.{ErrorKind}
 use Rattle.ang_kinds.specs.declared.error.ErrorKind.TheVariants as kind
 use Rattle.ang_kinds.specs.declared.place.Place.{Place}
+use Rattle.ang_kinds.specs.declared.primitive.Primitive.TheVariants as p
 use Rattle.ang_kinds.specs.declared.types.Pass.{Pass}
 use Rattle.ang_kinds.specs.declared.types.Pass.TheVariants as pass
 use Rattle.ang_lex.specs.declared.token.Token.{Token}
@@ -30,7 +31,7 @@ use Rattle.ang_check_uses.specs.declared.uses.Resolution.TheVariants as resoluti
 use Rattle.ang_names_known.specs.Items.{is_empty}
 use Rattle.ang_names_known.specs.Lookup.{FoundMethod, is_under, methods_named, parameters_of}
 use Rattle.ang_names_known.specs.Spaces.{family_type, family_of_type}
-use Rattle.ang_check_operand.specs.Operands.{Operand, operand, fit, object_of, site_in}
+use Rattle.ang_check_operand.specs.Operands.{Operand, operand, fit, integer, object_of, site_in}
 use Rattle.ang_check_operand.specs.Refusals.{Typing, ◌>>=◌, fault, refused, use_refused}
 use Rattle.ang_check_context.specs.Access.{if_in_reach}
 use Rattle.ang_check_context.specs.Names.{this_operand}
@@ -57,6 +58,7 @@ abbrev pub is_out_type : ArgType → Bool
 is_out_type type.Void = false
 is_out_type type.Null = false
 is_out_type (type.Plain p) = true
+is_out_type (type.Enumeration n) = true
 is_out_type (type.Object n c) = false
 is_out_type (type.Handle n c) = true
 
@@ -166,6 +168,22 @@ own_method s d n c x receiver operands =
 
 -- ---- a bare call
 
+-- `E(x)` keeps the low 32 bits of a number.
+abbrev pub enumerated : Place → ℕ → Operand → Typing Operand
+enumerated place n a = do
+  q ← integer a
+  Ok (operand place (type.Enumeration n) (t.convert q p.I32 a.tree))
+
+abbrev pub enumerated_of : Token → ℕ → List Operand → Typing Operand
+enumerated_of x n [] = Err (refused kind.NoMatch x)
+enumerated_of x n (a ∷ []) = enumerated x.place n a
+enumerated_of x n (a ∷ b ∷ rest) = Err (refused kind.NoMatch x)
+
+-- A bare call that was resolved: of an enumeration's name it is a conversion.
+abbrev pub bare_use : BodyContext → Token → Asks → Bool → List Operand → Resolution → Typing Operand
+bare_use s x a there operands (resolution.Enumeration n) = enumerated_of x n operands
+bare_use s x a there operands r = called_use s x.place x a there operands r
+
 abbrev pub named_methods : BodyContext → Option Within → List ℕ → Option (Within × List FoundMethod)
 named_methods s None name = None
 named_methods s (Some w) name =
@@ -175,11 +193,11 @@ abbrev pub call_by : BodyContext → List LocalVariable → Token → List Opera
 call_by s ps x operands None =
     let name = text_of s.text x in
     let a = asks.Call (types_of operands) in
-    called_use s x.place x a (is_there s ps name) operands (resolution_of (scope_of s) name a)
+    bare_use s x a (is_there s ps name) operands (resolution_of (scope_of s) name a)
 call_by s ps x operands (Some m) = own_method s m.0.family (family_type m.0.family) m.0.read_only x (this_operand x.place m.0) operands
 
--- A name with typed arguments: inside a class its methods, if one has the name, else what makes an object of the type of the name, else
--- functions. Locals and fields of the name play no part.
+-- A name with typed arguments: inside a class its methods, if one has the name, else a conversion to the enumeration or what makes an object
+-- of the type of the name, else functions. Locals and fields of the name play no part.
 unfoldable pub call_typing : BodyContext → List LocalVariable → Token → List Operand → Typing Operand
 call_typing s ps x operands = call_by s ps x operands (named_methods s s.within (text_of s.text x))
 

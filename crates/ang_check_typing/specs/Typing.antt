@@ -4,14 +4,14 @@ use Rattle.std.specs.Prelude.{List, [], ◌∷◌, Ok}
 use Rattle.ang_lex.specs.declared.token.Token.{Token}
 use Rattle.ang_lex.specs.declared.token.TokenKind.{TokenKind}
 use Rattle.ang_lex.specs.declared.token.TokenKind.TheVariants as k
-use Rattle.ang_tree.specs.Tree.{Tree, Args, Trees, literal, name, call, scoped_call, cast, convert, group, postfix, member, method_call, prefix, binary, conditional, assignment, arguments, none, more}
+use Rattle.ang_tree.specs.Tree.{Tree, Args, Trees, literal, name, call, scoped_call, scoped_name, cast, convert, group, postfix, member, method_call, prefix, binary, conditional, assignment, arguments, none, more}
 use Rattle.ang_check_context.specs.declared.scope.LocalVariable.{LocalVariable}
 use Rattle.ang_check_operand.specs.Operands.{Operand}
 use Rattle.ang_check_operand.specs.Refusals.{Typing, ◌>>=◌}
 use Rattle.ang_check_operators.specs.Operations.{literal_typing, binary_typing, prefix_typing, postfix_typing, convert_typing, group_typing, conditional_typing, assignment_typing}
 use Rattle.ang_check_context.specs.Casts.{cast_type, cast_typing}
 use Rattle.ang_check_context.specs.Members.{member_typing}
-use Rattle.ang_check_context.specs.Names.{name_typing, this_typing}
+use Rattle.ang_check_context.specs.Names.{name_typing, scoped_name_typing, this_typing}
 use Rattle.ang_check_context.specs.Scope.{BodyContext}
 use Rattle.ang_check_typing.specs.Calls.{call_typing, scoped_typing, method_call_typing}
 use Rattle.ang_names_written.specs.Sources.{text_of}
@@ -33,6 +33,7 @@ module _ (s : BodyContext) (ps : List LocalVariable) where
     typing_of (scoped_call c scope x es) = do
       operands ← typing_of_args es
       scoped_typing s c x operands
+    typing_of (scoped_name c scope x) = scoped_name_typing s ps c x
     typing_of (cast word less y greater left e right) = do
       ty ← cast_type s ps y
       a ← typing_of e

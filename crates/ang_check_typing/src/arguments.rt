@@ -49,7 +49,7 @@ fn is_out_type(ty: ArgType) -> bool
     ensures exact { result ≡ spec.is_out_type ty }
 {
     match ty {
-        ArgType::Plain(_) | ArgType::Handle { .. } => true,
+        ArgType::Plain(_) | ArgType::Enumeration { .. } | ArgType::Handle { .. } => true,
         ArgType::Void | ArgType::Null | ArgType::Object { .. } => false,
     }
 }

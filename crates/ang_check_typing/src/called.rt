@@ -136,7 +136,11 @@ pub fn called_bare(
     match resolution {
         Resolution::Call(callable) => called(alloc, context, site, callable, operands),
         Resolution::Refused(kind) => Err(bare_refused(context, locals, kind, &site.name, asks)),
-        Resolution::Variable(..) | Resolution::Property(_) | Resolution::Type(_) => {
+        Resolution::Variable(..)
+        | Resolution::Property(_)
+        | Resolution::Type(_)
+        | Resolution::Enumeration(_)
+        | Resolution::Value(_) => {
             let kind = ErrorKind::UnknownName;
             Err(bare_refused(context, locals, kind, &site.name, asks))
         }
@@ -158,7 +162,11 @@ pub fn called_member(
     match resolution {
         Resolution::Call(callable) => called(alloc, context, site, callable, operands),
         Resolution::Refused(kind) => Err(use_refused(kind, &site.name, asks, false)),
-        Resolution::Variable(..) | Resolution::Property(_) | Resolution::Type(_) => {
+        Resolution::Variable(..)
+        | Resolution::Property(_)
+        | Resolution::Type(_)
+        | Resolution::Enumeration(_)
+        | Resolution::Value(_) => {
             Err(use_refused(ErrorKind::UnknownName, &site.name, asks, false))
         }
     }
@@ -178,9 +186,11 @@ pub fn called_own(
     match resolution {
         Resolution::Call(callable) => called(alloc, context, site, callable, operands),
         Resolution::Refused(kind) => Err(refused(kind, &site.name)),
-        Resolution::Variable(..) | Resolution::Property(_) | Resolution::Type(_) => {
-            Err(refused(ErrorKind::UnknownName, &site.name))
-        }
+        Resolution::Variable(..)
+        | Resolution::Property(_)
+        | Resolution::Type(_)
+        | Resolution::Enumeration(_)
+        | Resolution::Value(_) => { Err(refused(ErrorKind::UnknownName, &site.name)) }
     }
 }
 

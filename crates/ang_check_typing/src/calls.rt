@@ -14,6 +14,7 @@ ghost use Rattle.ang_check_uses.specs.Uses as uses;
 ghost use Rattle.ang_names_written.specs.Sources as sources;
 
 use crate::called::{CallSite, called_bare};
+use crate::enumerated::enumerated_of;
 use crate::methods::{called_on, direct_meant, own_method};
 use ang_check_context::{
     BodyContext, Locals, Receiver, Within, receiver_within, resolved, this_operand, types_of,
@@ -47,7 +48,34 @@ fn named_methods<'a>(
     Ok(Some((within, methods)))
 }
 
-/// A call of a function by its name, or of what makes an object of the type of the name.
+/// A call by a bare name that was resolved, or the refusal of the use. Of an enumeration's name it is a conversion.
+fn bare_use(
+    alloc: Global,
+    context: &BodyContext<'_>,
+    locals: &Locals<'_>,
+    name: &Token,
+    asks: Asks,
+    operands: Vec<Operand>,
+    resolution: Resolution,
+) -> Result<Operand, Stop>
+    ensures exact { Gives view_operand result (spec.bare_use context.now name.now asks
+        (scopes.is_there context.now locals.now (sources.text_of context.now.text name.now))
+        (view_operands operands.items) resolution) }
+{
+    match resolution {
+        Resolution::Enumeration(number) => enumerated_of(alloc, name, number, operands),
+        resolution => {
+            let site = CallSite {
+                place: name.place,
+                name: *name,
+            };
+            called_bare(alloc, context, locals, site, asks, operands, resolution)
+        }
+    }
+}
+
+/// A call by a bare name that no method of the class has: a conversion to an enumeration, a function, or what makes an
+/// object of the type of the name.
 fn function_call(
     alloc: Global,
     context: &BodyContext<'_>,
@@ -55,7 +83,7 @@ fn function_call(
     name: &Token,
     operands: Vec<Operand>,
 ) -> Result<Operand, Stop>
-    ensures exact { Gives view_operand result (spec.called_use context.now name.now.place name.now
+    ensures exact { Gives view_operand result (spec.bare_use context.now name.now
         (Asks.Call (all_types (view_operands operands.items)))
         (scopes.is_there context.now locals.now (sources.text_of context.now.text name.now))
         (view_operands operands.items)
@@ -66,11 +94,7 @@ fn function_call(
     let types = types_of(alloc, operands.as_slice())?;
     let asks = Asks::Call(List::from_vec(types));
     let resolution = resolved(alloc, context, name, &asks)?;
-    let site = CallSite {
-        place: name.place,
-        name: *name,
-    };
-    called_bare(alloc, context, locals, site, asks, operands, resolution)
+    bare_use(alloc, context, locals, name, asks, operands, resolution)
 }
 
 /// A call of one of these methods on `this`.
@@ -95,8 +119,9 @@ fn method_of_this(
     own_method(alloc, context, methods, on, name, receiver, operands)
 }
 
-/// A name with typed arguments: inside a class its methods, if one has the name, else what makes an
-/// object of the type of the name, else functions. Locals and fields of the name play no part.
+/// A name with typed arguments: inside a class its methods, if one has the name, else a conversion
+/// to the enumeration or what makes an object of the type of the name, else functions. Locals and
+/// fields of the name play no part.
 #[tactic(auto, unfolding(crate::specs::Calls::call_typing))]
 pub fn call(
     alloc: Global,

@@ -9,7 +9,9 @@ ghost use Rattle.ang_check_typing.specs.Typing as spec;
 
 use crate::calls::{call, scoped_call};
 use crate::object_methods::method_call;
-use ang_check_context::{BodyContext, Locals, cast, cast_type, member_of, named, this};
+use ang_check_context::{
+    BodyContext, Locals, cast, cast_type, member_of, named, scoped_name, this,
+};
 use ang_check_operand::{Operand, Stop};
 use ang_check_operators::{
     assignment, binary, conditional, convert, group, literal, postfix, prefix,
@@ -79,7 +81,8 @@ struct Asked {
 /// The first refusal in reading order: operands from left to right, then the operation. That of a
 /// literal, a conversion or an operator comes from a function of `ang_check_operators`, which says
 /// when. A name, a member or a method that is not known is `UnknownName` at the name, one that
-/// can't be used there `Private` or `Protected`; a call is `NoMatch`, `Ambiguous` or `Const` at the
+/// can't be used there `Private` or `Protected`, and the bare name of a value that several
+/// enumerations have `Ambiguous`; a call is `NoMatch`, `Ambiguous` or `Const` at the
 /// name, then `BadOut` or `BadConversion` at an argument. A cast is `UnknownType` or `BadType` at
 /// the type's name, then `BadConversion` at its operand.
 ///
@@ -110,6 +113,11 @@ pub fn typing(
             let operands = typing_of_all(alloc, context, locals, arguments.items.as_slice())?;
             scoped_call(alloc, context, class, name, operands)
         }
+        Expression::ScopedName {
+            enumeration,
+            name,
+            ..
+        } => scoped_name(alloc, context, locals, enumeration, name),
         Expression::Cast { .. } | Expression::Member { .. } | Expression::MethodCall { .. } => {
             typing_over_object(alloc, context, locals, expression)
         }

@@ -5,6 +5,7 @@
 mod arguments;
 mod called;
 mod calls;
+mod enumerated;
 mod expressions;
 mod made;
 mod methods;

@@ -5,6 +5,7 @@ use Rattle.std.specs.Prelude.{ℕ, Bool, true, false, not, ◌&&◌, if◌then�
 use Rattle.std.specs.List.{flat_map}
 use Rattle.ang_kinds.specs.declared.error.ErrorKind.{ErrorKind}
 use Rattle.ang_kinds.specs.declared.error.ErrorKind.TheVariants as kind
+use Rattle.ang_kinds.specs.declared.mask.EntityNo.{EntityNo}
 use Rattle.ang_kinds.specs.declared.types.Pass.TheVariants as pass
 use Rattle.ang_types.specs.declared.arg_type.ArgType.{ArgType}
 use Rattle.ang_types.specs.declared.arg_type.ArgType.TheVariants as type
@@ -14,11 +15,16 @@ use Rattle.ang_types.specs.declared.candidate.Candidate.{Candidate}
 use Rattle.ang_types.specs.declared.candidate.Pick.{Pick}
 use Rattle.ang_types.specs.declared.candidate.Pick.TheVariants as pick
 use Rattle.ang_types.specs.Best.{best_of}
+use Rattle.ang_types.specs.Integers.{is_integer}
 use Rattle.ang_types.specs.Ranks.{Ancestors}
 use Rattle.ang_typed.specs.declared.expression.Callee.TheVariants as callee
 use Rattle.ang_typed.specs.declared.expression.HostEntity.{HostEntity}
 use Rattle.ang_typed.specs.declared.expression.Variable.TheVariants as variable
-use Rattle.ang_view.specs.Registration.{RegistrationList}
+use Rattle.ang_view.specs.declared.entry.Entry.{Entry}
+use Rattle.ang_view.specs.declared.entry.EntryKind.{EntryKind}
+use Rattle.ang_view.specs.declared.entry.EntryKind.TheVariants as entry
+use Rattle.ang_view.specs.Named.{members, values_named}
+use Rattle.ang_view.specs.Registration.{RegistrationList, entry_at}
 use Rattle.ang_names_host.specs.declared.host.HostFunction.{HostFunction}
 use Rattle.ang_names_host.specs.declared.host.HostProperty.{HostProperty}
 use Rattle.ang_names_known.specs.declared.names.Constructor.{Constructor}
@@ -30,6 +36,7 @@ use Rattle.ang_names_known.specs.declared.names.ScriptFunction.{ScriptFunction}
 use Rattle.ang_names_known.specs.declared.names.ScriptGlobal.{ScriptGlobal}
 use Rattle.ang_check_uses.specs.declared.uses.Callable.{Callable}
 use Rattle.ang_check_uses.specs.declared.uses.Called.TheVariants as called
+use Rattle.ang_check_uses.specs.declared.uses.EnumerationValue.{EnumerationValue}
 use Rattle.ang_check_uses.specs.declared.uses.Resolution.{Resolution}
 use Rattle.ang_check_uses.specs.declared.uses.Resolution.TheVariants as resolution
 use Rattle.ang_names_host.specs.declared.host.Wanted.TheVariants as wanted
@@ -52,25 +59,68 @@ abbrev pub why : Resolution → ErrorKind
 why (resolution.Refused k) = k
 why _ = kind.UnknownName
 
--- ---- a bare name: a global of the script, else a global property that the module sees
+-- ---- values of enumerations
+
+-- the entry of number n as a value of the enumeration that it names
+abbrev pub value_by : ℕ → EntryKind → Option EntityNo → Option EnumerationValue
+value_by n entry.HostType owner = None
+value_by n entry.Factory owner = None
+value_by n entry.Method owner = None
+value_by n entry.Property owner = None
+value_by n entry.Function owner = None
+value_by n entry.Global owner = None
+value_by n entry.Enumeration owner = None
+value_by n (entry.EnumValue v) None = None
+value_by n (entry.EnumValue v) (Some e) = Some (record { entity = record { 0 = n }; enumeration = e.0; number = v })
+
+abbrev pub value_in : ℕ → Option Entry → Option EnumerationValue
+value_in n None = None
+value_in n (Some x) = value_by n x.kind x.owner
+
+abbrev pub value_at : RegistrationList → ℕ → Option EnumerationValue
+value_at V n = value_in n (entry_at V n)
+
+abbrev pub first_value : RegistrationList → List ℕ → Option EnumerationValue
+first_value V [] = None
+first_value V (n ∷ rest) = value_at V n
+
+-- the value of this name that the enumeration of number n has; it has one of a name at most
+unfoldable pub value_of : RegistrationList → ℕ → List ℕ → Option EnumerationValue
+value_of V n name = first_value V (members V n name)
+
+abbrev pub one_value : Option EnumerationValue → Resolution
+one_value None = resolution.Refused kind.UnknownName
+one_value (Some v) = resolution.Value v
+
+abbrev pub value_among : RegistrationList → List ℕ → Resolution
+value_among V [] = resolution.Refused kind.UnknownName
+value_among V (n ∷ []) = one_value (value_at V n)
+value_among V (n ∷ m ∷ rest) = resolution.Refused kind.Ambiguous
+
+-- the value of this name in the one enumeration that has it
+unfoldable pub value_meant : RegistrationList → List ℕ → Resolution
+value_meant V name = value_among V (values_named V name)
+
+-- ---- a bare name: a global of the script, else a global property that the module sees, else a value of an enumeration
 
 abbrev pub entity_of : HostProperty → HostEntity
 entity_of h = record { entity = h.entity; driver = h.driver; f = h.f }
 
-abbrev pub host_meant : Option HostProperty → Resolution
-host_meant None = resolution.Refused kind.UnknownName
-host_meant (Some h) = resolution.Variable (variable.Property (entity_of h)) h.ty h.read_only
+abbrev pub host_meant : Resolution → Option HostProperty → Resolution
+host_meant otherwise None = otherwise
+host_meant otherwise (Some h) = resolution.Variable (variable.Property (entity_of h)) h.ty h.read_only
 
-abbrev pub variable_meant : ℕ → Option ScriptGlobal → Option HostProperty → Resolution
-variable_meant n None host = host_meant host
-variable_meant n (Some g) host = resolution.Variable (variable.Global n) g.written.ty (is_read_only g.written)
+abbrev pub variable_meant : Resolution → ℕ → Option ScriptGlobal → Option HostProperty → Resolution
+variable_meant otherwise n None host = host_meant otherwise host
+variable_meant otherwise n (Some g) host = resolution.Variable (variable.Global n) g.written.ty (is_read_only g.written)
 
-abbrev pub global_or_host : List ScriptGlobal → Option ℕ → Option HostProperty → Resolution
-global_or_host gs None host = host_meant host
-global_or_host gs (Some n) host = variable_meant n (slice_get gs n) host
+abbrev pub global_or_host : Resolution → List ScriptGlobal → Option ℕ → Option HostProperty → Resolution
+global_or_host otherwise gs None host = host_meant otherwise host
+global_or_host otherwise gs (Some n) host = variable_meant otherwise n (slice_get gs n) host
 
 unfoldable pub global_meant : Scope → List ℕ → Resolution
-global_meant s name = global_or_host s.names.globals (global_named s.names.globals name) (property_where (property.Global name) s.view)
+global_meant s name =
+    global_or_host (value_meant s.view name) s.names.globals (global_named s.names.globals name) (property_where (property.Global name) s.view)
 
 -- ---- what can be called
 
@@ -165,7 +215,25 @@ candidates_of cs = map (λ (c : Callable). c.candidate) cs
 unfoldable pub best_of_those : Ancestors → ErrorKind → List Callable → List ArgType → Resolution
 best_of_those ancestors unviable cs args = picked unviable cs (best_of ancestors (candidates_of cs) args)
 
--- ---- a bare call: what makes an object of the type of the name, else the functions of the name
+-- ---- a bare call: of an enumeration's name a conversion, else what makes an object of the type of the name, else the functions of the name
+
+-- an integer type or an enumeration
+abbrev pub is_numeric : ArgType → Bool
+is_numeric type.Void = false
+is_numeric type.Null = false
+is_numeric (type.Plain p) = is_integer p
+is_numeric (type.Enumeration n) = true
+is_numeric (type.Object n c) = false
+is_numeric (type.Handle n c) = false
+
+-- one integer, or one value of an enumeration
+abbrev pub takes_number : List ArgType → Bool
+takes_number [] = false
+takes_number (ty ∷ []) = is_numeric ty
+takes_number (ty ∷ other ∷ rest) = false
+
+abbrev pub enumeration_called : ℕ → List ArgType → Resolution
+enumeration_called n args = if takes_number args then resolution.Enumeration n else resolution.Refused kind.NoMatch
 
 abbrev pub functions_of : Scope → List ℕ → List Callable
 functions_of s name = script_callables s.names name ++ map host_callable (host_where (wanted.Function name) s.view)
@@ -175,6 +243,7 @@ best_function ancestors cs args = if is_empty cs then resolution.Refused kind.Un
 
 abbrev pub called_by : Scope → List ℕ → List ArgType → Named → Resolution
 called_by s name args (named.Object n) = best_of_those s.ancestors kind.NoMatch (makers_of s n) args
+called_by s name args (named.Enumeration n) = enumeration_called n args
 called_by s name args named.Unknown = best_function s.ancestors (functions_of s name) args
 
 unfoldable pub called_name : Scope → List ℕ → List ArgType → Resolution
@@ -185,6 +254,13 @@ called_name s name args = called_by s name args (type_of_name (space_of_names s.
 abbrev pub type_meant : Named → Resolution
 type_meant named.Unknown = resolution.Refused kind.UnknownType
 type_meant (named.Object n) = resolution.Type n
+type_meant (named.Enumeration n) = resolution.Enumeration n
+
+-- in front of `::`
+abbrev pub enumeration_meant : Named → Resolution
+enumeration_meant named.Unknown = resolution.Refused kind.UnknownName
+enumeration_meant (named.Object n) = resolution.Refused kind.UnknownName
+enumeration_meant (named.Enumeration n) = resolution.Enumeration n
 
 -- ---- members of a host type
 
@@ -221,6 +297,7 @@ best_method ancestors cs n c args =
 abbrev pub resolution_of : Scope → List ℕ → Asks → Resolution
 resolution_of s name asks.Value = global_meant s name
 resolution_of s name asks.Type = type_meant (type_of_name (space_of_names s.view s.names) name)
+resolution_of s name asks.Enumeration = enumeration_meant (type_of_name (space_of_names s.view s.names) name)
 resolution_of s name (asks.Call args) = called_name s name args
 resolution_of s name (asks.Make n args) = best_of_those s.ancestors kind.NoMatch (factories_of s.view n) args
 resolution_of s name (asks.Default n) = best_of_those s.ancestors kind.NoDefault (factories_of s.view n) []

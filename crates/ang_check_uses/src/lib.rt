@@ -12,6 +12,7 @@ mod resolving;
 mod scope;
 mod scripts;
 mod uses;
+mod values;
 
 pub use callables::{Callables, Head};
 pub use hosts::{entity_of, host_methods, params_with_receiver};
@@ -20,4 +21,5 @@ pub use picking::{best_method, best_of_those, types_with_receiver};
 pub use resolving::{resolution_of, why};
 pub use scope::Scope;
 pub use scripts::functions_of;
-pub use uses::{Callable, Called, Reach, Resolution};
+pub use uses::{Callable, Called, EnumerationValue, Reach, Resolution};
+pub use values::{takes_number, value_of};

@@ -11,11 +11,13 @@ use crate::picking::{best_function, best_method, best_of_those};
 use crate::scope::Scope;
 use crate::scripts::functions_of;
 use crate::uses::Resolution;
+use crate::values::{enumeration_called, value_meant};
 use ang_kinds::ErrorKind;
 use ang_names_host::{HostProperty, WantedProperty, property_where};
 use ang_names_known::{Named, ScriptGlobal, Space, Text, is_read_only};
 use ang_typed::Variable;
 use ang_types::{ArgType, Asks};
+use ang_view::View;
 use std::alloc::{AllocError, Global};
 
 /// Why a use means nothing; where it means what can't stand there no such name is known. It takes no memory.
@@ -27,15 +29,17 @@ pub fn why(resolution: Resolution) -> ErrorKind
         Resolution::Variable(..)
         | Resolution::Property(_)
         | Resolution::Call(_)
-        | Resolution::Type(_) => ErrorKind::UnknownName,
+        | Resolution::Type(_)
+        | Resolution::Enumeration(_)
+        | Resolution::Value(_) => ErrorKind::UnknownName,
     }
 }
 
-fn host_meant(found: Option<HostProperty>) -> Resolution
-    ensures exact { result ≡ spec.host_meant found }
+fn host_meant(view: &View, name: &[u8], found: Option<HostProperty>) -> Resolution
+    ensures exact { result ≡ spec.host_meant (spec.value_meant view.now name.now) found }
 {
     match found {
-        None => Resolution::Refused(ErrorKind::UnknownName),
+        None => value_meant(view, name),
         Some(found) => {
             let variable = Variable::Property(entity_of(found));
             Resolution::Variable(variable, found.ty, found.read_only)
@@ -44,17 +48,20 @@ fn host_meant(found: Option<HostProperty>) -> Resolution
 }
 
 fn global_or_host(
+    view: &View,
+    name: &[u8],
     globals: &[ScriptGlobal],
     number: Option<usize>,
     hosts: Option<HostProperty>,
 ) -> Resolution
-    ensures exact { result ≡ spec.global_or_host globals.now number hosts }
+    ensures exact { result ≡ spec.global_or_host (spec.value_meant view.now name.now) globals.now
+        number hosts }
 {
     let Some(number) = number else {
-        return host_meant(hosts);
+        return host_meant(view, name, hosts);
     };
     match globals.get(number) {
-        None => host_meant(hosts),
+        None => host_meant(view, name, hosts),
         Some(global) => {
             let read_only = is_read_only(global.written);
             Resolution::Variable(Variable::Global(number), global.written.ty, read_only)
@@ -67,8 +74,9 @@ fn global_meant(scope: &Scope<'_>, name: &[u8]) -> Resolution
     ensures exact { result ≡ spec.global_meant scope.now name.now }
 {
     let names = scope.names();
-    let hosts = property_where(scope.view(), &WantedProperty::Global(Text::new(name)));
-    global_or_host(names.globals(), names.global_named(name), hosts)
+    let view = scope.view();
+    let hosts = property_where(view, &WantedProperty::Global(Text::new(name)));
+    global_or_host(view, name, names.globals(), names.global_named(name), hosts)
 }
 
 /// What the name means as a type.
@@ -86,6 +94,17 @@ fn type_meant(named: Named) -> Resolution
     match named {
         Named::Unknown => Resolution::Refused(ErrorKind::UnknownType),
         Named::Object(number) => Resolution::Type(number),
+        Named::Enumeration(number) => Resolution::Enumeration(number),
+    }
+}
+
+/// What the name in front of a `::` means where it means this as a type.
+fn enumeration_meant(named: Named) -> Resolution
+    ensures exact { result ≡ spec.enumeration_meant named }
+{
+    match named {
+        Named::Unknown | Named::Object(_) => Resolution::Refused(ErrorKind::UnknownName),
+        Named::Enumeration(number) => Resolution::Enumeration(number),
     }
 }
 
@@ -107,7 +126,8 @@ fn property_of(scope: &Scope<'_>, number: u32, name: &[u8]) -> Option<HostProper
     )
 }
 
-/// What a call of a bare name means: of a type's name what makes an object, else a function.
+/// What a call of a bare name means: of an enumeration's name a conversion, of an object type's what makes an object, else
+/// a function.
 #[tactic(auto, unfolding(crate::specs::Uses::called_name))]
 fn called_name(
     alloc: Global,
@@ -122,6 +142,7 @@ fn called_name(
             let makers = makers_of(alloc, scope, number)?;
             Ok(best_of_those(scope.lineage(), ErrorKind::NoMatch, makers, args))
         }
+        Named::Enumeration(number) => Ok(enumeration_called(number, args)),
         Named::Unknown => {
             let functions = functions_of(alloc, scope, name)?;
             Ok(best_function(scope.lineage(), functions, args))
@@ -174,6 +195,7 @@ pub fn resolution_of(
     match asks {
         Asks::Value => Ok(global_meant(scope, name)),
         Asks::Type => Ok(type_meant(type_named(scope, name))),
+        Asks::Enumeration => Ok(enumeration_meant(type_named(scope, name))),
         Asks::Call(args) => called_name(alloc, scope, name, args.as_slice()),
         Asks::Make(number, args) => {
             made(alloc, scope, ErrorKind::NoMatch, *number, args.as_slice())

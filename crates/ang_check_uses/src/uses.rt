@@ -1,5 +1,5 @@
 //! What a use of a name means.
-use ang_kinds::ErrorKind;
+use ang_kinds::{EntityNo, ErrorKind};
 use ang_names_host::HostProperty;
 use ang_names_known::Access;
 use ang_typed::{Callee, HostEntity, Variable};
@@ -38,6 +38,17 @@ pub struct Callable {
     pub reach: Option<Reach>,
 }
 
+/// A value of an enumeration of the host.
+#[derive(Clone, Copy, PartialEq, Eq, Debug)]
+pub struct EnumerationValue {
+    /// Its entry.
+    pub entity: EntityNo,
+    /// The number of its enumeration.
+    pub enumeration: u32,
+    /// Its number.
+    pub number: i32,
+}
+
 /// What a use means.
 #[derive(Drop)]
 pub enum Resolution {
@@ -49,6 +60,10 @@ pub enum Resolution {
     Call(Callable),
     /// The object type of this number.
     Type(u32),
+    /// The enumeration of this number: as a type, in front of `::`, or where it is called to convert an integer.
+    Enumeration(u32),
+    /// A value of an enumeration.
+    Value(EnumerationValue),
     /// Nothing, and why.
     Refused(ErrorKind),
 }

@@ -28,18 +28,23 @@ abbrev pub is_auto_handle : Option HostHandle → Bool
 is_auto_handle None = false
 is_auto_handle (Some h) = is_some h.plus && is_none h.constant
 
--- A parameter's type is a primitive type, `T@+` or `const T@+`.
+-- the word of a primitive type, or a name, which may be an enumeration's
+abbrev pub is_value_kind : TokenKind → Bool
+is_value_kind kind = primitive_kind kind || is_name kind
+
+-- A parameter's type is a primitive type, a bare name, `T@+` or `const T@+`. Whether an enumeration has the name is the
+-- registry's to say.
 abbrev pub is_parameter_type : HostType → Bool
 is_parameter_type y =
-    (primitive_kind y.name.kind && is_none y.constant && is_none y.handle) || (is_name y.name.kind && is_auto_handle y.handle)
+    (is_value_kind y.name.kind && is_none y.constant && is_none y.handle) || (is_name y.name.kind && is_auto_handle y.handle)
 
 -- A result's type may be `void` too.
 abbrev pub is_result_type : HostType → Bool
 is_result_type y = (is_void y.name.kind && is_none y.constant && is_none y.handle) || is_parameter_type y
 
--- A property's type is a primitive type, which may be `const`.
+-- A property's type is a primitive type or a bare name, which may be `const`.
 abbrev pub is_property_type : HostType → Bool
-is_property_type y = primitive_kind y.name.kind && is_none y.handle
+is_property_type y = is_value_kind y.name.kind && is_none y.handle
 
 -- A parameter is passed by value.
 abbrev pub is_parameter : HostParameter → Bool
@@ -92,7 +97,7 @@ type_by text y (k.Primitive p) = type.Plain p
 type_by text y k.Void = type.Void
 type_by text y _ = object_of text y
 
--- The type that is written. `int32` is `int`, and `uint32` is `uint`.
+-- The type that is written. `int32` is `int`, and `uint32` is `uint`. A bare name is an object by value, whatever has the name.
 abbrev pub type_of : List ℕ → HostType → TypeRef
 type_of text y = type_by text y y.name.kind
 
@@ -109,9 +114,9 @@ function_signature text f = record {
   read_only = is_some f.constant;
 }
 
--- A primitive type has its `const` in front of it: what is of that type is read only.
-abbrev pub is_const_primitive : HostType → Bool
-is_const_primitive y = primitive_kind y.name.kind && is_some y.constant
+-- A primitive type or a bare name has its `const` in front of it: what is of that type is read only.
+abbrev pub is_const_value : HostType → Bool
+is_const_value y = is_value_kind y.name.kind && is_none y.handle && is_some y.constant
 
 -- A property has its type as the result.
 abbrev pub property_signature : List ℕ → HostProperty → Signature
@@ -119,9 +124,9 @@ property_signature text p = record {
   name = text_of text p.name;
   result = type_of text p.declared_type;
   params = [];
-  read_only = is_const_primitive p.declared_type;
+  read_only = is_const_value p.declared_type;
 }
 
 -- A type that stands alone declares what a property of that type would, without a name.
 abbrev pub type_signature : List ℕ → HostType → Signature
-type_signature text y = record { name = []; result = type_of text y; params = []; read_only = is_const_primitive y }
+type_signature text y = record { name = []; result = type_of text y; params = []; read_only = is_const_value y }

@@ -31,12 +31,12 @@ fn type_in(alloc: Global, text: &[u8]) -> Result<Signature, DeclError>
 
 /// The type that the text is, as the result of a signature without a name: `const Cell@+`.
 ///
-/// The `const` of a primitive type makes the signature read only.
+/// The `const` of a primitive type or a bare name makes the signature read only. A bare name is an object by value.
 ///
 /// # Errors
 ///
 /// `Syntax` where the text is no type. `Unsupported` where it is one that no declaration of a host can
-/// have, as `Cell`, `Cell@ const` or `int@`. `Memory` only where a growth was refused.
+/// have, as `Cell@ const` or `int@`. `Memory` only where a growth was refused.
 pub fn parse_type(alloc: Global, text: &[u8]) -> Result<Signature, DeclError>
     ensures signature { IfOk result
         (Declares SpellsType spec.is_type_left_out spec.type_signature text.now) }
@@ -73,8 +73,8 @@ fn function_in(alloc: Global, text: &[u8]) -> Result<Signature, DeclError>
 /// # Errors
 ///
 /// `Syntax` where the text is of another form. `Unsupported` where it is of that form, and a parameter
-/// is no primitive by value, `T@+` or `const T@+`, or the result is none of these and not `void`. `Memory`
-/// only where a growth was refused.
+/// is no primitive by value, no bare name and no `T@+` or `const T@+`, or the result is none of these and not
+/// `void`. `Memory` only where a growth was refused.
 pub fn parse_function(alloc: Global, text: &[u8]) -> Result<Signature, DeclError>
     ensures signature { IfOk result
         (Declares SpellsFunction spec.is_function_left_out spec.function_signature text.now) }
@@ -142,7 +142,7 @@ fn property_in(alloc: Global, text: &[u8]) -> Result<Signature, DeclError>
 /// # Errors
 ///
 /// `Syntax` where the text is of another form. `Unsupported` where it is of that form, and its type is
-/// no primitive one, with or without `const`. `Memory` only where a growth was refused.
+/// no primitive one and no bare name, with or without `const`. `Memory` only where a growth was refused.
 pub fn parse_property(alloc: Global, text: &[u8]) -> Result<Signature, DeclError>
     ensures signature { IfOk result
         (Declares SpellsProperty spec.is_property_left_out spec.property_signature text.now) }

@@ -2,7 +2,7 @@
 ghost use Rattle.std.specs.Prelude.{◌≡◌, IfOk, map};
 ghost use Rattle.ang_decl.specs.Signatures as spec;
 
-use crate::taken::is_primitive;
+use crate::taken::is_value_kind;
 use crate::tree::{HostFunction, HostHandle, HostParameter, HostProperty, HostType};
 use ang_kinds::{List, Param, Pass, Shape, Signature, TypeRef};
 use ang_lex::{Token, TokenKind};
@@ -115,10 +115,10 @@ pub fn function_signature(
     })
 }
 
-fn is_const_primitive(host_type: &HostType) -> bool
-    ensures exact { result ≡ spec.is_const_primitive host_type.now }
+fn is_const_value(host_type: &HostType) -> bool
+    ensures exact { result ≡ spec.is_const_value host_type.now }
 {
-    is_primitive(host_type.name.kind) && host_type.constant.is_some()
+    is_value_kind(host_type.name.kind) && host_type.handle.is_none() && host_type.constant.is_some()
 }
 
 /// The signature of a property.
@@ -135,7 +135,7 @@ pub fn property_signature(
         name: List::from_vec(name),
         result,
         params: List::from_vec(Vec::new(alloc)),
-        read_only: is_const_primitive(&property.declared_type),
+        read_only: is_const_value(&property.declared_type),
     })
 }
 
@@ -152,6 +152,6 @@ pub fn type_signature(
         name: List::from_vec(Vec::new(alloc)),
         result,
         params: List::from_vec(Vec::new(alloc)),
-        read_only: is_const_primitive(host_type),
+        read_only: is_const_value(host_type),
     })
 }

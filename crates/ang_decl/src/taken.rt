@@ -9,10 +9,17 @@ use crate::tree::{HostFunction, HostHandle, HostParameter, HostProperty, HostTyp
 use ang_lex::TokenKind;
 
 /// Whether the token is the word of a primitive type.
-pub fn is_primitive(kind: TokenKind) -> bool
+fn is_primitive(kind: TokenKind) -> bool
     ensures exact { result ≡ primitive_kind kind }
 {
     matches!(kind, TokenKind::Primitive(_))
+}
+
+/// Whether the token is the word of a primitive type, or a name, which may be an enumeration's.
+pub fn is_value_kind(kind: TokenKind) -> bool
+    ensures exact { result ≡ spec.is_value_kind kind }
+{
+    is_primitive(kind) || matches!(kind, TokenKind::Name)
 }
 
 fn is_auto_handle(handle: &Option<HostHandle>) -> bool
@@ -45,7 +52,7 @@ fn is_plain_handle(host_type: &HostType) -> bool
 fn is_parameter_type(host_type: &HostType) -> bool
     ensures exact { result ≡ spec.is_parameter_type host_type.now }
 {
-    let is_value = is_primitive(host_type.name.kind)
+    let is_value = is_value_kind(host_type.name.kind)
         && host_type.constant.is_none()
         && host_type.handle.is_none();
     is_value
@@ -64,7 +71,7 @@ fn is_result_type(host_type: &HostType) -> bool
 fn is_property_type(host_type: &HostType) -> bool
     ensures exact { result ≡ spec.is_property_type host_type.now }
 {
-    is_primitive(host_type.name.kind) && host_type.handle.is_none()
+    is_value_kind(host_type.name.kind) && host_type.handle.is_none()
 }
 
 fn is_parameter(parameter: &HostParameter) -> bool

@@ -9,7 +9,7 @@ use Rattle.ang_kinds.specs.declared.value.Value.{Value}
 use Rattle.ang_kinds.specs.declared.value.Value.TheVariants.{Int, Uint, Bool as Truth, Key}
 use Rattle.ang_view.specs.Registration.{RegistrationList}
 use Rattle.ang_types.specs.declared.arg_type.ArgType.{ArgType}
-use Rattle.ang_types.specs.declared.arg_type.ArgType.TheVariants.{Void, Null, Plain, Object, Handle}
+use Rattle.ang_types.specs.declared.arg_type.ArgType.TheVariants.{Void, Null, Plain, Enumeration, Object, Handle}
 use Rattle.ang_typed.specs.declared.program.Parameter.{Parameter}
 use Rattle.ang_typed.specs.Typed as t
 use Rattle.ang_names_known.specs.declared.names.Names.{Names}
@@ -190,6 +190,7 @@ typed-same : (ty : ArgType) → source.primitive_of ty ≡ primitive_of ty
 typed-same Void = refl
 typed-same Null = refl
 typed-same (Plain p) = refl
+typed-same (Enumeration n) = refl
 typed-same (Object n r) = refl
 typed-same (Handle n r) = refl
 

@@ -1,5 +1,5 @@
 -- The entries that modules may ask.
-use Rattle.std.proofs.Common.{◌≡◌, ◌+◌, refl, ap, sym, ◌∙◌, subst, ℕ, zero, suc, true, false, List, [], ◌∷◌, All, Option, Some, None, arith}
+use Rattle.std.proofs.Common.{◌≡◌, ◌+◌, ◌<◌, refl, ap, sym, ◌∙◌, subst, ℕ, zero, suc, true, false, List, [], ◌∷◌, All, Option, Some, None, arith}
 use Rattle.std.specs.Prelude.{Bool, cond, IsSome, if◌then◌else◌, position, slice_get, slice_index_or}
 use Rattle.std.specs.List.{AllByRecursion, AllZip, position_from}
 use Rattle.std.proofs.lemmas.List.Elements.{All-nil, All-cons}
@@ -12,14 +12,14 @@ use Rattle.ang_host.specs.declared.event.Role.{Role}
 use Rattle.ang_host.specs.Events.{role_at}
 use Rattle.ang_view.specs.declared.entry.Entry.{Entry}
 use Rattle.ang_view.specs.declared.entry.EntryKind.{EntryKind}
-use Rattle.ang_view.specs.declared.entry.EntryKind.TheVariants.{HostType, Factory, Method, Property, Function, Global}
-use Rattle.ang_view.specs.Registration.{RegistrationList, entry_at, is_seen, seen_entry, seen, is_type}
+use Rattle.ang_view.specs.declared.entry.EntryKind.TheVariants.{HostType, Factory, Method, Property, Function, Global, Enumeration, EnumValue}
+use Rattle.ang_view.specs.Registration.{RegistrationList, entry_at, is_seen, seen_entry, seen}
 use Rattle.ang_registry.specs.Roles.{roles_of, role_by}
 use Rattle.ang_registry.proofs.Roles.{role_at-entry}
 use Rattle.ang_view.proofs.Seen.{entry_at-seen}
 use Rattle.ang_meaning.specs.declared.host.HostUse.{HostUse}
 use Rattle.ang_meaning.specs.World.{World as RunWorld}
-use Rattle.ang_lower.specs.Hosts.{use_of, asked_as, use_in, role_in}
+use Rattle.ang_lower.specs.Hosts.{is_asked, use_of, asked_as, use_in, role_in}
 use Rattle.ang_engine_modules.specs.declared.modules.LoadedModule.{LoadedModule}
 use Rattle.ang_engine_modules.specs.Loaded.{modules_of}
 use Rattle.ang_engine_modules.specs.Modules.{module_at, AreDriversThere, AgreesWith, IsAskedIn}
@@ -27,7 +27,7 @@ use Rattle.ang_engine_world.specs.declared.module.Module.{Module}
 use Rattle.ang_engine_world.specs.World.{ModuleState, World, has_name, module_in, left_to}
 use Rattle.ang_engine_world.specs.States.{state_of, place_of, places_of}
 use Rattle.ang_engine.specs.Step.{IsEntitled}
-use Rattle.ang_engine.specs.Sound.{IsSoundPlace, HaveDrivers}
+use Rattle.ang_engine.specs.Sound.{IsSoundPlace, HaveDrivers, has_driver}
 
 -- ---- what a mask shows
 
@@ -44,24 +44,26 @@ pub registered : (R : RegistrationList) (mask n : ℕ) (x : Entry) → entry_at 
 registered R mask n x e = registered_by R mask (entry_at R n) x (sym (entry_at-seen R mask n) ∙ e)
 
 -- what is asked is asked by the role of its kind
-role_same : (k : EntryKind) (f : ℕ) → is_type k ≡ false → role_by k f ≡ role_in k f
+role_same : (k : EntryKind) (f : ℕ) → is_asked k ≡ true → role_by k f ≡ role_in k f
 role_same HostType f e = cc
 role_same Factory f e = refl
 role_same Method f e = refl
 role_same Property f e = refl
 role_same Function f e = refl
 role_same Global f e = refl
+role_same Enumeration f e = cc
+role_same (EnumValue v) f e = cc
 
-asked_by : (b : Bool) (R : RegistrationList) (n : ℕ) (x : Entry) (u : HostUse) → entry_at R n ≡ Some x → is_type x.kind ≡ b → (if b then None else Some (use_of x)) ≡ Some u
+asked_by : (b : Bool) (R : RegistrationList) (n : ℕ) (x : Entry) (u : HostUse) → entry_at R n ≡ Some x → is_asked x.kind ≡ b → (if b then Some (use_of x) else None) ≡ Some u
     → role_at (roles_of R) n ≡ u.role
-asked_by true R n x u at t e = cc
-asked_by false R n x u at t e =
+asked_by false R n x u at t e = cc
+asked_by true R n x u at t e =
     let same : use_of x ≡ u = cc in
     role_at-entry R n x at ∙ role_same x.kind x.f t ∙ ap (λ y. y.role) same
 
 asked_role : (R : RegistrationList) (mask n : ℕ) (o : Option Entry) (u : HostUse) → entry_at (seen R mask) n ≡ o → asked_as o ≡ Some u → role_at (roles_of R) n ≡ u.role
 asked_role R mask n None u at e = cc
-asked_role R mask n (Some x) u at e = asked_by (is_type x.kind) R n x u (registered R mask n x at) refl e
+asked_role R mask n (Some x) u at e = asked_by (is_asked x.kind) R n x u (registered R mask n x at) refl e
 
 pub role_seen : (R : RegistrationList) (mask n : ℕ) (u : HostUse) → use_in (seen R mask) n ≡ Some u → role_at (roles_of R) n ≡ u.role
 role_seen R mask n u e = asked_role R mask n (entry_at (seen R mask) n) u refl e
@@ -89,21 +91,38 @@ shown_at R (x ∷ ms) (l ∷ ls) Q none h (suc m) q =
     let r = shown_at R ms ls Q none h.1 m q in
     record { own = r.own; there = r.there; name = r.name; view = r.view }
 
-no_entry : (n : ℕ) (x : Entry) → entry_at [] n ≡ Some x → ⊥
-no_entry n x e = let y : ⊥ = cc in y
-
 no_use : (n : ℕ) (u : HostUse) → use_in [] n ≡ Some u → ⊥
 no_use n u e = let y : ⊥ = cc in y
 
 some_none : (n : ℕ) → IsSome (entry_at [] n) → ⊥
 some_none n h = let y : ⊥ = cc in y
 
--- their drivers are in the list
+-- what can be asked is a driver's
+asked_driver : (k : EntryKind) → is_asked k ≡ true → has_driver k ≡ true
+asked_driver HostType e = refl
+asked_driver Factory e = refl
+asked_driver Method e = refl
+asked_driver Property e = refl
+asked_driver Function e = refl
+asked_driver Global e = refl
+asked_driver Enumeration e = cc
+asked_driver (EnumValue v) e = cc
+
+driver_by : (b : Bool) (R : RegistrationList) (n count : ℕ) (x : Entry) (u : HostUse) → HaveDrivers R count → entry_at R n ≡ Some x → is_asked x.kind ≡ b
+    → (if b then Some (use_of x) else None) ≡ Some u → u.driver < count
+driver_by false R n count x u have at t e = cc
+driver_by true R n count x u have at t e = let same : use_of x ≡ u = cc in subst (λ y. y.driver < count) same (have n x at (asked_driver x.kind t))
+
+driver_in : (R : RegistrationList) (mask n count : ℕ) (o : Option Entry) (u : HostUse) → HaveDrivers R count → entry_at (seen R mask) n ≡ o → asked_as o ≡ Some u → u.driver < count
+driver_in R mask n count None u have at e = cc
+driver_in R mask n count (Some x) u have at e = driver_by (is_asked x.kind) R n count x u have (registered R mask n x at) refl e
+
+-- the drivers of what they may ask are in the list
 pub drivers_there : (R : RegistrationList) (ms : List (Option Module)) (ls : List (Option LoadedModule)) (count : ℕ) → AllZip (IsSoundPlace R) ms ls → HaveDrivers R count
     → AreDriversThere (modules_of ls) count
-drivers_there R ms ls count h have m n x e =
-    let r = shown_at R ms ls (λ V. entry_at V n ≡ Some x) (no_entry n x) h m e in
-    have n x (registered R r.own.built_mask.0 n x r.view)
+drivers_there R ms ls count h have m n u e =
+    let r = shown_at R ms ls (λ V. use_in V n ≡ Some u) (no_use n u) h m e in
+    driver_in R r.own.built_mask.0 n count (entry_at (seen R r.own.built_mask.0) n) u have refl r.view
 
 -- and asked by their roles
 pub roles_agree : (R : RegistrationList) (ms : List (Option Module)) (ls : List (Option LoadedModule)) → AllZip (IsSoundPlace R) ms ls → AgreesWith (roles_of R) (modules_of ls)

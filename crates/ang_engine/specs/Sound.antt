@@ -1,7 +1,9 @@
 -- What an engine keeps between commands.
-use Rattle.std.specs.Prelude.{ℕ, ◌≡◌, ◌<◌, List, [], length, Option, Some}
+use Rattle.std.specs.Prelude.{ℕ, ◌≡◌, ◌<◌, Bool, true, false, List, [], length, Option, Some}
 use Rattle.ang_host.specs.Meanings.{Meanings}
 use Rattle.ang_view.specs.declared.entry.Entry.{Entry}
+use Rattle.ang_view.specs.declared.entry.EntryKind.{EntryKind}
+use Rattle.ang_view.specs.declared.entry.EntryKind.TheVariants.{HostType, Factory, Method, Property, Function, Global, Enumeration, EnumValue}
 use Rattle.ang_view.specs.Registration.{RegistrationList, entry_at, seen}
 use Rattle.ang_meaning.specs.Counting.{IsCounted}
 use Rattle.ang_heap.specs.Globals.{values_in}
@@ -29,9 +31,20 @@ IsSoundPlace R = IsPlaceOf (IsBuiltBy R)
 abbrev pub AreSoundModules : RegistrationList → ModuleList → Type 0
 AreSoundModules R x = AreModules (IsBuiltBy R) x
 
+-- whether entries of this kind are a driver's: an enumeration and a value of one are no driver's
+abbrev pub has_driver : EntryKind → Bool
+has_driver HostType = true
+has_driver Factory = true
+has_driver Method = true
+has_driver Property = true
+has_driver Function = true
+has_driver Global = true
+has_driver Enumeration = false
+has_driver (EnumValue v) = false
+
 -- each entry's driver is one of the list
 abbrev pub HaveDrivers : RegistrationList → ℕ → Type 0
-HaveDrivers R n = (number : ℕ) (x : Entry) → entry_at R number ≡ Some x → x.driver < n
+HaveDrivers R n = (number : ℕ) (x : Entry) → entry_at R number ≡ Some x → has_driver x.kind ≡ true → x.driver < n
 
 -- The modules are sound; each entry's driver is in the list; the machine keeps what it needs to
 -- give everything up; and nothing is held but by globals and fields.

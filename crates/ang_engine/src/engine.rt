@@ -13,7 +13,7 @@ ghost use Rattle.ang_vm.specs.Machines.{lent};
 ghost use Rattle.ang_engine_world.specs.declared.command.Command.TheVariants.{NewModule, SetMask, AddSection, Build, Bind, Unbind, Call, Discard};
 ghost use Rattle.ang_engine_world.specs.World.{no_modules, running, engine_ended};
 ghost use Rattle.ang_engine.specs.Step.{Takes, IsEntitled};
-ghost use Rattle.ang_engine.specs.Sound.{IsSound, HaveDrivers};
+ghost use Rattle.ang_engine.specs.Sound.{IsSound, HaveDrivers, has_driver};
 
 use crate::binding::bind;
 use crate::budget::may_run;
@@ -31,6 +31,7 @@ use ang_heap::{Globals, Heap, Store};
 use ang_host::{Driver, Drivers, HostEvent};
 use ang_kinds::{EntityNo, List, Mask, Value};
 use ang_registry::Registry;
+use ang_view::EntryKind;
 use ang_vm::Machine;
 use std::alloc::{AllocError, Global};
 
@@ -46,13 +47,28 @@ pub struct Engine {
     modules: ModuleList,
 }
 
+/// Whether entries of this kind are a driver's: an enumeration and a value of one are no driver's.
+fn has_driver(kind: EntryKind) -> bool
+    ensures exact { result ≡ has_driver kind }
+{
+    match kind {
+        EntryKind::HostType
+        | EntryKind::Factory
+        | EntryKind::Method
+        | EntryKind::Property
+        | EntryKind::Function
+        | EntryKind::Global => true,
+        EntryKind::Enumeration | EntryKind::EnumValue(_) => false,
+    }
+}
+
 /// Whether each entry's driver is in a list of `count`.
 fn have_drivers(registry: &Registry, count: usize) -> bool
     ensures exact { IsTrue result ↔ HaveDrivers registry.now.entries count }
 {
     for number in 0..registry.len() as u32 {
         if let Some(entry) = registry.get(EntityNo(number)) {
-            if entry.driver as usize >= count {
+            if has_driver(entry.kind) && entry.driver as usize >= count {
                 return false;
             }
         }

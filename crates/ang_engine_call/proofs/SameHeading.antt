@@ -13,7 +13,7 @@ use Rattle.ang_kinds.specs.declared.types.Pass.{Pass}
 use Rattle.ang_kinds.specs.declared.types.Pass.TheVariants.{Value, RefIn, RefOut, RefInOut}
 use Rattle.ang_view.specs.Numbers.{primitive_number, pass_number}
 use Rattle.ang_types.specs.declared.arg_type.ArgType.{ArgType}
-use Rattle.ang_types.specs.declared.arg_type.ArgType.TheVariants.{Void, Null, Plain, Object, Handle}
+use Rattle.ang_types.specs.declared.arg_type.ArgType.TheVariants.{Void, Null, Plain, Enumeration, Object, Handle}
 use Rattle.ang_names_known.specs.declared.names.ScriptFunction.{ScriptFunction}
 use Rattle.ang_names_known.specs.declared.names.ScriptParameter.{ScriptParameter}
 use Rattle.ang_names_known.specs.declared.names.Written.{Written}
@@ -70,26 +70,37 @@ type-Decides : (t u : ArgType) → Decides (same_type t u) (t ≡ u)
 type-Decides Void Void = (λ e. refl, λ e. refl)
 type-Decides Void Null = (λ e. cc, λ e. cc)
 type-Decides Void (Plain q) = (λ e. cc, λ e. cc)
+type-Decides Void (Enumeration n) = (λ e. cc, λ e. cc)
 type-Decides Void (Object n s) = (λ e. cc, λ e. cc)
 type-Decides Void (Handle n s) = (λ e. cc, λ e. cc)
 type-Decides Null Void = (λ e. cc, λ e. cc)
 type-Decides Null Null = (λ e. refl, λ e. refl)
 type-Decides Null (Plain q) = (λ e. cc, λ e. cc)
+type-Decides Null (Enumeration n) = (λ e. cc, λ e. cc)
 type-Decides Null (Object n s) = (λ e. cc, λ e. cc)
 type-Decides Null (Handle n s) = (λ e. cc, λ e. cc)
 type-Decides (Plain p) Void = (λ e. cc, λ e. cc)
 type-Decides (Plain p) Null = (λ e. cc, λ e. cc)
 type-Decides (Plain p) (Plain q) = Decides-like (primitive_number p == primitive_number q) (λ e. ap Plain e) (λ e. cc) (primitive-Decides p q)
+type-Decides (Plain p) (Enumeration n) = (λ e. cc, λ e. cc)
 type-Decides (Plain p) (Object n s) = (λ e. cc, λ e. cc)
 type-Decides (Plain p) (Handle n s) = (λ e. cc, λ e. cc)
+type-Decides (Enumeration m) Void = (λ e. cc, λ e. cc)
+type-Decides (Enumeration m) Null = (λ e. cc, λ e. cc)
+type-Decides (Enumeration m) (Plain q) = (λ e. cc, λ e. cc)
+type-Decides (Enumeration m) (Enumeration n) = Decides-like (m == n) (λ e. ap Enumeration e) (λ e. cc) (Decides-eqb m n)
+type-Decides (Enumeration m) (Object n s) = (λ e. cc, λ e. cc)
+type-Decides (Enumeration m) (Handle n s) = (λ e. cc, λ e. cc)
 type-Decides (Object m r) Void = (λ e. cc, λ e. cc)
 type-Decides (Object m r) Null = (λ e. cc, λ e. cc)
 type-Decides (Object m r) (Plain q) = (λ e. cc, λ e. cc)
+type-Decides (Object m r) (Enumeration n) = (λ e. cc, λ e. cc)
 type-Decides (Object m r) (Object n s) = object-Decides m n r s
 type-Decides (Object m r) (Handle n s) = (λ e. cc, λ e. cc)
 type-Decides (Handle m r) Void = (λ e. cc, λ e. cc)
 type-Decides (Handle m r) Null = (λ e. cc, λ e. cc)
 type-Decides (Handle m r) (Plain q) = (λ e. cc, λ e. cc)
+type-Decides (Handle m r) (Enumeration n) = (λ e. cc, λ e. cc)
 type-Decides (Handle m r) (Object n s) = (λ e. cc, λ e. cc)
 type-Decides (Handle m r) (Handle n s) = handle-Decides m n r s
 

@@ -14,8 +14,8 @@ use Rattle.ang_lex.specs.declared.token.TokenKind.{TokenKind}
 use Rattle.ang_lex.specs.declared.token.TokenKind.TheVariants as k
 use Rattle.ang_view.specs.declared.entry.Entry.{Entry}
 use Rattle.ang_view.specs.Numbers.{primitive_number, pass_number}
-use Rattle.ang_view.specs.Registration.{RegistrationList, is_type}
-use Rattle.ang_view.specs.Types.{is_type_named, type_named}
+use Rattle.ang_view.specs.Registration.{RegistrationList, is_host_type}
+use Rattle.ang_view.specs.Types.{enumeration_named, is_enumeration, is_enumeration_named, is_type_named, type_named}
 use Rattle.ang_view.proofs.Lists.{and_gives}
 use Rattle.ang_tree.specs.declared.declaration.Parameter.{Parameter}
 use Rattle.ang_tree.specs.declared.type_name.TypeName.{TypeName}
@@ -41,7 +41,7 @@ use Rattle.ang_engine_call.specs.Headings.{Passed, passed_of}
 
 name_of_entry : (name : List ℕ) (here : Option Entry) → is_type_named name here ≡ true → (t : Entry) × (here ≡ Some t) × (t.signature.name ≡ name)
 name_of_entry name None h = cc
-name_of_entry name (Some t) h = (t, refl, (bytes_eq-Decides t.signature.name name).0 (and_gives (is_type t.kind) (bytes_eq t.signature.name name) h).1)
+name_of_entry name (Some t) h = (t, refl, (bytes_eq-Decides t.signature.name name).0 (and_gives (is_host_type t.kind) (bytes_eq t.signature.name name) h).1)
 
 one_entry : (a b : List ℕ) (here : Option Entry) → is_type_named a here ≡ true → is_type_named b here ≡ true → a ≡ b
 one_entry a b here h g =
@@ -55,6 +55,22 @@ unfolding type_named
 one_host_type V a b n e f =
     one_entry a b _ (position-Some (is_type_named a) V n None e).1 (position-Some (is_type_named b) V n None f).1
 
+name_of_enumeration : (name : List ℕ) (here : Option Entry) → is_enumeration_named name here ≡ true → (t : Entry) × (here ≡ Some t) × (t.signature.name ≡ name)
+name_of_enumeration name None h = cc
+name_of_enumeration name (Some t) h = (t, refl, (bytes_eq-Decides t.signature.name name).0 (and_gives (is_enumeration t.kind) (bytes_eq t.signature.name name) h).1)
+
+one_value_type : (a b : List ℕ) (here : Option Entry) → is_enumeration_named a here ≡ true → is_enumeration_named b here ≡ true → a ≡ b
+one_value_type a b here h g =
+    let x = name_of_enumeration a here h in
+    let y = name_of_enumeration b here g in
+    let same : x.0 ≡ y.0 = cc in
+    sym x.2 ∙ ap (λ (t : Entry). t.signature.name) same ∙ y.2
+
+one_enumeration : (V : RegistrationList) (a b : List ℕ) (n : ℕ) → enumeration_named V a ≡ Some n → enumeration_named V b ≡ Some n → a ≡ b
+unfolding enumeration_named
+one_enumeration V a b n e f =
+    one_value_type a b _ (position-Some (is_enumeration_named a) V n None e).1 (position-Some (is_enumeration_named b) V n None f).1
+
 -- a host type's number is below those of families
 host_below : (V : RegistrationList) (a : List ℕ) (n : ℕ) → length V ≤ 1024 → type_named V a ≡ Some n → n < 1024
 unfolding type_named
@@ -66,42 +82,63 @@ one_family fs a b c e f =
     let y = (bytes_eq-Decides b _).0 (position-Some (bytes_eq b) fs c [] f).1 in
     x ∙ sym y
 
+no_object : (u : Option ℕ) (n : ℕ) → family_or_host None None u ≡ named.Object n → ⊥
+no_object None n e = cc
+no_object (Some m) n e = cc
+
+-- a name that means an enumeration is found as one
+number_of_enumeration : (c x u : Option ℕ) (n : ℕ) → family_or_host c x u ≡ named.Enumeration n → u ≡ Some n
+number_of_enumeration (Some c) x u n e = cc
+number_of_enumeration None (Some m) u n e = cc
+number_of_enumeration None None None n e = cc
+number_of_enumeration None None (Some m) n e = let is : m ≡ n = cc in ap Some is
+
 -- What two names are found as, a family or a host type, and that they are of one number.
-one_of_two : (fs : List (List ℕ)) (V : RegistrationList) (a b : List ℕ) (c d x y : Option ℕ) (n : ℕ) → length V ≤ 1024
+one_of_two : (fs : List (List ℕ)) (V : RegistrationList) (a b : List ℕ) (c d x y u v : Option ℕ) (n : ℕ) → length V ≤ 1024
     → position (bytes_eq a) fs ≡ c → position (bytes_eq b) fs ≡ d → type_named V a ≡ x → type_named V b ≡ y
-    → family_or_host c x ≡ named.Object n → family_or_host d y ≡ named.Object n → a ≡ b
-one_of_two fs V a b (Some c) (Some d) x y n small e f g h s t =
+    → family_or_host c x u ≡ named.Object n → family_or_host d y v ≡ named.Object n → a ≡ b
+one_of_two fs V a b (Some c) (Some d) x y u v n small e f g h s t =
     let same : c ≡ d = omega (arith, number_is s, number_is t) in
     one_family fs a b c e (f ∙ ap Some (sym same))
   where
     number_is : {m : ℕ} → named.Object m ≡ named.Object n → m ≡ n
     number_is e = cc
-one_of_two fs V a b (Some c) None x (Some m) n small e f g h s t = absurd (omega (arith, above s, below t, host_below V b m small h))
+one_of_two fs V a b (Some c) None x (Some m) u v n small e f g h s t = absurd (omega (arith, above s, below t, host_below V b m small h))
   where
     above : {m : ℕ} → named.Object m ≡ named.Object n → m ≡ n
     above e = cc
 
     below : named.Object m ≡ named.Object n → m ≡ n
     below e = cc
-one_of_two fs V a b None (Some d) (Some m) y n small e f g h s t = absurd (omega (arith, below s, above t, host_below V a m small g))
+one_of_two fs V a b None (Some d) (Some m) y u v n small e f g h s t = absurd (omega (arith, below s, above t, host_below V a m small g))
   where
     above : {m : ℕ} → named.Object m ≡ named.Object n → m ≡ n
     above e = cc
 
     below : named.Object m ≡ named.Object n → m ≡ n
     below e = cc
-one_of_two fs V a b None None (Some l) (Some m) n small e f g h s t =
+one_of_two fs V a b None None (Some l) (Some m) u v n small e f g h s t =
     let first : l ≡ n = cc in
     let second : m ≡ n = cc in
     one_host_type V a b n (g ∙ ap Some first) (h ∙ ap Some second)
-one_of_two fs V a b (Some c) None x None n small e f g h s t = cc
-one_of_two fs V a b None (Some d) None y n small e f g h s t = cc
-one_of_two fs V a b None None None y n small e f g h s t = cc
-one_of_two fs V a b None None (Some l) None n small e f g h s t = cc
+one_of_two fs V a b (Some c) None x None u v n small e f g h s t = absurd (no_object v n t)
+one_of_two fs V a b None (Some d) None y u v n small e f g h s t = absurd (no_object u n s)
+one_of_two fs V a b None None None y u v n small e f g h s t = absurd (no_object u n s)
+one_of_two fs V a b None None (Some l) None u v n small e f g h s t = absurd (no_object v n t)
+
+-- What two names are found as, an enumeration, and that they are of one number.
+one_of_values : (V : RegistrationList) (a b : List ℕ) (c d x y u v : Option ℕ) (n : ℕ) → enumeration_named V a ≡ u → enumeration_named V b ≡ v
+    → family_or_host c x u ≡ named.Enumeration n → family_or_host d y v ≡ named.Enumeration n → a ≡ b
+one_of_values V a b c d x y u v n e f s t =
+    one_enumeration V a b n (e ∙ number_of_enumeration c x u n s) (f ∙ number_of_enumeration d y v n t)
 
 one_name : (E : Space) (a b : List ℕ) (n : ℕ) → length E.view ≤ 1024 → type_of_name E a ≡ named.Object n → type_of_name E b ≡ named.Object n → a ≡ b
 unfolding type_of_name
-one_name E a b n small s t = one_of_two E.families E.view a b _ _ _ _ n small refl refl refl refl s t
+one_name E a b n small s t = one_of_two E.families E.view a b _ _ _ _ _ _ n small refl refl refl refl s t
+
+one_value_name : (E : Space) (a b : List ℕ) (n : ℕ) → type_of_name E a ≡ named.Enumeration n → type_of_name E b ≡ named.Enumeration n → a ≡ b
+unfolding type_of_name
+one_value_name E a b n s t = one_of_values E.view a b _ _ _ _ _ _ n refl refl s t
 
 -- ---- what a type tells of its spelling
 
@@ -110,6 +147,7 @@ abbrev IsSpelled : Space → ArgType → Bool → Base → Sign → Type 0
 IsSpelled E type.Void r b s = ⊥
 IsSpelled E type.Null r b s = ⊥
 IsSpelled E (type.Plain p) r b s = (b ≡ base.Primitive p) × (s ≡ sign.Absent)
+IsSpelled E (type.Enumeration n) r b s = (name : List ℕ) × (b ≡ base.Named name) × (type_of_name E name ≡ named.Enumeration n) × (s ≡ sign.Absent)
 IsSpelled E (type.Object n o) r b s = (name : List ℕ) × (b ≡ base.Named name) × (type_of_name E name ≡ named.Object n) × (s ≡ sign.Absent)
 IsSpelled E (type.Handle n o) r b s = (name : List ℕ) × (b ≡ base.Named name) × (type_of_name E name ≡ named.Object n) × (s ≡ sign_by r)
 
@@ -126,10 +164,15 @@ same_named : (E : Space) (b b' : Base) (name name' : List ℕ) (n : ℕ) → len
 same_named E b b' name name' n small e f g h =
     (λ i. same_base (e i) (f i)) ∙ (bytes_eq-Decides name name').1 (one_name E name name' n small g h)
 
+same_value_type : (E : Space) (b b' : Base) (name name' : List ℕ) (n : ℕ) → b ≡ base.Named name → b' ≡ base.Named name'
+    → type_of_name E name ≡ named.Enumeration n → type_of_name E name' ≡ named.Enumeration n → same_base b b' ≡ true
+same_value_type E b b' name name' n e f g h = (λ i. same_base (e i) (f i)) ∙ (bytes_eq-Decides name name').1 (one_value_name E name name' n g h)
+
 spelled_alike : (E : Space) (t : ArgType) (r : Bool) (b b' : Base) (s s' : Sign) → length E.view ≤ 1024 → IsSpelled E t r b s → IsSpelled E t r b' s' → AreSame b b' s s'
 spelled_alike E type.Void r b b' s s' small x y = absurd x
 spelled_alike E type.Null r b b' s s' small x y = absurd x
 spelled_alike E (type.Plain p) r b b' s s' small x y = (same_primitive b b' p x.0 y.0, x.1 ∙ sym y.1)
+spelled_alike E (type.Enumeration n) r b b' s s' small x y = (same_value_type E b b' x.0 y.0 n x.1 y.1 x.2 y.2, x.3 ∙ sym y.3)
 spelled_alike E (type.Object n o) r b b' s s' small x y = (same_named E b b' x.0 y.0 n small x.1 y.1 x.2 y.2, x.3 ∙ sym y.3)
 spelled_alike E (type.Handle n o) r b b' s s' small x y = (same_named E b b' x.0 y.0 n small x.1 y.1 x.2 y.2, x.3 ∙ sym y.3)
 
@@ -154,6 +197,10 @@ object_is E (named.Object n) name None c t e f =
 object_is E (named.Object n) name (Some h) c t e f =
     let own : type.Handle n c ≡ t = cc in
     subst (λ (u : ArgType). IsSpelled E u (is_const_handle (Some h)) (base.Named name) (sign_of (Some h))) own (name, refl, e, refl)
+object_is E (named.Enumeration n) name None c t e f =
+    let own : type.Enumeration n ≡ t = cc in
+    subst (λ (u : ArgType). IsSpelled E u (is_const_handle None) (base.Named name) sign.Absent) own (name, refl, e, refl)
+object_is E (named.Enumeration n) name (Some h) c t e f = cc
 
 type_is : (E : Space) (text : List ℕ) (y : TypeName) (kind : TokenKind) (t : ArgType) → written_type E text y kind ≡ Ok t → t ≢ type.Void
     → IsSpelled E t (is_const_handle y.handle) (base_by text y kind) (sign_of y.handle)
@@ -171,6 +218,7 @@ no_void_is : (u t : ArgType) → no_void u ≡ Ok t → (u ≡ t) × (t ≢ type
 no_void_is type.Void t h = cc
 no_void_is type.Null t h = let own : type.Null ≡ t = cc in (own, λ v. cc)
 no_void_is (type.Plain p) t h = let own : type.Plain p ≡ t = cc in (own, λ v. cc)
+no_void_is (type.Enumeration n) t h = let own : type.Enumeration n ≡ t = cc in (own, λ v. cc)
 no_void_is (type.Object n c) t h = let own : type.Object n c ≡ t = cc in (own, λ v. cc)
 no_void_is (type.Handle n c) t h = let own : type.Handle n c ≡ t = cc in (own, λ v. cc)
 
@@ -178,22 +226,26 @@ passed_is : (p : Pass) (u t : ArgType) → passed p u ≡ Ok t → u ≡ t
 passed_is pass.Value type.Void t h = cc
 passed_is pass.Value type.Null t h = cc
 passed_is pass.Value (type.Plain p) t h = cc
+passed_is pass.Value (type.Enumeration n) t h = cc
 passed_is pass.Value (type.Object n c) t h = cc
 passed_is pass.Value (type.Handle n c) t h = cc
 passed_is pass.RefIn type.Void t h = cc
 passed_is pass.RefIn type.Null t h = cc
 passed_is pass.RefIn (type.Plain p) t h = cc
+passed_is pass.RefIn (type.Enumeration n) t h = cc
 passed_is pass.RefIn (type.Object n true) t h = cc
 passed_is pass.RefIn (type.Object n false) t h = cc
 passed_is pass.RefIn (type.Handle n c) t h = cc
 passed_is pass.RefOut type.Void t h = cc
 passed_is pass.RefOut type.Null t h = cc
 passed_is pass.RefOut (type.Plain p) t h = cc
+passed_is pass.RefOut (type.Enumeration n) t h = cc
 passed_is pass.RefOut (type.Object n c) t h = cc
 passed_is pass.RefOut (type.Handle n c) t h = cc
 passed_is pass.RefInOut type.Void t h = cc
 passed_is pass.RefInOut type.Null t h = cc
 passed_is pass.RefInOut (type.Plain p) t h = cc
+passed_is pass.RefInOut (type.Enumeration n) t h = cc
 passed_is pass.RefInOut (type.Object n c) t h = cc
 passed_is pass.RefInOut (type.Handle n c) t h = cc
 

@@ -1,9 +1,11 @@
 -- What a call from outside hands to a function and gets from it (docs/EMBEDDING.md, "Commands"; the AngelScript manual, "Calling a
--- script function"; that only primitives by value pass is this profile's own).
+-- script function"; that only primitives and enumerations by value pass is this profile's own). An enumeration is a primitive here, with the
+-- range of `int`.
 use Rattle.std.specs.Prelude.{◌≡◌, Bool, true, false, ◌&&◌, ◌||◌, is_some, List, [], ◌∷◌, Option, Some, None, option_map, Vec}
 use Rattle.std.specs.List.{list_all}
 use Rattle.std.specs.declared.alloc.Global.{Global}
 use Rattle.ang_kinds.specs.declared.primitive.Primitive.{Primitive}
+use Rattle.ang_kinds.specs.declared.primitive.Primitive.TheVariants.{I32}
 use Rattle.ang_kinds.specs.declared.types.Pass.{Pass}
 use Rattle.ang_kinds.specs.declared.types.Pass.TheVariants as pass
 use Rattle.ang_kinds.specs.declared.value.Value.{Value}
@@ -11,15 +13,16 @@ use Rattle.ang_meaning.specs.declared.slot.Slot.{Slot}
 use Rattle.ang_meaning.specs.declared.host.HostType.TheVariants.{Plain as PlainType}
 use Rattle.ang_meaning.specs.Hosts.{slot_of, value_of}
 use Rattle.ang_types.specs.declared.arg_type.ArgType.{ArgType}
-use Rattle.ang_types.specs.declared.arg_type.ArgType.TheVariants.{Void, Null, Plain, Object, Handle}
+use Rattle.ang_types.specs.declared.arg_type.ArgType.TheVariants.{Void, Null, Plain, Enumeration, Object, Handle}
 use Rattle.ang_names_known.specs.declared.names.ScriptFunction.{ScriptFunction}
 use Rattle.ang_names_known.specs.declared.names.ScriptParameter.{ScriptParameter}
 
--- the primitive type that it is, if it is one
+-- the primitive type that it is, if it is one; an enumeration counts as `int`
 abbrev pub primitive_of : ArgType → Option Primitive
 primitive_of Void = None
 primitive_of Null = None
 primitive_of (Plain p) = Some p
+primitive_of (Enumeration n) = Some I32
 primitive_of (Object n r) = None
 primitive_of (Handle n r) = None
 
@@ -27,6 +30,7 @@ abbrev pub is_void : ArgType → Bool
 is_void Void = true
 is_void Null = false
 is_void (Plain p) = false
+is_void (Enumeration n) = false
 is_void (Object n r) = false
 is_void (Handle n r) = false
 

@@ -41,8 +41,8 @@ fn arguments_for(
 
 /// The slots of a call's arguments, in the order of the parameters, where the function can be called with
 /// these values: there are as many as parameters, and each is of its parameter's type and in its range. A
-/// signed type takes an `Int`, an unsigned one a `Uint`, `bool` a `Bool`; a type that is no primitive takes
-/// nothing. How a parameter is passed plays no part here: see `is_callable`.
+/// signed type takes an `Int`, an unsigned one a `Uint`, `bool` a `Bool`, an enumeration what `int` takes;
+/// another type takes nothing. How a parameter is passed plays no part here: see `is_callable`.
 ///
 /// The only error is want of memory.
 #[tactic(auto, unfolding(crate::specs::Calls::arguments_of))]

@@ -10,12 +10,13 @@ use ang_types::ArgType;
 /// The driver of values that are no driver's. For a primitive type a driver's number plays no part.
 pub const NO_DRIVER: u32 = 0;
 
-/// The primitive type that it is, if it is one.
+/// The primitive type that it is, if it is one. An enumeration counts as `int`.
 pub fn primitive_of(ty: ArgType) -> Option<Prim>
     ensures exact { result ≡ spec.primitive_of ty }
 {
     match ty {
         ArgType::Plain(primitive) => Some(primitive),
+        ArgType::Enumeration { .. } => Some(Prim::I32),
         ArgType::Void => None,
         ArgType::Null => None,
         ArgType::Object { .. } => None,
@@ -35,7 +36,7 @@ fn is_by_value(pass: Pass) -> bool
     matches!(pass, Pass::Value)
 }
 
-/// Whether it is a primitive by value.
+/// Whether it is a primitive or an enumeration by value.
 fn is_plain_parameter(param: &ScriptParameter) -> bool
     ensures exact { result ≡ spec.is_plain_parameter param.now }
 {
@@ -48,8 +49,8 @@ fn are_plain(params: &[ScriptParameter]) -> bool
     params.iter().all(|param| is_plain_parameter(param))
 }
 
-/// Whether the function can be called from outside: each of its parameters is a primitive by value, and its
-/// result is a primitive or `void`. It takes no memory.
+/// Whether the function can be called from outside: each of its parameters is a primitive or an enumeration by
+/// value, and its result is one of these or `void`. It takes no memory.
 #[tactic(auto, unfolding(crate::specs::Calls::is_callable))]
 pub fn is_callable(function: &ScriptFunction) -> bool
     ensures exact { result ≡ spec.is_callable function.now }

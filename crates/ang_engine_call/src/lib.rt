@@ -1,8 +1,8 @@
 //! Calls of a script's functions from outside: which function a text names, whether it can be called, and
 //! what values it takes (docs/EMBEDDING.md, "Commands"); `result_of` of `specs/` says what value it gives.
 //!
-//! A text names a function by its declaration without the body. Only primitives by value pass between a
-//! caller and a function.
+//! A text names a function by its declaration without the body. Only primitives and enumerations by value pass
+//! between a caller and a function.
 #![tactic(auto)]
 
 mod argument_slots;

@@ -65,9 +65,10 @@ trees_of ms = map (λ x. x.tree) ms
 abbrev pub entry_in : List Module → ℕ → ℕ → Option Entry
 entry_in ms m e = entry_at (module_at ms m).view e
 
--- the driver of each entry that some module sees is one of the first `count`
+-- the driver of each entry that some module may ask is one of the first `count`
 abbrev pub AreDriversThere : List Module → ℕ → Type 0
-AreDriversThere ms count = (m e : ℕ) (x : Entry) → entry_in ms m e ≡ Some x → x.driver < count
+AreDriversThere ms count =
+    (m e : ℕ) (u : HostUse) → use_in (module_at ms m).view e ≡ Some u → u.driver < count
 
 -- each entry that some module may ask has the role by which it is asked
 pub record AgreesWith (roles : List Role) (ms : List Module) : Type 0 where

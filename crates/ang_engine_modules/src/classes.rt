@@ -21,6 +21,7 @@ fn kind_of(ty: ArgType) -> ValueKind
         ArgType::Void => ValueKind::Number,
         ArgType::Null => ValueKind::Handle,
         ArgType::Plain(_) => ValueKind::Number,
+        ArgType::Enumeration { .. } => ValueKind::Number,
         ArgType::Object { .. } => ValueKind::Handle,
         ArgType::Handle { .. } => ValueKind::Handle,
     }

@@ -9,7 +9,7 @@ use ang_meaning::HostUse;
 use ang_view::{Entry, EntryKind, View};
 use std::alloc::{AllocError, Global};
 
-/// How an entry is asked. A type is asked by nobody.
+/// How an entry is asked. A type, an enumeration and a value of one are asked by nobody.
 ///
 /// # Errors
 /// Want of memory.
@@ -17,7 +17,7 @@ fn entry_use(alloc: Global, entry: &Entry) -> Result<Option<HostUse>, AllocError
     ensures exact { IfOk result (λ u. u ≡ asked_as (Some entry.now)) }
 {
     match entry.kind {
-        EntryKind::HostType => Ok(None),
+        EntryKind::HostType | EntryKind::Enumeration | EntryKind::EnumValue(_) => Ok(None),
         EntryKind::Factory
         | EntryKind::Method
         | EntryKind::Property

@@ -15,6 +15,7 @@ fn default_in(ty: ArgType) -> Slot
         ArgType::Void => Slot::Bits(0),
         ArgType::Null => Slot::Script(None),
         ArgType::Plain(_) => Slot::Bits(0),
+        ArgType::Enumeration { .. } => Slot::Bits(0),
         ArgType::Object { .. } => Slot::Script(None),
         ArgType::Handle { .. } => Slot::Script(None),
     }

@@ -20,6 +20,12 @@ pub enum TypeRef {
     Void,
     /// A primitive type.
     Plain(Prim),
+    /// A registered enumeration. The parsers of declarations give a bare name as an object by value, and the registry, which
+    /// knows the enumerations, makes it one of these.
+    Enumeration {
+        /// The enumeration's name.
+        name: List<u8>,
+    },
     /// An object type, or a handle to one.
     Object {
         /// The type's name.

@@ -9,7 +9,6 @@ use Rattle.ang_types.specs.declared.arg_type.ArgType.{ArgType}
 use Rattle.ang_types.specs.declared.arg_type.ArgType.TheVariants as type
 use Rattle.ang_view.specs.declared.entry.EntryKind.{EntryKind}
 use Rattle.ang_view.specs.declared.entry.EntryKind.TheVariants as kind
-use Rattle.ang_view.specs.Registration.{is_type}
 use Rattle.ang_typed.specs.declared.expression.HostEntity.{HostEntity}
 use Rattle.ang_typed.specs.declared.expression.Variable.{Variable}
 use Rattle.ang_typed.specs.declared.expression.Variable.TheVariants as variable
@@ -38,7 +37,7 @@ use Rattle.ang_lower_expr.specs.Tree as c
 use Rattle.ang_lower.specs.Tree as stmt
 use Rattle.ang_lower_expr.specs.Lowered as low
 use Rattle.ang_lower.specs.Lowered.{lowered_all, lowered_code, lowered_each, lowered_locals, lowered_loop, lowered_simple, lowered_steps, lowered_stmt}
-use Rattle.ang_lower.specs.Hosts.{host_type_of, is_member, role_in, is_constant, use_of, asked_as, HasView}
+use Rattle.ang_lower.specs.Hosts.{host_type_of, is_asked, is_member, role_in, is_constant, use_of, asked_as, HasView}
 use Rattle.ang_lower.specs.Same.{SoundCode, HasCallees}
 use Rattle.ang_lower.proofs.PlainSound.{operand_count, IsSound, AreSoundArgs, leaves, leaves_all, IsSoundStmt, AreSoundStmts}
 use Rattle.ang_lower.proofs.Values.{EachSound, each_argument, each_value, as_many}
@@ -75,6 +74,7 @@ referred_none : (ty : ArgType) (ps : List Passing) → out_count (referred ty �
 referred_none type.Void ps = refl
 referred_none type.Null ps = refl
 referred_none (type.Plain p) ps = refl
+referred_none (type.Enumeration n) ps = refl
 referred_none (type.Object n c) ps = refl
 referred_none (type.Handle n c) ps = refl
 
@@ -113,13 +113,13 @@ lowered_count n (tree.more a args) = ap suc (lowered_count n args)
 
 module _ (z : Setting) (m : ℕ) (M : Module) (callees : HasCallees z m M) (view : HasView z m M.view) where
   -- the host's entity is what the view has
-  found : (kind : EntryKind) (h : HostEntity) (e : IsEntity M.view kind h) → is_type kind ≡ false → z.host m h.entity.0 ≡ Some (use_of e.entry)
-  found kind h e no_type =
-      view.each h.entity.0 ∙ ap asked_as e.in_view ∙ ap (λ b. if b then None else Some (use_of e.entry)) (ap is_type e.same_kind ∙ no_type)
+  found : (kind : EntryKind) (h : HostEntity) (e : IsEntity M.view kind h) → is_asked kind ≡ true → z.host m h.entity.0 ≡ Some (use_of e.entry)
+  found kind h e can =
+      view.each h.entity.0 ∙ ap asked_as e.in_view ∙ ap (λ b. if b then Some (use_of e.entry) else None) (ap is_asked e.same_kind ∙ can)
 
   -- how many operands its receiver is
-  receiver_count : (k : EntryKind) (h : HostEntity) (e : IsEntity M.view k h) → is_type k ≡ false → member_count (host_in (z.host m h.entity.0)).member ≡ member_count (is_member k)
-  receiver_count k h e no_type = ap (λ o. member_count (host_in o).member) (found k h e no_type) ∙ ap (λ kd. member_count (is_member kd)) e.same_kind
+  receiver_count : (k : EntryKind) (h : HostEntity) (e : IsEntity M.view k h) → is_asked k ≡ true → member_count (host_in (z.host m h.entity.0)).member ≡ member_count (is_member k)
+  receiver_count k h e can = ap (λ o. member_count (host_in o).member) (found k h e can) ∙ ap (λ kd. member_count (is_member kd)) e.same_kind
 
   -- a global property, and a property of an object, which is its operand
   may_read : (h : HostEntity) → IsEntity M.view kind.Global h → may_access (z.host m h.entity.0) ≡ true
@@ -167,16 +167,16 @@ module _ (z : Setting) (m : ℕ) (M : Module) (callees : HasCallees z m M) (view
   alter_in_fits h by w = let one = receiver_count kind.Property h w.entity refl in (omega (arith, one), may_store_in h w)
 
   -- how many arguments it declares
-  param_count : (k : EntryKind) (h : HostEntity) (e : IsEntity M.view k h) → is_type k ≡ false → length (host_in (z.host m h.entity.0)).params ≡ length e.entry.signature.params
-  param_count k h e no_type =
+  param_count : (k : EntryKind) (h : HostEntity) (e : IsEntity M.view k h) → is_asked k ≡ true → length (host_in (z.host m h.entity.0)).params ≡ length e.entry.signature.params
+  param_count k h e can =
       let x = e.entry in
-      ap (λ o. length (host_in o).params) (found k h e no_type) ∙ length-map x.signature.params (λ p. host_type_of p.ty)
+      ap (λ o. length (host_in o).params) (found k h e can) ∙ length-map x.signature.params (λ p. host_type_of p.ty)
 
-  may_be_called : (k : EntryKind) (h : HostEntity) (e : IsEntity M.view k h) → is_type k ≡ false
+  may_be_called : (k : EntryKind) (h : HostEntity) (e : IsEntity M.view k h) → is_asked k ≡ true
       → may_call (z.host m h.entity.0) ≡ is_called_by (role_in k e.entry.f) (is_member k)
-  may_be_called k h e no_type =
+  may_be_called k h e can =
       let x = e.entry in
-      ap may_call (found k h e no_type) ∙ ap (λ kd. is_called_by (role_in kd x.f) (is_member kd)) e.same_kind
+      ap may_call (found k h e can) ∙ ap (λ kd. is_called_by (role_in kd x.f) (is_member kd)) e.same_kind
 
   asked_fits : (k : EntryKind) (h : HostEntity) (count : ℕ) (e : IsEntity M.view k h) → argument_number k (length e.entry.signature.params) ≡ Some count
       → (count ≡ operands z m (Ask h.entity)) × (is_fit z m (Ask h.entity) ≡ true)
@@ -199,6 +199,8 @@ module _ (z : Setting) (m : ℕ) (M : Module) (callees : HasCallees z m M) (view
       let is : length e.entry.signature.params ≡ count = cc in
       (omega (arith, alone, many, is), may_be_called kind.Function h e refl)
   asked_fits kind.Global h count e same = absurd (cc)
+  asked_fits kind.Enumeration h count e same = absurd (cc)
+  asked_fits (kind.EnumValue v) h count e same = absurd (cc)
 
   ask_fits : (h : HostEntity) (count : ℕ) → IsHostCallee M.view h count → (count ≡ operands z m (Ask h.entity)) × (is_fit z m (Ask h.entity) ≡ true)
   ask_fits h count f = asked_fits f.kind h count f.entity f.params

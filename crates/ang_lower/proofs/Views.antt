@@ -2,19 +2,19 @@
 use Rattle.std.proofs.Common.{◌≡◌, ℕ, Bool, true, false, Option, Some, None, refl, sym, ◌∙◌}
 use Rattle.std.specs.Prelude.{if◌then◌else◌}
 use Rattle.ang_view.specs.declared.entry.Entry.{Entry}
-use Rattle.ang_view.specs.Registration.{RegistrationList, entry_at, is_type}
+use Rattle.ang_view.specs.Registration.{RegistrationList, entry_at}
 use Rattle.ang_meaning.specs.declared.host.HostUse.{HostUse}
 use Rattle.ang_meaning.specs.Setting.{Setting}
-use Rattle.ang_lower.specs.Hosts.{use_of, asked_as, HasView, IsOfView}
+use Rattle.ang_lower.specs.Hosts.{is_asked, use_of, asked_as, HasView, IsOfView}
 
-of_kind : (V : RegistrationList) (e : ℕ) (u : HostUse) (x : Entry) (b : Bool) → is_type x.kind ≡ b → entry_at V e ≡ Some x
-    → (if b then None else Some (use_of x)) ≡ Some u → IsOfView V e u
-of_kind V e u x true kind at same = absurd (cc)
-of_kind V e u x false kind at same = record { entry = x; in_view = at; no_type = kind; same = let s : use_of x ≡ u = cc in s }
+of_kind : (V : RegistrationList) (e : ℕ) (u : HostUse) (x : Entry) (b : Bool) → is_asked x.kind ≡ b → entry_at V e ≡ Some x
+    → (if b then Some (use_of x) else None) ≡ Some u → IsOfView V e u
+of_kind V e u x true kind at same = record { entry = x; in_view = at; asked = kind; same = let s : use_of x ≡ u = cc in s }
+of_kind V e u x false kind at same = absurd (cc)
 
 of_entry : (V : RegistrationList) (e : ℕ) (u : HostUse) (o : Option Entry) → entry_at V e ≡ o → asked_as o ≡ Some u → IsOfView V e u
 of_entry V e u None at same = absurd (cc)
-of_entry V e u (Some x) at same = of_kind V e u x (is_type x.kind) refl at same
+of_entry V e u (Some x) at same = of_kind V e u x (is_asked x.kind) refl at same
 
 pub seen_in : (z : Setting) (m : ℕ) (V : RegistrationList) (e : ℕ) (u : HostUse) → HasView z m V → z.host m e ≡ Some u → IsOfView V e u
 seen_in z m V e u view there = of_entry V e u (entry_at V e) refl (sym (view.each e) ∙ there)

@@ -1,22 +1,24 @@
 -- Registered entities as code asks them (docs/MEANING.md, "Operations"; docs/EMBEDDING.md, "Drivers").
 use Rattle.std.specs.Prelude.{◌≡◌, ℕ, ◌&&◌, Bool, true, false, map, Option, Some, None, if◌then◌else◌}
+use Rattle.ang_kinds.specs.declared.primitive.Primitive.TheVariants.{I32}
 use Rattle.ang_kinds.specs.declared.types.TypeRef.{TypeRef}
-use Rattle.ang_kinds.specs.declared.types.TypeRef.TheVariants.{Void, Plain as PlainType, Object}
+use Rattle.ang_kinds.specs.declared.types.TypeRef.TheVariants.{Void, Plain as PlainType, Enumeration, Object}
 use Rattle.ang_view.specs.declared.entry.Entry.{Entry}
 use Rattle.ang_view.specs.declared.entry.EntryKind.{EntryKind}
-use Rattle.ang_view.specs.declared.entry.EntryKind.TheVariants.{HostType as TypeKind, Factory, Method, Property, Function, Global}
+use Rattle.ang_view.specs.declared.entry.EntryKind.TheVariants.{HostType as TypeKind, Factory, Method, Property, Function, Global, Enumeration as EnumerationKind, EnumValue}
 use Rattle.ang_host.specs.declared.event.Role.{Role}
 use Rattle.ang_host.specs.declared.event.Role.TheVariants.{Making, Calling, Property as Reading}
-use Rattle.ang_view.specs.Registration.{RegistrationList, entry_at, is_type}
+use Rattle.ang_view.specs.Registration.{RegistrationList, entry_at}
 use Rattle.ang_meaning.specs.declared.host.HostType.{HostType}
 use Rattle.ang_meaning.specs.declared.host.HostType.TheVariants.{Nothing, Plain, Handle}
 use Rattle.ang_meaning.specs.declared.host.HostUse.{HostUse}
 use Rattle.ang_meaning.specs.Setting.{Setting, is_property}
 
--- a declared type, as its values pass; every object passes as a handle
+-- a declared type, as its values pass; every object passes as a handle, and a value of an enumeration as an `int`
 abbrev pub host_type_of : TypeRef → HostType
 host_type_of Void = Nothing
 host_type_of (PlainType p) = Plain p
+host_type_of (Enumeration name) = Plain I32
 host_type_of (Object name shape const_object const_handle) = Handle
 
 -- a method or a type's property is asked of an object
@@ -27,8 +29,21 @@ is_member Method = true
 is_member Property = true
 is_member Function = false
 is_member Global = false
+is_member EnumerationKind = false
+is_member (EnumValue v) = false
 
--- Which method of its driver answers. A type is asked by nobody.
+-- whether it can be asked at all: a type, an enumeration and a value of one are asked by nobody
+abbrev pub is_asked : EntryKind → Bool
+is_asked TypeKind = false
+is_asked Factory = true
+is_asked Method = true
+is_asked Property = true
+is_asked Function = true
+is_asked Global = true
+is_asked EnumerationKind = false
+is_asked (EnumValue v) = false
+
+-- Which method of its driver answers. Of what is asked by nobody it says nothing.
 abbrev pub role_in : EntryKind → ℕ → Role
 role_in TypeKind f = Making f
 role_in Factory f = Making f
@@ -36,6 +51,8 @@ role_in Method f = Calling f
 role_in Property f = Reading f
 role_in Function f = Calling f
 role_in Global f = Reading f
+role_in EnumerationKind f = Making f
+role_in (EnumValue v) f = Making f
 
 -- a property that is declared `const`
 abbrev pub is_constant : EntryKind → ℕ → Bool → Bool
@@ -51,10 +68,10 @@ use_of x = record {
   read_only = is_constant x.kind x.f x.signature.read_only;
 }
 
--- how an entry of a view is asked; a blank is none, and a type is asked by nobody
+-- how an entry of a view is asked; a blank is none
 abbrev pub asked_as : Option Entry → Option HostUse
 asked_as None = None
-asked_as (Some x) = if is_type x.kind then None else Some (use_of x)
+asked_as (Some x) = if is_asked x.kind then Some (use_of x) else None
 
 -- what a module with this view may ask under a number
 abbrev pub use_in : RegistrationList → ℕ → Option HostUse
@@ -64,9 +81,9 @@ use_in V e = asked_as (entry_at V e)
 pub record HasView (z : Setting) (m : ℕ) (V : RegistrationList) : Type 0 where
   pub each : (e : ℕ) → z.host m e ≡ use_in V e
 
--- the view has an entry under the number, which is no type, and this is how it is asked
+-- the view has an entry under the number, which can be asked, and this is how
 pub record IsOfView (V : RegistrationList) (e : ℕ) (u : HostUse) : Type 0 where
   pub entry : Entry
   pub in_view : entry_at V e ≡ Some entry
-  pub no_type : is_type entry.kind ≡ false
+  pub asked : is_asked entry.kind ≡ true
   pub same : use_of entry ≡ u

@@ -21,7 +21,11 @@ fn referred(ty: ArgType) -> Passing
 {
     match ty {
         ArgType::Object { .. } => Passing::Object,
-        ArgType::Void | ArgType::Null | ArgType::Plain(_) | ArgType::Handle { .. } => Passing::In,
+        ArgType::Void
+        | ArgType::Null
+        | ArgType::Plain(_)
+        | ArgType::Enumeration { .. }
+        | ArgType::Handle { .. } => Passing::In,
     }
 }
 
@@ -63,6 +67,7 @@ fn primitive_of(ty: ArgType) -> Option<Prim>
 {
     match ty {
         ArgType::Plain(primitive) => Some(primitive),
+        ArgType::Enumeration { .. } => Some(Prim::I32),
         ArgType::Void => None,
         ArgType::Null => None,
         ArgType::Object { .. } => None,

@@ -3,7 +3,7 @@ ghost use Rattle.std.specs.Prelude.{◌≡◌, IfOk, map as list_map};
 ghost use Rattle.ang_lower.specs.Hosts as spec;
 
 use ang_host::Role;
-use ang_kinds::{List, Param, TypeRef};
+use ang_kinds::{List, Param, Prim, TypeRef};
 use ang_meaning::{HostType, HostUse};
 use ang_view::{Entry, EntryKind};
 use std::alloc::{AllocError, Global};
@@ -14,6 +14,7 @@ fn host_type(ty: &TypeRef) -> HostType
     match ty {
         TypeRef::Void => HostType::Nothing,
         TypeRef::Plain(primitive) => HostType::Plain(*primitive),
+        TypeRef::Enumeration { .. } => HostType::Plain(Prim::I32),
         TypeRef::Object { .. } => HostType::Handle,
     }
 }
@@ -23,7 +24,12 @@ fn is_member(kind: EntryKind) -> bool
 {
     match kind {
         EntryKind::Method | EntryKind::Property => true,
-        EntryKind::HostType | EntryKind::Factory | EntryKind::Function | EntryKind::Global => false,
+        EntryKind::HostType
+        | EntryKind::Factory
+        | EntryKind::Function
+        | EntryKind::Global
+        | EntryKind::Enumeration
+        | EntryKind::EnumValue(_) => false,
     }
 }
 
@@ -32,7 +38,10 @@ fn role(kind: EntryKind, f: u32) -> Role
     ensures same { result ≡ spec.role_in kind f }
 {
     match kind {
-        EntryKind::HostType | EntryKind::Factory => Role::Making(f),
+        EntryKind::HostType
+        | EntryKind::Factory
+        | EntryKind::Enumeration
+        | EntryKind::EnumValue(_) => Role::Making(f),
         EntryKind::Method | EntryKind::Function => Role::Calling(f),
         EntryKind::Property | EntryKind::Global => Role::Property(f),
     }
@@ -44,7 +53,12 @@ fn is_constant(kind: EntryKind, f: u32, declared: bool) -> bool
 {
     match kind {
         EntryKind::Property | EntryKind::Global => declared,
-        EntryKind::HostType | EntryKind::Factory | EntryKind::Method | EntryKind::Function => false,
+        EntryKind::HostType
+        | EntryKind::Factory
+        | EntryKind::Method
+        | EntryKind::Function
+        | EntryKind::Enumeration
+        | EntryKind::EnumValue(_) => false,
     }
 }
 

@@ -323,6 +323,7 @@ fn initial(ty: ArgType) -> Expression
         ArgType::Void => Expression::Number(0),
         ArgType::Null => Expression::Null,
         ArgType::Plain(_) => Expression::Number(0),
+        ArgType::Enumeration { .. } => Expression::Number(0),
         ArgType::Object { .. } => Expression::Null,
         ArgType::Handle { .. } => Expression::Null,
     }

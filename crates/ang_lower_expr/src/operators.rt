@@ -104,6 +104,7 @@ pub fn brought_to(ty: &ArgType) -> Option<Prim>
 {
     match ty {
         ArgType::Plain(primitive) => integer(*primitive),
+        ArgType::Enumeration { .. } => Some(Prim::I32),
         ArgType::Void => None,
         ArgType::Null => None,
         ArgType::Object { .. } => None,

@@ -1,6 +1,6 @@
 -- With a hidden entry added a scan finds what it found, and the entry at its place.
 use Rattle.std.proofs.Common.{◌≡◌, ◌≢◌, ◌⊎◌, inl, inr, ℕ, zero, suc, ◌+◌, ◌<◌, ◌≤◌, ◌==◌, Bool, true, false, cond, nat_lt, ◌||◌, ◌&&◌, not, List, [], ◌∷◌, ◌++◌, length, Option, Some, None, refl, sym, ap, subst, ◌∙◌, arith, position, eq-eqb}
-use Rattle.std.specs.Prelude.{IfSome, option_to_list}
+use Rattle.std.specs.Prelude.{IfSome, bytes_eq, option_map, option_to_list}
 use Rattle.std.specs.List.{prefix_len, list_any}
 use Rattle.std.proofs.lemmas.Slice.Eq.{bytes_eq-Decides}
 use Rattle.ang_kinds.specs.declared.types.Param.{Param}
@@ -9,12 +9,13 @@ use Rattle.ang_kinds.specs.declared.types.TypeRef.TheVariants as ref
 use Rattle.ang_view.specs.declared.entry.Entry.{Entry}
 use Rattle.ang_view.specs.declared.entry.EntryKind.{EntryKind}
 use Rattle.ang_view.specs.declared.entry.EntryKind.TheVariants as entry
-use Rattle.ang_view.specs.Registration.{RegistrationList, entry_at, is_type, is_function, mentions, is_spelled_with, is_number, is_named_by, is_seen, seen_entry, seen}
-use Rattle.ang_view.specs.Types.{is_type_named, type_named}
+use Rattle.ang_view.specs.Registration.{RegistrationList, entry_at, is_host_type, is_type, is_function, mentions, is_spelled_with, is_number, is_named_by, is_seen, seen_entry, seen}
+use Rattle.ang_view.specs.Types.{enumeration_named, is_enumeration, is_enumeration_named, is_type_named, type_named}
 use Rattle.ang_view.proofs.Lists.{and_gives}
 use Rattle.ang_view.proofs.Seen.{length-seen, entry_at-seen}
-use Rattle.ang_view.proofs.ViewTypes.{named_from, has_mask-named, shown, hidden_too}
+use Rattle.ang_view.proofs.ViewTypes.{has_mask-named, shown}
 use Rattle.ang_view.specs.Hidden.{names_entry, is_with, shown_from, seen_entry_with, seen_with}
+use Rattle.ang_types.specs.declared.arg_type.ArgType.TheVariants as type
 use Rattle.ang_names_host.specs.declared.host.HostFunction.{HostFunction}
 use Rattle.ang_names_host.specs.declared.host.Wanted.{Wanted}
 use Rattle.ang_names_host.specs.declared.host.Wanted.TheVariants as wanted
@@ -62,69 +63,146 @@ prefix_len-at p (x ∷ xs) (y ∷ ys) e h =
 pub position-at : (p : Option Entry → Bool) (xs ys : RegistrationList) → length xs ≡ length ys → ((k : ℕ) → p (entry_at xs k) ≡ p (entry_at ys k)) → position p xs ≡ position p ys
 position-at p xs ys e h = rw (prefix_len-at (λ x. not (p x)) xs ys e (λ k. ap not (h k)), e) refl
 
--- a type shown by a test that lets it through
-pub let_through : (name : List ℕ) (b : Bool) (o s : Option Entry) → (is_type_named name o ≡ true → s ≡ o) → (is_type_named name o ≡ false → is_type_named name s ≡ false)
-    → (t : Bool) → is_type_named name o ≡ t → is_type_named name (cond b o s) ≡ is_type_named name o
-let_through name true o s h g t e = refl
-let_through name false o s h g true e = ap (is_type_named name) (h e)
-let_through name false o s h g false e = g e ∙ sym e
+-- ---- types by name
 
-pub hidden_or : (R : RegistrationList) (m : ℕ) (name : List ℕ) (o : Option Entry) → is_type_named name o ≡ false → is_type_named name (seen_entry R m o) ≡ false
-hidden_or R m name None e = e
-hidden_or R m name (Some t) e = hidden_too name (is_seen R m t) t e
+host_type_is : (k : EntryKind) → is_host_type k ≡ true → is_type k ≡ true
+host_type_is entry.HostType e = refl
+host_type_is entry.Factory e = cc
+host_type_is entry.Method e = cc
+host_type_is entry.Property e = cc
+host_type_is entry.Function e = cc
+host_type_is entry.Global e = cc
+host_type_is entry.Enumeration e = cc
+host_type_is (entry.EnumValue v) e = cc
 
--- a seen entry names seen types
-pub seen_through : (R : RegistrationList) (m k : ℕ) (y : Entry) (name : List ℕ) → is_seen R m y ≡ true → is_type y.kind ≡ false → mentions y.signature name ≡ true
-    → (o : Option Entry) → entry_at R k ≡ o → is_type_named name o ≡ true → seen_entry R m o ≡ o
-seen_through R m k y name s f h None e t = refl
-seen_through R m k y name s f h (Some z) e t =
-    let by : is_named_by y k (Some z) ≡ true = named_from y z k name f h t in
-    shown R m y k (Some z) by (ap (λ o. Rattle.ang_view.specs.Registration.has_mask_for m o) (sym e) ∙ has_mask-named R m y k s (ap (is_named_by y k) e ∙ by))
+enumeration_is : (k : EntryKind) → is_enumeration k ≡ true → is_type k ≡ true
+enumeration_is entry.HostType e = cc
+enumeration_is entry.Factory e = cc
+enumeration_is entry.Method e = cc
+enumeration_is entry.Property e = cc
+enumeration_is entry.Function e = cc
+enumeration_is entry.Global e = cc
+enumeration_is entry.Enumeration e = refl
+enumeration_is (entry.EnumValue v) e = cc
 
-pub types_of_seen : (R : RegistrationList) (m : ℕ) (y : Entry) → is_seen R m y ≡ true → is_type y.kind ≡ false → (name : List ℕ) → mentions y.signature name ≡ true → type_named (seen R m) name ≡ type_named R name
-unfolding type_named
-types_of_seen R m y s f name h =
-    position-at (is_type_named name) (seen R m) R (length-seen R m)
-    (λ k. ap (is_type_named name) (entry_at-seen R m k)
-    ∙ let_through name false (entry_at R k) (seen_entry R m (entry_at R k)) (seen_through R m k y name s f h (entry_at R k) refl) (hidden_or R m name (entry_at R k)) (is_type_named name (entry_at R k)) refl)
+-- a test that types of one name alone pass
+pub record IsTypeTest (own : List ℕ) (p : Option Entry → Bool) : Type 0 where
+  pub of_none : p None ≡ false
+  pub of_some : (t : Entry) → p (Some t) ≡ true → (is_type t.kind ≡ true) × (t.signature.name ≡ own)
 
-pub types_of_seen_with : (R : RegistrationList) (m x : ℕ) (y : Entry) → is_seen R m y ≡ true → is_type y.kind ≡ false → (name : List ℕ) → mentions y.signature name ≡ true → type_named (seen_with R m x) name ≡ type_named R name
-unfolding type_named
-types_of_seen_with R m x y s f name h =
-    position-at (is_type_named name) (seen_with R m x) R (length-seen_with R m x)
-    (λ k. ap (is_type_named name) (entry_at-seen_with R m x k)
-    ∙ let_through name (is_with R x k) (entry_at R k) (seen_entry R m (entry_at R k)) (seen_through R m k y name s f h (entry_at R k) refl) (hidden_or R m name (entry_at R k)) (is_type_named name (entry_at R k)) refl)
+host_type_test : (name : List ℕ) → IsTypeTest name (is_type_named name)
+host_type_test name = record {
+  of_none = refl;
+  of_some = λ t e. let both = and_gives (is_host_type t.kind) (bytes_eq t.signature.name name) e in (host_type_is t.kind both.0, (bytes_eq-Decides t.signature.name name).0 both.1);
+}
 
-pub or_right : (b c : Bool) → c ≡ true → (b || c) ≡ true
+enumeration_test : (name : List ℕ) → IsTypeTest name (is_enumeration_named name)
+enumeration_test name = record {
+  of_none = refl;
+  of_some = λ t e. let both = and_gives (is_enumeration t.kind) (bytes_eq t.signature.name name) e in (enumeration_is t.kind both.0, (bytes_eq-Decides t.signature.name name).0 both.1);
+}
+
+or_right : (b c : Bool) → c ≡ true → (b || c) ≡ true
 or_right true c e = refl
 or_right false c e = e
 
--- the types that the added entry names come with it
-pub with_named : (R : RegistrationList) (x k : ℕ) (y : Entry) (name : List ℕ) → entry_at R x ≡ Some y → is_type y.kind ≡ false → mentions y.signature name ≡ true
-    → (o : Option Entry) → entry_at R k ≡ o → is_type_named name o ≡ true → is_with R x k ≡ true
-with_named R x k y name at f h None e t = cc
-with_named R x k y name at f h (Some z) e t =
-    let by : is_named_by y k (Some z) ≡ true = named_from y z k name f h t in
-    or_right (k == x) (names_entry (entry_at R x) k (entry_at R k)) (ap (λ o. names_entry o k (entry_at R k)) at ∙ ap (is_named_by y k) e ∙ by)
+-- an entry names the types of the names that its signature mentions
+names_it : (y z : Entry) (k : ℕ) (name : List ℕ) → is_type y.kind ≡ false → mentions y.signature name ≡ true → is_type z.kind ≡ true → z.signature.name ≡ name
+    → is_named_by y k (Some z) ≡ true
+names_it y z k name f h is same =
+    let by : mentions y.signature z.signature.name ≡ true = rw same h in
+    let either : (is_number k y.owner || mentions y.signature z.signature.name) ≡ true = or_right _ _ by in
+    rw (f, is, either)
 
-pub taken : (name : List ℕ) (b : Bool) (o s : Option Entry) → (is_type_named name o ≡ true → b ≡ true) → (is_type_named name o ≡ false → is_type_named name s ≡ false)
-    → (t : Bool) → is_type_named name o ≡ t → is_type_named name (cond b o s) ≡ is_type_named name o
-taken name true o s h g t e = refl
-taken name false o s h g true e = let no' : false ≡ true = h e in cc
-taken name false o s h g false e = g e ∙ sym e
+module _ (name : List ℕ) (p : Option Entry → Bool) (test : IsTypeTest name p) where
+  -- a type shown by a test that lets it through
+  let_through : (b : Bool) (o s : Option Entry) → (p o ≡ true → s ≡ o) → (p o ≡ false → p s ≡ false) → (t : Bool) → p o ≡ t → p (cond b o s) ≡ p o
+  let_through true o s h g t e = refl
+  let_through false o s h g true e = ap p (h e)
+  let_through false o s h g false e = g e ∙ sym e
 
-pub types_of_added : (R : RegistrationList) (m x : ℕ) (y : Entry) → entry_at R x ≡ Some y → is_type y.kind ≡ false → (name : List ℕ) → mentions y.signature name ≡ true → type_named (seen_with R m x) name ≡ type_named R name
-unfolding type_named
+  shown_or_none : (b : Bool) (t : Entry) → p (Some t) ≡ false → p (cond b (Some t) None) ≡ false
+  shown_or_none true t e = e
+  shown_or_none false t e = test.of_none
+
+  hidden_or : (R : RegistrationList) (m : ℕ) (o : Option Entry) → p o ≡ false → p (seen_entry R m o) ≡ false
+  hidden_or R m None e = e
+  hidden_or R m (Some t) e = shown_or_none (is_seen R m t) t e
+
+  -- a seen entry names seen types
+  seen_through : (R : RegistrationList) (m k : ℕ) (y : Entry) → is_seen R m y ≡ true → is_type y.kind ≡ false → mentions y.signature name ≡ true
+      → (o : Option Entry) → entry_at R k ≡ o → p o ≡ true → seen_entry R m o ≡ o
+  seen_through R m k y s f h None e t = refl
+  seen_through R m k y s f h (Some z) e t =
+      let is = test.of_some z t in
+      let by : is_named_by y k (Some z) ≡ true = names_it y z k name f h is.0 is.1 in
+      shown R m y k (Some z) by (ap (λ o. Rattle.ang_view.specs.Registration.has_mask_for m o) (sym e) ∙ has_mask-named R m y k s (ap (is_named_by y k) e ∙ by))
+
+  place_in_seen : (R : RegistrationList) (m : ℕ) (y : Entry) → is_seen R m y ≡ true → is_type y.kind ≡ false → mentions y.signature name ≡ true
+      → position p (seen R m) ≡ position p R
+  place_in_seen R m y s f h =
+      position-at p (seen R m) R (length-seen R m)
+      (λ k. ap p (entry_at-seen R m k)
+      ∙ let_through false (entry_at R k) (seen_entry R m (entry_at R k)) (seen_through R m k y s f h (entry_at R k) refl) (hidden_or R m (entry_at R k)) (p (entry_at R k)) refl)
+
+  place_in_seen_with : (R : RegistrationList) (m x : ℕ) (y : Entry) → is_seen R m y ≡ true → is_type y.kind ≡ false → mentions y.signature name ≡ true
+      → position p (seen_with R m x) ≡ position p R
+  place_in_seen_with R m x y s f h =
+      position-at p (seen_with R m x) R (length-seen_with R m x)
+      (λ k. ap p (entry_at-seen_with R m x k)
+      ∙ let_through (is_with R x k) (entry_at R k) (seen_entry R m (entry_at R k)) (seen_through R m k y s f h (entry_at R k) refl) (hidden_or R m (entry_at R k)) (p (entry_at R k)) refl)
+
+  -- the types that the added entry names come with it
+  with_named : (R : RegistrationList) (x k : ℕ) (y : Entry) → entry_at R x ≡ Some y → is_type y.kind ≡ false → mentions y.signature name ≡ true
+      → (o : Option Entry) → entry_at R k ≡ o → p o ≡ true → is_with R x k ≡ true
+  with_named R x k y at f h None e t = let no' : false ≡ true = sym test.of_none ∙ t in cc
+  with_named R x k y at f h (Some z) e t =
+      let is = test.of_some z t in
+      let by : is_named_by y k (Some z) ≡ true = names_it y z k name f h is.0 is.1 in
+      or_right (k == x) (names_entry (entry_at R x) k (entry_at R k)) (ap (λ o. names_entry o k (entry_at R k)) at ∙ ap (is_named_by y k) e ∙ by)
+
+  taken : (b : Bool) (o s : Option Entry) → (p o ≡ true → b ≡ true) → (p o ≡ false → p s ≡ false) → (t : Bool) → p o ≡ t → p (cond b o s) ≡ p o
+  taken true o s h g t e = refl
+  taken false o s h g true e = let no' : false ≡ true = h e in cc
+  taken false o s h g false e = g e ∙ sym e
+
+  place_in_added : (R : RegistrationList) (m x : ℕ) (y : Entry) → entry_at R x ≡ Some y → is_type y.kind ≡ false → mentions y.signature name ≡ true
+      → position p (seen_with R m x) ≡ position p R
+  place_in_added R m x y at f h =
+      position-at p (seen_with R m x) R (length-seen_with R m x)
+      (λ k. ap p (entry_at-seen_with R m x k)
+      ∙ taken (is_with R x k) (entry_at R k) (seen_entry R m (entry_at R k)) (with_named R x k y at f h (entry_at R k) refl) (hidden_or R m (entry_at R k)) (p (entry_at R k)) refl)
+
+-- both views have the same types and enumerations of a signature
+abbrev pub SameTypes : RegistrationList → RegistrationList → (List ℕ → Bool) → Type 0
+SameTypes V W test = (name : List ℕ) → test name ≡ true → (type_named V name ≡ type_named W name) × (enumeration_named V name ≡ enumeration_named W name)
+
+pub types_of_seen : (R : RegistrationList) (m : ℕ) (y : Entry) → is_seen R m y ≡ true → is_type y.kind ≡ false → SameTypes (seen R m) R (mentions y.signature)
+unfolding type_named enumeration_named
+types_of_seen R m y s f name h =
+    (place_in_seen name (is_type_named name) (host_type_test name) R m y s f h, place_in_seen name (is_enumeration_named name) (enumeration_test name) R m y s f h)
+
+pub types_of_seen_with : (R : RegistrationList) (m x : ℕ) (y : Entry) → is_seen R m y ≡ true → is_type y.kind ≡ false
+    → SameTypes (seen_with R m x) R (mentions y.signature)
+unfolding type_named enumeration_named
+types_of_seen_with R m x y s f name h =
+    (place_in_seen_with name (is_type_named name) (host_type_test name) R m x y s f h, place_in_seen_with name (is_enumeration_named name) (enumeration_test name) R m x y s f h)
+
+pub types_of_added : (R : RegistrationList) (m x : ℕ) (y : Entry) → entry_at R x ≡ Some y → is_type y.kind ≡ false
+    → SameTypes (seen_with R m x) R (mentions y.signature)
+unfolding type_named enumeration_named
 types_of_added R m x y at f name h =
-    position-at (is_type_named name) (seen_with R m x) R (length-seen_with R m x)
-    (λ k. ap (is_type_named name) (entry_at-seen_with R m x k)
-    ∙ taken name (is_with R x k) (entry_at R k) (seen_entry R m (entry_at R k)) (with_named R x k y name at f h (entry_at R k) refl) (hidden_or R m name (entry_at R k)) (is_type_named name (entry_at R k)) refl)
+    (place_in_added name (is_type_named name) (host_type_test name) R m x y at f h, place_in_added name (is_enumeration_named name) (enumeration_test name) R m x y at f h)
+
+-- a view with an entry more has the types that a seen entry names as the view without it has them
+pub types_of_both : (R : RegistrationList) (m x : ℕ) (y : Entry) → is_seen R m y ≡ true → is_type y.kind ≡ false
+    → SameTypes (seen_with R m x) (seen R m) (mentions y.signature)
+types_of_both R m x y s f name h =
+    let more = types_of_seen_with R m x y s f name h in
+    let less = types_of_seen R m y s f name h in
+    (more.0 ∙ sym less.0, more.1 ∙ sym less.1)
 
 -- ---- what is made of a declaration
-
--- both views have the same types of a signature
-abbrev pub SameTypes : RegistrationList → RegistrationList → (List ℕ → Bool) → Type 0
-SameTypes V W test = (name : List ℕ) → test name ≡ true → type_named V name ≡ type_named W name
 
 pub or_left : (b c : Bool) → b ≡ true → (b || c) ≡ true
 or_left true c e = refl
@@ -133,7 +211,8 @@ or_left false c e = cc
 pub host_type-same : (V W : RegistrationList) (t : TypeRef) → SameTypes V W (λ name. is_spelled_with name t) → host_type V t ≡ host_type W t
 host_type-same V W ref.Void h = refl
 host_type-same V W (ref.Plain p) h = refl
-host_type-same V W (ref.Object name s o c) h = ap (object_with s o) (h name ((bytes_eq-Decides name name).1 refl))
+host_type-same V W (ref.Enumeration name) h = ap (option_map type.Enumeration) (h name ((bytes_eq-Decides name name).1 refl)).1
+host_type-same V W (ref.Object name s o c) h = ap (object_with s o) (h name ((bytes_eq-Decides name name).1 refl)).0
 
 pub host_parameters-same : (V W : RegistrationList) (ps : List Param) → SameTypes V W (λ name. list_any (λ p. is_spelled_with name p.ty) ps) → host_parameters V ps ≡ host_parameters W ps
 host_parameters-same V W [] h = refl
@@ -156,6 +235,8 @@ function_no_type entry.Method e = refl
 function_no_type entry.Property e = refl
 function_no_type entry.Function e = refl
 function_no_type entry.Global e = refl
+function_no_type entry.Enumeration e = cc
+function_no_type (entry.EnumValue v) e = refl
 
 pub factory_no_type : (k : EntryKind) → is_factory k ≡ true → is_type k ≡ false
 factory_no_type entry.HostType e = cc
@@ -164,6 +245,8 @@ factory_no_type entry.Method e = refl
 factory_no_type entry.Property e = refl
 factory_no_type entry.Function e = refl
 factory_no_type entry.Global e = refl
+factory_no_type entry.Enumeration e = cc
+factory_no_type (entry.EnumValue v) e = refl
 
 pub method_no_type : (k : EntryKind) → is_method k ≡ true → is_type k ≡ false
 method_no_type entry.HostType e = cc
@@ -172,6 +255,8 @@ method_no_type entry.Method e = refl
 method_no_type entry.Property e = refl
 method_no_type entry.Function e = refl
 method_no_type entry.Global e = refl
+method_no_type entry.Enumeration e = cc
+method_no_type (entry.EnumValue v) e = refl
 
 -- nothing that is looked for is a type
 pub no_type : (w : Wanted) (y : Entry) → is_wanted w y ≡ true → is_type y.kind ≡ false
@@ -306,7 +391,7 @@ at_other R m x w k ne (Some y) e = by_sight (is_seen R m y) refl (is_with R x k)
         → found w (seen_with R m x) k (cond b (Some y) (cond s (Some y) None)) ≡ found w (seen R m) k (cond s (Some y) None)
     by_sight true s b t =
         ap (found w (seen_with R m x) k) (either_way b (Some y))
-        ∙ found-same w (seen_with R m x) (seen R m) k y (λ f name h. types_of_seen_with R m x y s f name h ∙ sym (types_of_seen R m y s f name h))
+        ∙ found-same w (seen_with R m x) (seen R m) k y (λ f. types_of_both R m x y s f)
     by_sight false s false t = refl
     by_sight false s true t =
         let named : names_entry (entry_at R x) k (Some y) ≡ true = sym (ap (λ o. names_entry (entry_at R x) k o) e) ∙ sym (rw (same_number k x ne) refl) ∙ t in
@@ -317,7 +402,7 @@ is_same x = eq-eqb x x refl
 
 pub at_own : (R : RegistrationList) (m x : ℕ) (w : Wanted) (o : Option Entry) → entry_at R x ≡ o → found w (seen_with R m x) x o ≡ found w R x o
 at_own R m x w None e = refl
-at_own R m x w (Some y) e = found-same w (seen_with R m x) R x y (λ f name h. types_of_added R m x y e f name h)
+at_own R m x w (Some y) e = found-same w (seen_with R m x) R x y (λ f. types_of_added R m x y e f)
 
 pub shown_own : (R : RegistrationList) (m x : ℕ) → entry_at (seen_with R m x) x ≡ entry_at R x
 shown_own R m x =

@@ -15,7 +15,7 @@ use Rattle.ang_names_host.specs.declared.host.WantedProperty.{WantedProperty}
 use Rattle.ang_names_host.specs.declared.host.WantedProperty.TheVariants as wanted
 use Rattle.ang_names_host.specs.Added.{added_property}
 use Rattle.ang_names_host.specs.Host.{host_type, is_global, is_property, is_wanted_property, property_with, property_found, first_found, property_where}
-use Rattle.ang_names_host.proofs.Adding.{SameTypes, either_way, entry_at-seen_with, length-seen_with, host_type-same, lt_is, not_lt_is, or_left, order, past_end, range, same_number, shown_own, type_of_named, types_of_added, types_of_seen, types_of_seen_with}
+use Rattle.ang_names_host.proofs.Adding.{SameTypes, either_way, entry_at-seen_with, length-seen_with, host_type-same, lt_is, not_lt_is, or_left, order, past_end, range, same_number, shown_own, type_of_named, types_of_added, types_of_both}
 
 -- ---- what is made of a declaration
 
@@ -26,6 +26,8 @@ global_no_type entry.Method e = refl
 global_no_type entry.Property e = refl
 global_no_type entry.Function e = refl
 global_no_type entry.Global e = refl
+global_no_type entry.Enumeration e = cc
+global_no_type (entry.EnumValue v) e = refl
 
 property_no_type : (k : EntryKind) → is_property k ≡ true → is_type k ≡ false
 property_no_type entry.HostType e = cc
@@ -34,6 +36,8 @@ property_no_type entry.Method e = refl
 property_no_type entry.Property e = refl
 property_no_type entry.Function e = refl
 property_no_type entry.Global e = refl
+property_no_type entry.Enumeration e = cc
+property_no_type (entry.EnumValue v) e = refl
 
 -- nothing that is looked for is a type
 no_type : (w : WantedProperty) (y : Entry) → is_wanted_property w y ≡ true → is_type y.kind ≡ false
@@ -157,7 +161,7 @@ at_other R m x w k ne (Some y) e = by_sight (is_seen R m y) refl (is_with R x k)
         → property_found w (seen_with R m x) k (cond b (Some y) (cond s (Some y) None)) ≡ property_found w (seen R m) k (cond s (Some y) None)
     by_sight true s b t =
         ap (property_found w (seen_with R m x) k) (either_way b (Some y))
-        ∙ found_same w (seen_with R m x) (seen R m) k y (λ f name h. types_of_seen_with R m x y s f name h ∙ sym (types_of_seen R m y s f name h))
+        ∙ found_same w (seen_with R m x) (seen R m) k y (λ f. types_of_both R m x y s f)
     by_sight false s false t = refl
     by_sight false s true t =
         let named : names_entry (entry_at R x) k (Some y) ≡ true = sym (ap (λ o. names_entry (entry_at R x) k o) e) ∙ sym (rw (same_number k x ne) refl) ∙ t in
@@ -165,7 +169,7 @@ at_other R m x w k ne (Some y) e = by_sight (is_seen R m y) refl (is_with R x k)
 
 at_own : (R : RegistrationList) (m x : ℕ) (w : WantedProperty) (o : Option Entry) → entry_at R x ≡ o → property_found w (seen_with R m x) x o ≡ property_found w R x o
 at_own R m x w None e = refl
-at_own R m x w (Some y) e = found_same w (seen_with R m x) R x y (λ f name h. types_of_added R m x y e f name h)
+at_own R m x w (Some y) e = found_same w (seen_with R m x) R x y (λ f. types_of_added R m x y e f)
 
 pub one_property_added : (R : RegistrationList) (m x : ℕ) (w : WantedProperty) → entry_at (seen R m) x ≡ None
     → property_where w (seen_with R m x) ≡ added_property (property_found w R x (entry_at R x)) (property_where w (seen R m))

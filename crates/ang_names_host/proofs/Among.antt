@@ -42,6 +42,8 @@ function_is_bare entry.Method e = cc
 function_is_bare entry.Property e = cc
 function_is_bare entry.Function e = refl
 function_is_bare entry.Global e = cc
+function_is_bare entry.Enumeration e = cc
+function_is_bare (entry.EnumValue v) e = cc
 
 global_is_bare : (k : EntryKind) → is_global k ≡ true → is_bare k ≡ true
 global_is_bare entry.HostType e = cc
@@ -50,6 +52,8 @@ global_is_bare entry.Method e = cc
 global_is_bare entry.Property e = cc
 global_is_bare entry.Function e = cc
 global_is_bare entry.Global e = refl
+global_is_bare entry.Enumeration e = cc
+global_is_bare (entry.EnumValue v) e = cc
 
 method_is_member : (k : EntryKind) → is_method k ≡ true → is_member_kind k ≡ true
 method_is_member entry.HostType e = cc
@@ -58,6 +62,8 @@ method_is_member entry.Method e = refl
 method_is_member entry.Property e = cc
 method_is_member entry.Function e = cc
 method_is_member entry.Global e = cc
+method_is_member entry.Enumeration e = cc
+method_is_member (entry.EnumValue v) e = cc
 
 property_is_member : (k : EntryKind) → is_property k ≡ true → is_member_kind k ≡ true
 property_is_member entry.HostType e = cc
@@ -66,6 +72,8 @@ property_is_member entry.Method e = cc
 property_is_member entry.Property e = refl
 property_is_member entry.Function e = cc
 property_is_member entry.Global e = cc
+property_is_member entry.Enumeration e = cc
+property_is_member (entry.EnumValue v) e = cc
 
 factory_makes : (k : EntryKind) → is_factory k ≡ true → is_maker k ≡ true
 factory_makes entry.HostType e = cc
@@ -74,6 +82,8 @@ factory_makes entry.Method e = cc
 factory_makes entry.Property e = cc
 factory_makes entry.Function e = cc
 factory_makes entry.Global e = cc
+factory_makes entry.Enumeration e = cc
+factory_makes (entry.EnumValue v) e = cc
 
 wider : (b c d : Bool) → (b ≡ true → d ≡ true) → (b && c) ≡ true → (d && c) ≡ true
 wider true c d h e = rw (h refl) e

@@ -1,8 +1,8 @@
 -- What a module sees of the host's functions, factories, methods and properties, with what their types mean (docs/LANGUAGE.md, "Names
 -- of a build"; the AngelScript manual, "Registering a function", "Registering object methods" and "Registering global properties").
--- A host's declaration names host types alone. One of which some type is not in the view is none that a script can use; the view of a
+-- A host's declaration names types of the host alone. One of which some type is not in the view is none that a script can use; the view of a
 -- mask has all types that it names.
-use Rattle.std.specs.Prelude.{ℕ, ◌+◌, Bool, true, false, ◌&&◌, List, [], ◌∷◌, ◌++◌, Option, Some, None, bytes_eq, option_to_list, if◌then◌else◌}
+use Rattle.std.specs.Prelude.{ℕ, ◌+◌, Bool, true, false, ◌&&◌, List, [], ◌∷◌, ◌++◌, Option, Some, None, bytes_eq, option_map, option_to_list, if◌then◌else◌}
 use Rattle.std.specs.Option.{option_or}
 use Rattle.ang_kinds.specs.declared.types.Param.{Param}
 use Rattle.ang_kinds.specs.declared.types.Pass.{Pass}
@@ -14,7 +14,7 @@ use Rattle.ang_view.specs.declared.entry.Entry.{Entry}
 use Rattle.ang_view.specs.declared.entry.EntryKind.{EntryKind}
 use Rattle.ang_view.specs.declared.entry.EntryKind.TheVariants as entry
 use Rattle.ang_view.specs.Registration.{RegistrationList, is_function, is_number}
-use Rattle.ang_view.specs.Types.{type_named}
+use Rattle.ang_view.specs.Types.{enumeration_named, type_named}
 use Rattle.ang_types.specs.declared.arg_type.ArgType.{ArgType}
 use Rattle.ang_types.specs.declared.arg_type.ArgType.TheVariants as type
 use Rattle.ang_names_host.specs.declared.host.HostFunction.{HostFunction}
@@ -39,6 +39,7 @@ object_with s constant (Some n) = Some (shaped s n constant)
 abbrev pub host_type : RegistrationList → TypeRef → Option ArgType
 host_type V ref.Void = Some type.Void
 host_type V (ref.Plain p) = Some (type.Plain p)
+host_type V (ref.Enumeration name) = option_map type.Enumeration (enumeration_named V name)
 host_type V (ref.Object name s o h) = object_with s o (type_named V name)
 
 -- ---- functions, factories and methods
@@ -75,6 +76,8 @@ is_factory entry.Method = false
 is_factory entry.Property = false
 is_factory entry.Function = false
 is_factory entry.Global = false
+is_factory entry.Enumeration = false
+is_factory (entry.EnumValue v) = false
 
 abbrev pub is_method : EntryKind → Bool
 is_method entry.HostType = false
@@ -83,6 +86,8 @@ is_method entry.Method = true
 is_method entry.Property = false
 is_method entry.Function = false
 is_method entry.Global = false
+is_method entry.Enumeration = false
+is_method (entry.EnumValue v) = false
 
 -- functions of a name, factories of a type, and methods of a type and a name
 abbrev pub is_wanted : Wanted → Entry → Bool
@@ -116,6 +121,8 @@ is_global entry.Method = false
 is_global entry.Property = false
 is_global entry.Function = false
 is_global entry.Global = true
+is_global entry.Enumeration = false
+is_global (entry.EnumValue v) = false
 
 abbrev pub is_property : EntryKind → Bool
 is_property entry.HostType = false
@@ -124,6 +131,8 @@ is_property entry.Method = false
 is_property entry.Property = true
 is_property entry.Function = false
 is_property entry.Global = false
+is_property entry.Enumeration = false
+is_property (entry.EnumValue v) = false
 
 -- the global property of a name, and the property of a type and a name
 abbrev pub is_wanted_property : WantedProperty → Entry → Bool

@@ -1,12 +1,13 @@
 //! What a module sees of the host, by name and by type.
 ghost use Rattle.std.specs.Prelude.{◌≡◌, ◌++◌, IfOk, OnOk, Some, option_map, option_to_list};
 ghost use Rattle.ang_view.specs.Registration.{entry_at};
-ghost use Rattle.ang_view.specs.Types.{type_named};
+ghost use Rattle.ang_view.specs.Types.{enumeration_named, type_named};
+ghost use Rattle.ang_types.specs.declared.arg_type.ArgType.TheVariants as type;
 ghost use Rattle.ang_names_host.specs.Among.{found_among, property_among};
 ghost use Rattle.ang_names_host.specs.Host as spec;
 
 use ang_kinds::{EntityNo, List, Param, Pass, Shape, TypeRef};
-use ang_names_known::{Text, type_number};
+use ang_names_known::{Text, enumeration_number, type_number};
 use ang_types::ArgType;
 use ang_view::{Entry, EntryKind, View, belongs_to};
 use std::alloc::{AllocError, Global};
@@ -72,6 +73,14 @@ fn shaped(shape: Shape, number: u32, read_only: bool) -> ArgType
     }
 }
 
+/// The enumeration of this name, if the module sees it.
+fn enumeration_type(view: &View, name: &[u8]) -> Option<ArgType>
+    ensures exact { result ≡ option_map type.Enumeration (enumeration_named view.now name.now) }
+{
+    let number = enumeration_number(view, name)?;
+    Some(ArgType::Enumeration { number })
+}
+
 /// The type that a host's declaration names, if the module sees it.
 fn host_type(view: &View, ty: &TypeRef) -> Option<ArgType>
     ensures exact { result ≡ spec.host_type view.now ty.now }
@@ -79,6 +88,7 @@ fn host_type(view: &View, ty: &TypeRef) -> Option<ArgType>
     match ty {
         TypeRef::Void => Some(ArgType::Void),
         TypeRef::Plain(primitive) => Some(ArgType::Plain(*primitive)),
+        TypeRef::Enumeration { name } => enumeration_type(view, name.as_slice()),
         TypeRef::Object {
             name,
             shape,

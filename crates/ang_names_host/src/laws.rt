@@ -3,7 +3,7 @@ ghost use Rattle.std.specs.Prelude.{ℕ, ◌≡◌, List, Some, None, true, fals
 ghost use Rattle.ang_view.specs.declared.entry.Entry.{Entry};
 ghost use Rattle.ang_view.specs.Hidden.{seen_with};
 ghost use Rattle.ang_view.specs.Registration.{RegistrationList, entry_at, is_seen, is_type, mentions, seen};
-ghost use Rattle.ang_view.specs.Types.{type_named};
+ghost use Rattle.ang_view.specs.Types.{enumeration_named, type_named};
 ghost use Rattle.ang_names_host.specs.declared.host.Wanted.{Wanted};
 ghost use Rattle.ang_names_host.specs.declared.host.WantedProperty.{WantedProperty};
 ghost use Rattle.ang_names_host.specs.Added.{added, added_property};
@@ -21,15 +21,23 @@ pub fn one_is_added()
         ≡ added_property (property_found w R x (entry_at R x)) (property_where w (seen R m)) }
 {}
 
-/// The types that a seen declaration names keep their numbers in the larger view, which are those of the whole list, and so
-/// have the types that the added one names.
+/// The types and enumerations that a seen declaration names keep their numbers in the larger view, which are
+/// those of the whole list, and so have the ones that the added declaration names.
 pub fn types_stay()
     ensures seen { (R : RegistrationList) (m x : ℕ) (y : Entry) → is_seen R m y ≡ true →
         is_type y.kind ≡ false →
         (name : List ℕ) → mentions y.signature name ≡ true →
         type_named (seen_with R m x) name ≡ type_named R name }
+    ensures seen_enumeration { (R : RegistrationList) (m x : ℕ) (y : Entry) →
+        is_seen R m y ≡ true → is_type y.kind ≡ false →
+        (name : List ℕ) → mentions y.signature name ≡ true →
+        enumeration_named (seen_with R m x) name ≡ enumeration_named R name }
     ensures own { (R : RegistrationList) (m x : ℕ) (y : Entry) → entry_at R x ≡ Some y →
         is_type y.kind ≡ false →
         (name : List ℕ) → mentions y.signature name ≡ true →
         type_named (seen_with R m x) name ≡ type_named R name }
+    ensures own_enumeration { (R : RegistrationList) (m x : ℕ) (y : Entry) →
+        entry_at R x ≡ Some y → is_type y.kind ≡ false →
+        (name : List ℕ) → mentions y.signature name ≡ true →
+        enumeration_named (seen_with R m x) name ≡ enumeration_named R name }
 {}

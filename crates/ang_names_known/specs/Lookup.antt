@@ -31,6 +31,7 @@ is_read_only_by (type.Handle n c) constant const_handle = const_handle
 is_read_only_by type.Void constant const_handle = constant
 is_read_only_by type.Null constant const_handle = constant
 is_read_only_by (type.Plain p) constant const_handle = constant
+is_read_only_by (type.Enumeration n) constant const_handle = constant
 is_read_only_by (type.Object n c) constant const_handle = constant
 
 -- a variable of this written type can't be assigned: `const int`, `const T`, `T@ const`
@@ -41,12 +42,13 @@ abbrev pub same_type : ArgType → ArgType → Bool
 same_type type.Void type.Void = true
 same_type type.Null type.Null = true
 same_type (type.Plain p) (type.Plain q) = primitive_number p == primitive_number q
+same_type (type.Enumeration n) (type.Enumeration m) = n == m
 same_type (type.Object n c) (type.Object m d) = n == m && beq c d
 same_type (type.Handle n c) (type.Handle m d) = n == m && beq c d
 same_type _ _ = false
 
--- Two types are written the same: `int32` is `int`, and `const` stands at both or at neither, in front and after `@`. Object types are
--- the same by number.
+-- Two types are written the same: `int32` is `int`, and `const` stands at both or at neither, in front and after `@`. Object types
+-- and enumerations are the same by number.
 abbrev pub same_written : Written → Written → Bool
 same_written a b = same_type a.ty b.ty && beq a.constant b.constant && beq a.const_handle b.const_handle
 

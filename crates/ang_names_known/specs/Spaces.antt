@@ -1,9 +1,9 @@
--- The object types that a name can mean: the classes and interfaces of the scripts, and the types that the module sees of the host
--- (docs/LANGUAGE.md, "Names of a build"; the AngelScript manual, "Data types"). No number moves as a view grows.
+-- The types that a name can mean: the classes and interfaces of the scripts, and the object types and enumerations that the module sees
+-- of the host (docs/LANGUAGE.md, "Names of a build"; the AngelScript manual, "Data types"). No number moves as a view grows.
 use Rattle.std.specs.Prelude.{ℕ, ◌+◌, ◌-◌, ◌≤◌, ◌<◌, nat_lt, Bool, not, if◌then◌else◌, List, [], ◌++◌, All, map, length, replicate, Option, Some, None, bytes_eq}
 use Rattle.std.specs.List.{position}
 use Rattle.ang_view.specs.Registration.{RegistrationList}
-use Rattle.ang_view.specs.Types.{type_named}
+use Rattle.ang_view.specs.Types.{enumeration_named, type_named}
 use Rattle.ang_types.specs.Ranks.{Ancestors}
 use Rattle.ang_names_known.specs.declared.names.Family.{Family}
 use Rattle.ang_names_known.specs.declared.names.Names.{Names}
@@ -35,15 +35,17 @@ is_family_type n = not (nat_lt n first_family)
 abbrev pub family_of_type : ℕ → Option ℕ
 family_of_type n = if nat_lt n first_family then None else Some (n - first_family)
 
--- the type of a name that is a family's or a host type's
-abbrev pub family_or_host : Option ℕ → Option ℕ → Named
-family_or_host (Some c) host = named.Object (family_type c)
-family_or_host None (Some n) = named.Object n
-family_or_host None None = named.Unknown
+-- the type of a name that is a family's, or else a host type's, or else an enumeration's
+abbrev pub family_or_host : Option ℕ → Option ℕ → Option ℕ → Named
+family_or_host (Some c) host enumeration = named.Object (family_type c)
+family_or_host None (Some n) enumeration = named.Object n
+family_or_host None None (Some n) = named.Enumeration n
+family_or_host None None None = named.Unknown
 
 -- The type that a name means. A name that the script declares is the script's, whatever the view has.
 unfoldable pub type_of_name : Space → List ℕ → Named
-type_of_name E name = family_or_host (position (bytes_eq name) E.families) (type_named E.view name)
+type_of_name E name =
+    family_or_host (position (bytes_eq name) E.families) (type_named E.view name) (enumeration_named E.view name)
 
 abbrev pub space_of_names : RegistrationList → Names → Space
 space_of_names V names = record { view = V; families = map (λ (f : Family). f.name) names.families }

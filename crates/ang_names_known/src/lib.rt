@@ -31,4 +31,4 @@ pub use names::{
     Access, Constructor, Default, Family, Field, FoundField, Method, Names as NameLists, Origin,
     ScriptFunction, ScriptGlobal, ScriptParameter, Written,
 };
-pub use space::{Named, Space, family_or_host, type_number};
+pub use space::{Named, Space, enumeration_number, family_or_host, type_number};

@@ -14,19 +14,24 @@ pub fn is_read_only(written: Written) -> bool
 {
     match written.ty {
         ArgType::Handle { .. } => written.const_handle,
-        ArgType::Void | ArgType::Null | ArgType::Plain(_) | ArgType::Object { .. } => {
-            written.constant
-        }
+        ArgType::Void
+        | ArgType::Null
+        | ArgType::Plain(_)
+        | ArgType::Enumeration { .. }
+        | ArgType::Object { .. } => written.constant,
     }
 }
 
-/// Whether two types are one, `const` included. Object types go by their numbers.
+/// Whether two types are one, `const` included. Object types and enumerations go by their numbers.
 pub fn same_type(one: ArgType, other: ArgType) -> bool
     ensures exact { result ≡ spec.same_type one other }
 {
     match (one, other) {
         (ArgType::Void, ArgType::Void) | (ArgType::Null, ArgType::Null) => true,
         (ArgType::Plain(one), ArgType::Plain(other)) => one == other,
+        (ArgType::Enumeration { number }, ArgType::Enumeration { number: other }) => {
+            number == other
+        }
         (
             ArgType::Object { number, read_only },
             ArgType::Object {

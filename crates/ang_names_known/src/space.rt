@@ -1,7 +1,7 @@
-//! The object types that a name can mean.
-ghost use Rattle.std.specs.Prelude.{◌≡◌, ◌≤◌, ◌<◌, length, bytes_eq, map, IfSome};
+//! The types that a name can mean.
+ghost use Rattle.std.specs.Prelude.{◌≡◌, ◌≤◌, ◌<◌, None, length, bytes_eq, map, IfSome};
 ghost use Rattle.std.specs.List.{position};
-ghost use Rattle.ang_view.specs.Types.{type_named};
+ghost use Rattle.ang_view.specs.Types.{enumeration_named, type_named};
 ghost use Rattle.ang_names_known.specs.Spaces as spaces;
 
 use crate::borrowed::Text;
@@ -18,6 +18,8 @@ pub enum Named {
     Unknown,
     /// The object type of this number: a host type's entry, or 1,024 and the number of a family.
     Object(u32),
+    /// The enumeration of the host of this number, which is that of its entry.
+    Enumeration(u32),
 }
 
 /// The number of the host type of this name that the module sees. It takes no memory.
@@ -25,6 +27,14 @@ pub fn type_number(view: &View, name: &[u8]) -> Option<u32>
     ensures exact { result ≡ type_named view.now name.now }
 {
     let EntityNo(number) = view.find_type(name)?;
+    Some(number)
+}
+
+/// The number of the enumeration of this name that the module sees. It takes no memory.
+pub fn enumeration_number(view: &View, name: &[u8]) -> Option<u32>
+    ensures exact { result ≡ enumeration_named view.now name.now }
+{
+    let EntityNo(number) = view.find_enumeration(name)?;
     Some(number)
 }
 
@@ -37,7 +47,7 @@ enum FamilyNames<'a> {
     Known(&'a IndexedNames),
 }
 
-/// The object types that names mean: what a module sees of the host, and the names of the scripts' families.
+/// The types that names mean: what a module sees of the host, and the names of the scripts' families.
 #[derive(Drop)]
 pub struct Space<'a> {
     view: &'a View,
@@ -105,7 +115,9 @@ impl<'a> Space<'a> {
     pub fn named(&self, name: &[u8]) -> Named
         ensures exact { result ≡ spaces.type_of_name self.now name.now }
     {
-        family_or_host(self.family_named(name), type_number(self.view, name))
+        let host = type_number(self.view, name);
+        let enumeration = enumeration_number(self.view, name);
+        family_or_host(self.family_named(name), host, enumeration)
     }
 }
 
@@ -124,17 +136,26 @@ fn known_as(names: &IndexedNames, name: &[u8]) -> Option<usize>
     names.family_named(name)
 }
 
-/// What a name means as a type that is the name of this family, or else of this host type. It takes
-/// no memory.
-pub fn family_or_host(family: Option<usize>, host: Option<u32>) -> Named
+fn enumeration_or_none(enumeration: Option<u32>) -> Named
+    ensures exact { result ≡ spaces.family_or_host None None enumeration }
+{
+    match enumeration {
+        Some(number) => Named::Enumeration(number),
+        None => Named::Unknown,
+    }
+}
+
+/// What a name means as a type that is the name of this family, or else of this host type, or else of
+/// this enumeration. It takes no memory.
+pub fn family_or_host(family: Option<usize>, host: Option<u32>, enumeration: Option<u32>) -> Named
     requires few { IfSome family (λ c. c < 256) }
-    ensures exact { result ≡ spaces.family_or_host family host }
+    ensures exact { result ≡ spaces.family_or_host family host enumeration }
 {
     match family {
         Some(family) => Named::Object(family_type(family)),
         None => match host {
             Some(number) => Named::Object(number),
-            None => Named::Unknown,
+            None => enumeration_or_none(enumeration),
         },
     }
 }

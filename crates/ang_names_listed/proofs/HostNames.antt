@@ -23,6 +23,8 @@ excludes_is_bare text p entry.Method qs e = cc
 excludes_is_bare text p entry.Property qs e = cc
 excludes_is_bare text p entry.Function qs e = refl
 excludes_is_bare text p entry.Global qs e = refl
+excludes_is_bare text p entry.Enumeration qs e = refl
+excludes_is_bare text p (entry.EnumValue v) qs e = cc
 
 clash_has_name : (d : Declared) (o : Option Entry) → clashes_with_host d o ≡ true → has_name (declared_name d) o ≡ true
 clash_has_name d None e = cc

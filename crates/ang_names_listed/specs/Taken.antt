@@ -50,7 +50,7 @@ excludes_host_function text (part.Function y ps) qs = same_as_host text ps qs
 excludes_host_function text (part.Import y ps) qs = same_as_host text ps qs
 excludes_host_function text (part.Global y) qs = true
 
--- a type's factories, methods and properties have names of their own
+-- a type's factories, methods and properties have names of their own, and so have an enumeration's values
 abbrev pub excludes_host : List ℕ → Part → EntryKind → List Param → Bool
 excludes_host text p entry.HostType qs = true
 excludes_host text p entry.Factory qs = false
@@ -58,6 +58,8 @@ excludes_host text p entry.Method qs = false
 excludes_host text p entry.Property qs = false
 excludes_host text p entry.Function qs = excludes_host_function text p qs
 excludes_host text p entry.Global qs = true
+excludes_host text p entry.Enumeration qs = true
+excludes_host text p (entry.EnumValue v) qs = false
 
 abbrev pub clashes_with_host : Declared → Option Entry → Bool
 clashes_with_host d None = false

@@ -79,8 +79,9 @@ fn excludes_host(text: &[u8], part: &Part<'_>, kind: EntryKind, others: &[Param]
     ensures exact { result ≡ spec.excludes_host text.now part.now kind others.now }
 {
     match kind {
-        EntryKind::HostType | EntryKind::Global => true,
+        EntryKind::HostType | EntryKind::Global | EntryKind::Enumeration => true,
         EntryKind::Factory | EntryKind::Method | EntryKind::Property => false,
+        EntryKind::EnumValue(_) => false,
         EntryKind::Function => excludes_host_function(text, part, others),
     }
 }

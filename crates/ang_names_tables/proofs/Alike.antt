@@ -1,5 +1,6 @@
 -- Methods that stand for one another have the same bytes.
 use Rattle.std.specs.Prelude.{ℕ, ◌≡◌, ◌+◌, ◌==◌, Bool, true, false, ◌&&◌, List, [], ◌∷◌, ◌++◌, bytes_eq}
+use Rattle.std.specs.Int.{to_le_bytes, w32}
 use Rattle.std.proofs.Common.{arith, refl, sym, ap}
 use Rattle.std.proofs.lemmas.Slice.Eq.{bytes_eq-Decides}
 use Rattle.std.proofs.Math.Bool.{beq}
@@ -33,26 +34,37 @@ types_alike : (a b : ArgType) → same_type a b ≡ true → type_code a ≡ typ
 types_alike type.Void type.Void h = refl
 types_alike type.Void type.Null h = cc
 types_alike type.Void (type.Plain q) h = cc
+types_alike type.Void (type.Enumeration m) h = cc
 types_alike type.Void (type.Object m d) h = cc
 types_alike type.Void (type.Handle m d) h = cc
 types_alike type.Null type.Void h = cc
 types_alike type.Null type.Null h = refl
 types_alike type.Null (type.Plain q) h = cc
+types_alike type.Null (type.Enumeration m) h = cc
 types_alike type.Null (type.Object m d) h = cc
 types_alike type.Null (type.Handle m d) h = cc
 types_alike (type.Plain p) type.Void h = cc
 types_alike (type.Plain p) type.Null h = cc
 types_alike (type.Plain p) (type.Plain q) h = ap (λ n. (n + 2) ∷ []) (same_number (primitive_number p) (primitive_number q) h)
+types_alike (type.Plain p) (type.Enumeration m) h = cc
 types_alike (type.Plain p) (type.Object m d) h = cc
 types_alike (type.Plain p) (type.Handle m d) h = cc
+types_alike (type.Enumeration n) type.Void h = cc
+types_alike (type.Enumeration n) type.Null h = cc
+types_alike (type.Enumeration n) (type.Plain q) h = cc
+types_alike (type.Enumeration n) (type.Enumeration m) h = ap (λ k. 13 ∷ to_le_bytes w32 k) (same_number n m h)
+types_alike (type.Enumeration n) (type.Object m d) h = cc
+types_alike (type.Enumeration n) (type.Handle m d) h = cc
 types_alike (type.Object n c) type.Void h = cc
 types_alike (type.Object n c) type.Null h = cc
 types_alike (type.Object n c) (type.Plain q) h = cc
+types_alike (type.Object n c) (type.Enumeration m) h = cc
 types_alike (type.Object n c) (type.Object m d) h = objects_alike 11 n m c d h
 types_alike (type.Object n c) (type.Handle m d) h = cc
 types_alike (type.Handle n c) type.Void h = cc
 types_alike (type.Handle n c) type.Null h = cc
 types_alike (type.Handle n c) (type.Plain q) h = cc
+types_alike (type.Handle n c) (type.Enumeration m) h = cc
 types_alike (type.Handle n c) (type.Object m d) h = cc
 types_alike (type.Handle n c) (type.Handle m d) h = objects_alike 12 n m c d h
 

@@ -72,6 +72,7 @@ abbrev pub held_by : ArgType → Option ℕ
 held_by type.Void = None
 held_by type.Null = None
 held_by (type.Plain p) = None
+held_by (type.Enumeration n) = None
 held_by (type.Object n c) = None
 held_by (type.Handle n c) = family_of_type n
 

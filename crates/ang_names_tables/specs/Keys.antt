@@ -22,6 +22,7 @@ abbrev pub type_code : ArgType → List ℕ
 type_code type.Void = 0 ∷ []
 type_code type.Null = 1 ∷ []
 type_code (type.Plain p) = (primitive_number p + 2) ∷ []
+type_code (type.Enumeration n) = 13 ∷ to_le_bytes w32 n
 type_code (type.Object n c) = object_code 11 n c
 type_code (type.Handle n c) = object_code 12 n c
 

@@ -53,6 +53,7 @@ fn held_by(ty: ArgType) -> Option<usize>
         ArgType::Void => None,
         ArgType::Null => None,
         ArgType::Plain(_) => None,
+        ArgType::Enumeration { .. } => None,
         ArgType::Object { .. } => None,
     }
 }

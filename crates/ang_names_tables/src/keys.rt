@@ -1,6 +1,6 @@
 //! Bytes that methods of one signature share, so that these are found by them.
 ghost use Rattle.std.specs.Int.{to_le_bytes, w32};
-ghost use Rattle.std.specs.Prelude.{◌≡◌, ◌+◌, ◌++◌, IfOk, OnOk};
+ghost use Rattle.std.specs.Prelude.{◌≡◌, ◌+◌, ◌++◌, ◌∷◌, IfOk, OnOk};
 ghost use Rattle.ang_view.specs.Numbers.{pass_number, primitive_number};
 ghost use Rattle.ang_names_tables.specs.Keys as spec;
 
@@ -54,6 +54,17 @@ fn push_object(code: &mut Vec<u8>, kind: u8, number: u32, read_only: bool) -> Re
     Ok(())
 }
 
+/// Puts the bytes of an enumeration after others.
+#[tactic(auto, using(std::proofs::Common::append_assoc))]
+fn push_enumeration(code: &mut Vec<u8>, number: u32) -> Result<(), AllocError>
+    ensures pushed { OnOk result
+        (code.new.items ≡ code.old.items ++ 13 ∷ to_le_bytes w32 number) }
+{
+    code.push(13)?;
+    code.extend_from_slice(&number.to_le_bytes())?;
+    Ok(())
+}
+
 fn push_type(code: &mut Vec<u8>, ty: ArgType) -> Result<(), AllocError>
     ensures pushed { OnOk result (code.new.items ≡ code.old.items ++ spec.type_code ty) }
 {
@@ -61,6 +72,7 @@ fn push_type(code: &mut Vec<u8>, ty: ArgType) -> Result<(), AllocError>
         ArgType::Void => code.push(0)?,
         ArgType::Null => code.push(1)?,
         ArgType::Plain(primitive) => code.push(primitive_code(primitive))?,
+        ArgType::Enumeration { number } => push_enumeration(code, number)?,
         ArgType::Object { number, read_only } => push_object(code, 11, number, read_only)?,
         ArgType::Handle { number, read_only } => push_object(code, 12, number, read_only)?,
     }

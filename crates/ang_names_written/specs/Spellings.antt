@@ -53,6 +53,7 @@ spelling_of text p = record {
 abbrev pub host_base : TypeRef → Base
 host_base ref.Void = base.Void
 host_base (ref.Plain p) = base.Primitive p
+host_base (ref.Enumeration name) = base.Named name
 host_base (ref.Object name s o h) = base.Named name
 
 abbrev pub shape_sign : Shape → Bool → Sign
@@ -63,11 +64,13 @@ shape_sign shape.AutoHandle h = sign_by h
 abbrev pub host_sign : TypeRef → Sign
 host_sign ref.Void = sign.Absent
 host_sign (ref.Plain p) = sign.Absent
+host_sign (ref.Enumeration name) = sign.Absent
 host_sign (ref.Object name s o h) = shape_sign s h
 
 abbrev pub is_host_const : TypeRef → Bool
 is_host_const ref.Void = false
 is_host_const (ref.Plain p) = false
+is_host_const (ref.Enumeration name) = false
 is_host_const (ref.Object name s o h) = o
 
 -- how a host function's parameter is spelled

@@ -1,5 +1,5 @@
 -- What written types mean, and where they can stand (docs/LANGUAGE.md, "Names of a build"; the AngelScript manual, "Data types", "Object
--- handles" and "Parameter references"; what can stand where is this profile's own). Object types go by number.
+-- handles" and "Parameter references"; what can stand where is this profile's own). Object types and enumerations go by number.
 use Rattle.std.specs.Prelude.{ℕ, Bool, true, false, if◌then◌else◌, is_some, List, Option, Some, None, Result, Ok, Err}
 use Rattle.ang_kinds.specs.declared.error.ErrorKind.{ErrorKind}
 use Rattle.ang_kinds.specs.declared.error.ErrorKind.TheVariants.{UnknownType, BadType, ByValue, BadImport}
@@ -28,7 +28,7 @@ TypeOrError = Result ArgType ErrorKind
 
 -- ---- what is written
 
--- a primitive type and `void` have no handles
+-- a primitive type, an enumeration and `void` have no handles
 abbrev pub without_handle : ArgType → Option Handle → TypeOrError
 without_handle t None = Ok t
 without_handle t (Some h) = Err BadType
@@ -38,6 +38,7 @@ abbrev pub object_type : Named → Bool → Option Handle → TypeOrError
 object_type named.Unknown constant handle = Err UnknownType
 object_type (named.Object n) constant None = Ok (type.Object n constant)
 object_type (named.Object n) constant (Some h) = Ok (type.Handle n constant)
+object_type (named.Enumeration n) constant handle = without_handle (type.Enumeration n) handle
 
 abbrev pub written_type : Space → List ℕ → TypeName → TokenKind → TypeOrError
 written_type E text y (k.Primitive p) = without_handle (type.Plain p) y.handle
@@ -51,6 +52,7 @@ abbrev pub no_void : ArgType → TypeOrError
 no_void type.Void = Err BadType
 no_void type.Null = Ok type.Null
 no_void (type.Plain p) = Ok (type.Plain p)
+no_void (type.Enumeration n) = Ok (type.Enumeration n)
 no_void (type.Object n c) = Ok (type.Object n c)
 no_void (type.Handle n c) = Ok (type.Handle n c)
 
@@ -59,6 +61,7 @@ abbrev pub no_object : ArgType → TypeOrError
 no_object type.Void = Ok type.Void
 no_object type.Null = Ok type.Null
 no_object (type.Plain p) = Ok (type.Plain p)
+no_object (type.Enumeration n) = Ok (type.Enumeration n)
 no_object (type.Object n c) = Err ByValue
 no_object (type.Handle n c) = Ok (type.Handle n c)
 
@@ -67,6 +70,7 @@ abbrev pub taken_in : ArgType → TypeOrError
 taken_in type.Void = Ok type.Void
 taken_in type.Null = Ok type.Null
 taken_in (type.Plain p) = Ok (type.Plain p)
+taken_in (type.Enumeration n) = Ok (type.Enumeration n)
 taken_in (type.Object n c) = if c then Ok (type.Object n c) else Err ByValue
 taken_in (type.Handle n c) = Ok (type.Handle n c)
 
@@ -75,6 +79,7 @@ abbrev pub changed : ArgType → TypeOrError
 changed type.Void = Err BadType
 changed type.Null = Err BadType
 changed (type.Plain p) = Err BadType
+changed (type.Enumeration n) = Err BadType
 changed (type.Object n c) = Ok (type.Object n c)
 changed (type.Handle n c) = Err BadType
 
@@ -84,11 +89,12 @@ passed pass.RefIn t = taken_in t
 passed pass.RefOut t = no_object t
 passed pass.RefInOut t = changed t
 
--- what passes between modules: a handle to a host type, and a primitive by value
+-- what passes between modules: a handle to a host type, and a primitive or an enumeration by value
 abbrev pub crossing : Bool → ArgType → TypeOrError
 crossing by_value type.Void = Ok type.Void
 crossing by_value type.Null = Err BadImport
 crossing by_value (type.Plain p) = if by_value then Ok (type.Plain p) else Err BadImport
+crossing by_value (type.Enumeration n) = if by_value then Ok (type.Enumeration n) else Err BadImport
 crossing by_value (type.Object n c) = Err BadImport
 crossing by_value (type.Handle n c) = if is_family_type n then Err BadImport else Ok (type.Handle n c)
 
@@ -103,6 +109,7 @@ abbrev pub cast_to : ArgType → TypeOrError
 cast_to type.Void = Err BadType
 cast_to type.Null = Err BadType
 cast_to (type.Plain p) = Err BadType
+cast_to (type.Enumeration n) = Err BadType
 cast_to (type.Object n c) = Ok (type.Handle n c)
 cast_to (type.Handle n c) = Ok (type.Handle n c)
 
@@ -121,7 +128,7 @@ admitted (role.ImportParameter p) t = no_void t and_then passed p and_then cross
 admitted role.Cast t = cast_to t
 
 -- The type that is written where it has this role. `UnknownType` where the name is that of no type, `BadType` of a handle to a
--- primitive type or to `void`, of `void` that is no result, and of `&inout` of what is no object; `ByValue` of an object where none
+-- primitive type, an enumeration or `void`, of `void` that is no result, and of `&inout` of what is no object; `ByValue` of an object where none
 -- can be by value, and `BadImport` of what does not pass between modules.
 unfoldable pub type_in : Space → Role → List ℕ → TypeName → TypeOrError
 type_in E r text y = written_type E text y y.name.kind and_then admitted r

@@ -95,6 +95,7 @@ fn host_base(ty: &TypeRef) -> Base<'_>
     match ty {
         TypeRef::Void => Base::Void,
         TypeRef::Plain(primitive) => Base::Primitive(*primitive),
+        TypeRef::Enumeration { name } => Base::Named(Text::new(name.as_slice())),
         TypeRef::Object { name, .. } => Base::Named(Text::new(name.as_slice())),
     }
 }
@@ -103,7 +104,7 @@ fn host_sign(ty: &TypeRef) -> Sign
     ensures exact { result ≡ spec.host_sign ty.now }
 {
     match ty {
-        TypeRef::Void | TypeRef::Plain(_) => Sign::Absent,
+        TypeRef::Void | TypeRef::Plain(_) | TypeRef::Enumeration { .. } => Sign::Absent,
         TypeRef::Object {
             shape,
             const_handle,
@@ -119,7 +120,7 @@ fn is_host_const(ty: &TypeRef) -> bool
     ensures exact { result ≡ spec.is_host_const ty.now }
 {
     match ty {
-        TypeRef::Void | TypeRef::Plain(_) => false,
+        TypeRef::Void | TypeRef::Plain(_) | TypeRef::Enumeration { .. } => false,
         TypeRef::Object { const_object, .. } => *const_object,
     }
 }

@@ -10,7 +10,7 @@ use ang_names_known::{FIRST_FAMILY, Named, Space, Written};
 use ang_tree::{Handle, Reference, TypeName};
 use ang_types::ArgType;
 
-/// A primitive type and `void` have no handles.
+/// A primitive type, an enumeration and `void` have no handles.
 fn without_handle(ty: ArgType, handle: &Option<Handle>) -> Result<ArgType, ErrorKind>
     ensures exact { result ≡ spec.without_handle ty handle.now }
 {
@@ -29,6 +29,7 @@ fn object_type(named: Named, read_only: bool, handle: &Option<Handle>) -> Result
             None => Ok(ArgType::Object { number, read_only }),
             Some(_) => Ok(ArgType::Handle { number, read_only }),
         },
+        Named::Enumeration(number) => without_handle(ArgType::Enumeration { number }, handle),
     }
 }
 
@@ -88,9 +89,11 @@ fn changed(ty: ArgType) -> Result<ArgType, ErrorKind>
 {
     match ty {
         ArgType::Object { .. } => Ok(ty),
-        ArgType::Void | ArgType::Null | ArgType::Plain(_) | ArgType::Handle { .. } => {
-            Err(ErrorKind::BadType)
-        }
+        ArgType::Void
+        | ArgType::Null
+        | ArgType::Plain(_)
+        | ArgType::Enumeration { .. }
+        | ArgType::Handle { .. } => Err(ErrorKind::BadType),
     }
 }
 
@@ -104,13 +107,13 @@ fn passed(pass: Pass, ty: ArgType) -> Result<ArgType, ErrorKind>
     }
 }
 
-/// What passes between modules: a handle to a host type, and a primitive by value.
+/// What passes between modules: a handle to a host type, and a primitive or an enumeration by value.
 fn crossing(by_value: bool, ty: ArgType) -> Result<ArgType, ErrorKind>
     ensures exact { result ≡ spec.crossing by_value ty }
 {
     match ty {
         ArgType::Void => Ok(ty),
-        ArgType::Plain(_) => {
+        ArgType::Plain(_) | ArgType::Enumeration { .. } => {
             if by_value {
                 Ok(ty)
             } else {
@@ -145,7 +148,9 @@ fn cast_to(ty: ArgType) -> Result<ArgType, ErrorKind>
         ArgType::Object { number, read_only } | ArgType::Handle { number, read_only } => {
             Ok(ArgType::Handle { number, read_only })
         }
-        ArgType::Void | ArgType::Null | ArgType::Plain(_) => Err(ErrorKind::BadType),
+        ArgType::Void | ArgType::Null | ArgType::Plain(_) | ArgType::Enumeration { .. } => {
+            Err(ErrorKind::BadType)
+        }
     }
 }
 
@@ -171,7 +176,7 @@ fn admitted(role: Role, ty: ArgType) -> Result<ArgType, ErrorKind>
 
 /// The type that is written where it has this role.
 ///
-/// `UnknownType` where the name is that of no type; `BadType` of a handle to a primitive type or to `void`, of `void`
+/// `UnknownType` where the name is that of no type; `BadType` of a handle to a primitive type, an enumeration or `void`, of `void`
 /// that is no result, and of `&inout` of what is no object; `ByValue` of an object where none can be by value; `BadImport` of
 /// what does not pass between modules. It takes no memory.
 #[tactic(auto, unfolding(crate::specs::Types::type_in))]

@@ -6,7 +6,7 @@ use Rattle.ang_lex.specs.declared.token.TokenKind.TheVariants as k
 use Rattle.ang_tree.specs.declared.type_name.TypeName.{TypeName}
 use Rattle.ang_tree.specs.Kinds.{Is, step_kind, precedence}
 use Rattle.ang_tree.specs.TypeNames.{spelled_type}
-use Rattle.ang_tree.specs.Tree.{Tree, Args, Trees, literal, name, call, scoped_call, cast, convert, group, postfix, member, method_call, prefix, binary, conditional, assignment, arguments, none, more, added, spelled, listed, level, Fits, FitsArgs, AllFit, OthersFit}
+use Rattle.ang_tree.specs.Tree.{Tree, Args, Trees, literal, name, call, scoped_call, scoped_name, cast, convert, group, postfix, member, method_call, prefix, binary, conditional, assignment, arguments, none, more, added, spelled, listed, level, Fits, FitsArgs, AllFit, OthersFit}
 use Rattle.ang_parse_read.specs.Read.{Parser, and_then, repeat}
 use Rattle.ang_parse_read.specs.Tokens.{is_const}
 use Rattle.ang_parse_read.proofs.Loops.{repeat_stops, repeat_goes_on}
@@ -25,6 +25,7 @@ abbrev mutual
   size (name x) = 1
   size (call x es) = suc (size_args es)
   size (scoped_call c scope x es) = suc (size_args es)
+  size (scoped_name c scope x) = 1
   size (cast word less y greater left e right) = suc (size e)
   size (convert p left e right) = suc (size e)
   size (group left e right) = suc (size e)
@@ -150,6 +151,9 @@ complete_literal t = posts (literal t) (omega arith) refl (post_base (literal t)
 
 complete_name : (x : Token) → Complete (name x)
 complete_name x = posts (name x) (omega arith) refl (post_base (name x) refl (λ n ts f sz op. s.name_done (r.expr n) n x ts f op))
+
+complete_scoped_name : (c scope x : Token) → Complete (scoped_name c scope x)
+complete_scoped_name c scope x = posts (scoped_name c scope x) (omega arith) refl (post_base (scoped_name c scope x) refl (λ n ts f sz op. s.scoped_name_done (r.expr n) n c scope x ts f.0 f.1 f.2 op))
 
 low_at : (kind : TokenKind) (t : Token) (ts : List Token) → t.kind ≡ kind → grip_of kind ≤ 0 → grip (t ∷ ts) ≤ 0
 low_at kind t ts is h = omega (arith, grip_is kind t ts is)
@@ -340,6 +344,7 @@ mutual
   complete (name x) = complete_name x
   complete (call x es) = complete_call x es (complete_args es)
   complete (scoped_call c scope x es) = complete_scoped c scope x es (complete_args es)
+  complete (scoped_name c scope x) = complete_scoped_name c scope x
   complete (cast word less y greater left x right) = complete_cast word less y greater left x right (complete x)
   complete (convert p left x right) = complete_convert p left x right (complete x)
   complete (group left x right) = complete_group left x right (complete x)

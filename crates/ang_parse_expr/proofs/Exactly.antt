@@ -1,7 +1,7 @@
 -- The reader of expressions is exact against the grammar.
 use Rattle.std.proofs.Common.{◌≡◌, ℕ, ◌+◌, ◌<◌, ◌≤◌, List, [], ◌∷◌, length, Some, None, Ok, ap, ◌∙◌, arith}
 use Rattle.ang_lex.specs.declared.token.Token.{Token}
-use Rattle.ang_tree.specs.Tree.{Tree, Args, Trees, literal, name, call, scoped_call, cast, convert, group, postfix, member, method_call, prefix, binary, conditional, assignment, arguments, none, more, spelled, spelled_args, listed, Fits, FitsArgs, AllFit, OthersFit, Spells}
+use Rattle.ang_tree.specs.Tree.{Tree, Args, Trees, literal, name, call, scoped_call, scoped_name, cast, convert, group, postfix, member, method_call, prefix, binary, conditional, assignment, arguments, none, more, spelled, spelled_args, listed, Fits, FitsArgs, AllFit, OthersFit, Spells}
 use Rattle.ang_parse_read.proofs.Whole.{Exact, one_reading}
 use Rattle.ang_parse_expr.specs.ReadExpr as r
 use Rattle.ang_parse_expr.proofs.SoundType.{optional-length, type-length}
@@ -15,6 +15,7 @@ mutual
   size-length (name x) s f = omega arith
   size-length (call x es) s f = omega (arith, args-size es s f.1)
   size-length (scoped_call c scope x es) s f = omega (arith, args-size es s f.3)
+  size-length (scoped_name c scope x) s f = omega arith
   size-length (cast word less y greater left e right) s f = omega (arith, type-length y (greater ∷ left ∷ spelled e (right ∷ s)), size-length e (right ∷ s) f.5)
   size-length (convert p left e right) s f = omega (arith, size-length e (right ∷ s) f.2)
   size-length (group left e right) s f = omega (arith, size-length e (right ∷ s) f.1)

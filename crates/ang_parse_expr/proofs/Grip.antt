@@ -5,7 +5,7 @@ use Rattle.ang_lex.specs.declared.token.Token.{Token}
 use Rattle.ang_lex.specs.declared.token.TokenKind.{TokenKind}
 use Rattle.ang_lex.specs.declared.token.TokenKind.TheVariants as k
 use Rattle.ang_tree.specs.Kinds.{IsA, literal_kind, primitive_kind, prefix_kind, assignment_kind, precedence}
-use Rattle.ang_tree.specs.Tree.{Tree, literal, name, call, scoped_call, cast, convert, group, postfix, member, method_call, prefix, binary, conditional, assignment, spelled, spelled_args, level, Fits}
+use Rattle.ang_tree.specs.Tree.{Tree, literal, name, call, scoped_call, scoped_name, cast, convert, group, postfix, member, method_call, prefix, binary, conditional, assignment, spelled, spelled_args, level, Fits}
 use Rattle.ang_parse_read.specs.Read.{Parser, Choice, look}
 use Rattle.ang_parse_read.proofs.Tokens.{look_at}
 use Rattle.ang_parse_expr.specs.ReadExpr as r
@@ -204,6 +204,7 @@ first_primary (literal t) ts f h = first_at primary_kind t ts (literal_primary t
 first_primary (name x) ts f h = first_at primary_kind x ts (ap primary_kind f)
 first_primary (call x es) ts f h = first_at primary_kind x (spelled_args es ts) (ap primary_kind f.0)
 first_primary (scoped_call c scope x es) ts f h = first_at primary_kind c (scope ∷ x ∷ spelled_args es ts) (ap primary_kind f.0)
+first_primary (scoped_name c scope x) ts f h = first_at primary_kind c (scope ∷ x ∷ ts) (ap primary_kind f.0)
 first_primary (cast word less y greater left e right) ts f h = first_at primary_kind word _ (ap primary_kind f.0)
 first_primary (convert p left e right) ts f h = first_at primary_kind p _ (primitive_primary p.kind f.0)
 first_primary (group left e right) ts f h = first_at primary_kind left _ (ap primary_kind f.0)
@@ -224,6 +225,7 @@ starts (literal t) ts f = widened _ (first_primary (literal t) ts f (omega arith
 starts (name x) ts f = widened _ (first_primary (name x) ts f (omega arith))
 starts (call x es) ts f = widened _ (first_primary (call x es) ts f (omega arith))
 starts (scoped_call c scope x es) ts f = widened _ (first_primary (scoped_call c scope x es) ts f (omega arith))
+starts (scoped_name c scope x) ts f = widened _ (first_primary (scoped_name c scope x) ts f (omega arith))
 starts (cast word less y greater left e right) ts f = widened _ (first_primary (cast word less y greater left e right) ts f (omega arith))
 starts (convert p left e right) ts f = widened _ (first_primary (convert p left e right) ts f (omega arith))
 starts (group left e right) ts f = widened _ (first_primary (group left e right) ts f (omega arith))

@@ -7,7 +7,7 @@ use Rattle.ang_kinds.specs.declared.primitive.Primitive.{Primitive}
 use Rattle.ang_lex.specs.declared.token.TokenKind.{TokenKind}
 use Rattle.ang_lex.specs.declared.token.TokenKind.TheVariants as k
 use Rattle.ang_tree.specs.Kinds.{Is, literal_kind, type_kind, prefix_kind, step_kind, assignment_kind, precedence}
-use Rattle.ang_tree.specs.Tree.{Tree, Trees, literal, name, call, scoped_call, cast, convert, group, postfix, member, method_call, prefix, binary, conditional, assignment, arguments, none, more, added}
+use Rattle.ang_tree.specs.Tree.{Tree, Trees, literal, name, call, scoped_call, scoped_name, cast, convert, group, postfix, member, method_call, prefix, binary, conditional, assignment, arguments, none, more, added}
 use Rattle.ang_parse_read.specs.Read.{Parser, pure, ◌>>=◌, refuse, Choice, given, look, Turn}
 use Rattle.ang_parse_read.specs.Tokens.{a_token, perhaps, is_name, is_left_paren, is_right_paren, is_less, is_greater, is_colon, is_const}
 use Rattle.ang_parse_read.proofs.DependsOnPrefix.{DependsOnPrefix, Both, both_given, prefix_pure, prefix_refuse, prefix_bind, prefix_look, prefix_repeat}
@@ -87,9 +87,13 @@ module _ (b z : List Token) where
     unfolding r.args
     args_prefix left = by_kind (r.args_by e m left) (r.args_by d n left) (r.some_args e m left) (r.some_args d n left) (args_by_prefix left) (some_args_prefix left)
 
+    scoped_by_prefix : (c scope x : Token) (kind : TokenKind) → Both b z (r.scoped_by e m c scope x kind) (r.scoped_by d n c scope x kind)
+    scoped_by_prefix c scope x k.LeftParen = λ left. bind (r.args e m left) (r.args d n left) _ _ (args_prefix left) (λ es. unit (scoped_call c scope x es))
+    scoped_by_prefix c scope x _ = tt
+
     scoped_prefix : (c scope : Token) → T (r.scoped e m c scope) (r.scoped d n c scope)
     unfolding r.scoped
-    scoped_prefix c scope = then_token is_name _ _ (λ x. then_token is_left_paren _ _ (λ left. bind (r.args e m left) (r.args d n left) _ _ (args_prefix left) (λ es. unit (scoped_call c scope x es))))
+    scoped_prefix c scope = then_token is_name _ _ (λ x. by_kind (r.scoped_by e m c scope x) (r.scoped_by d n c scope x) _ _ (scoped_by_prefix c scope x) (unit (scoped_name c scope x)))
 
     named_by_prefix : (x : Token) (kind : TokenKind) → Both b z (r.named_by e m x kind) (r.named_by d n x kind)
     named_by_prefix x k.LeftParen = λ left. bind (r.args e m left) (r.args d n left) _ _ (args_prefix left) (λ es. unit (call x es))

@@ -6,7 +6,7 @@ use Rattle.ang_lex.specs.declared.token.TokenKind.{TokenKind}
 use Rattle.ang_lex.specs.declared.token.TokenKind.TheVariants as k
 use Rattle.ang_tree.specs.Kinds.{Is, IsA, IsComma, optional, literal_kind, primitive_kind, prefix_kind, step_kind, assignment_kind, precedence}
 use Rattle.ang_tree.specs.TypeNames.{spelled_type}
-use Rattle.ang_tree.specs.Tree.{Tree, Args, Trees, literal, name, call, scoped_call, cast, convert, group, postfix, member, method_call, prefix, binary, conditional, assignment, arguments, none, more, added, spelled, spelled_args, listed, level, Fits, FitsArgs, AllFit, OthersFit}
+use Rattle.ang_tree.specs.Tree.{Tree, Args, Trees, literal, name, call, scoped_call, scoped_name, cast, convert, group, postfix, member, method_call, prefix, binary, conditional, assignment, arguments, none, more, added, spelled, spelled_args, listed, level, Fits, FitsArgs, AllFit, OthersFit}
 use Rattle.ang_parse_read.specs.Read.{Parser, pure, ◌>>=◌, refuse, given, repeat}
 use Rattle.ang_parse_read.specs.Tokens.{a_token, is_name, is_left_paren, is_right_paren, is_less, is_greater, is_colon}
 use Rattle.ang_parse_read.proofs.Outcomes.{Reads, and_reads, along, behind, further, ChoiceReads, look_reads, look_or_pass_reads, given_reads, Passes, Turns, repeat_reads, From-self, From-one, From-length}
@@ -47,6 +47,7 @@ mutual
   spelled-length (name x) s = omega arith
   spelled-length (call x es) s = omega (arith, args-length es s)
   spelled-length (scoped_call c scope x es) s = omega (arith, args-length es s)
+  spelled-length (scoped_name c scope x) s = omega arith
   spelled-length (cast word less y greater left e right) s = omega (arith, type-length y (greater ∷ left ∷ spelled e (right ∷ s)), spelled-length e (right ∷ s))
   spelled-length (convert p left e right) s = omega (arith, spelled-length e (right ∷ s))
   spelled-length (group left e right) s = omega (arith, spelled-length e (right ∷ s))
@@ -157,15 +158,21 @@ module _ (n : ℕ) (e : ℕ → Parser Tree) (E : (least : ℕ) (ts : List Token
 
   -- ---- primary
 
+  scoped_by_reads : (w : List Token) (c scope x : Token) → Is k.Name c → Is k.Scope scope → Is k.Name x → ChoiceReads n (λ s. w ≡ c ∷ scope ∷ x ∷ s) (λ s. IsRead w 12) (r.scoped_by e n c scope x)
+  scoped_by_reads w c scope x C S X k.LeftParen t u is h =
+      further n (t ∷ u) u (IsRead w 12) _ _ (From-one t u) (λ y s q. q)
+      (and_reads n u (IsArgs t u) (IsRead w 12) (r.args e n t u) (λ es. pure (scoped_call c scope x es)) (args_reads t is u)
+      (λ es s q f. (record { text = h ∙ ap (λ v. c ∷ scope ∷ x ∷ v) q.text; fits = (C, S, X, q.fits); at_least = omega arith }, f)))
+  scoped_by_reads w c scope x C S X _ t u is h = tt
+
   scoped_reads : (c scope : Token) → Is k.Name c → Is k.Scope scope → (ts : List Token) → Reads n ts (IsRead (c ∷ scope ∷ ts) 12) (r.scoped e n c scope ts)
   unfolding r.scoped
   scoped_reads c scope C S ts =
       and_reads n ts (Token_read is_name ts) (IsRead (c ∷ scope ∷ ts) 12) (a_token is_name ts) _ (a_token_reads is_name n ts)
       (λ x s p f. further n ts s (IsRead (c ∷ scope ∷ ts) 12) _ _ f (λ y u z. z)
-      (and_reads n s (Token_read is_left_paren s) (IsRead (c ∷ scope ∷ ts) 12) (a_token is_left_paren s) _ (a_token_reads is_left_paren n s)
-      (λ left u l g. further n s u (IsRead (c ∷ scope ∷ ts) 12) _ _ g (λ y v z. z)
-      (and_reads n u (IsArgs left u) (IsRead (c ∷ scope ∷ ts) 12) (r.args e n left u) (λ es. pure (scoped_call c scope x es)) (args_reads left (left_paren_is left.kind l.kind) u)
-      (λ es v q i. (record { text = ap (λ v. c ∷ scope ∷ v) (p.text ∙ ap (λ v. x ∷ v) (l.text ∙ q.text)); fits = (C, S, name_is x.kind p.kind, q.fits); at_least = omega arith }, i))))))
+      (look_reads n (λ s. c ∷ scope ∷ ts ≡ c ∷ scope ∷ x ∷ s) (λ s. IsRead (c ∷ scope ∷ ts) 12) (r.scoped_by e n c scope x) (pure (scoped_name c scope x)) (scoped_by_reads (c ∷ scope ∷ ts) c scope x C S (name_is x.kind p.kind))
+      (λ s q. (record { text = q; fits = (C, S, name_is x.kind p.kind); at_least = omega arith }, From-self s)) s
+      (ap (λ v. c ∷ scope ∷ v) p.text)))
 
   named_by_reads : (x : Token) → Is k.Name x → ChoiceReads n Always (λ ts. IsRead (x ∷ ts) 12) (r.named_by e n x)
   named_by_reads x X k.LeftParen t u is z =

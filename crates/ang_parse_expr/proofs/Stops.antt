@@ -5,7 +5,7 @@ use Rattle.ang_lex.specs.declared.token.TokenKind.{TokenKind}
 use Rattle.ang_lex.specs.declared.token.TokenKind.TheVariants as k
 use Rattle.ang_tree.specs.declared.type_name.TypeName.{TypeName}
 use Rattle.ang_tree.specs.Kinds.{Is, IsA, literal_kind, primitive_kind, prefix_kind, step_kind, assignment_kind, precedence}
-use Rattle.ang_tree.specs.Tree.{Tree, Args, Trees, literal, name, call, scoped_call, cast, convert, group, postfix, member, method_call, prefix, binary, conditional, assignment, arguments, none, added}
+use Rattle.ang_tree.specs.Tree.{Tree, Args, Trees, literal, name, call, scoped_call, scoped_name, cast, convert, group, postfix, member, method_call, prefix, binary, conditional, assignment, arguments, none, added}
 use Rattle.ang_parse_read.specs.Read.{Parser, and_then, pure, ◌>>=◌, refuse, given, chosen, look, Turn}
 use Rattle.ang_parse_read.specs.Tokens.{is_name, is_left_paren, is_right_paren, is_less, is_greater, is_colon}
 use Rattle.ang_parse_read.proofs.Tokens.{look_is, look_at, a_token_is, begins}
@@ -84,9 +84,25 @@ module _ (e : ℕ → Parser Tree) (n : ℕ) where
   pub call_done : (x left : Token) (es : Args) (ts us : List Token) → Is k.Name x → Is k.LeftParen left → r.args e n left ts ≡ Ok (es, us) → r.primary e n (x ∷ left ∷ ts) ≡ Ok (call x es, us)
   call_done x left es ts us X L h = name_at x (left ∷ ts) X ∙ called x left es ts us L h
 
+  scoped_invoked : (c scope x left : Token) (es : Args) (ts us : List Token) → Is k.LeftParen left → r.args e n left ts ≡ Ok (es, us)
+      → look (r.scoped_by e n c scope x) (pure (scoped_name c scope x)) (left ∷ ts) ≡ Ok (scoped_call c scope x es, us)
+  scoped_invoked c scope x left es ts us is h = look_is (r.scoped_by e n c scope x) (pure (scoped_name c scope x)) k.LeftParen left ts is ∙ ap (λ v. and_then v (λ es. pure (scoped_call c scope x es))) h
+
   scoped_called : (c scope x left : Token) (es : Args) (ts us : List Token) → Is k.Name x → Is k.LeftParen left → r.args e n left ts ≡ Ok (es, us) → r.scoped e n c scope (x ∷ left ∷ ts) ≡ Ok (scoped_call c scope x es, us)
   unfolding r.scoped
-  scoped_called c scope x left es ts us X L h = rw (a_token_is is_name x (left ∷ ts) (ap is_name X), a_token_is is_left_paren left ts (ap is_left_paren L), h) refl
+  scoped_called c scope x left es ts us X L h = ap (λ v. and_then v (λ x. look (r.scoped_by e n c scope x) (pure (scoped_name c scope x)))) (a_token_is is_name x (left ∷ ts) (ap is_name X)) ∙ scoped_invoked c scope x left es ts us L h
+
+  scoped_stops_by : (c scope x : Token) (kind : TokenKind) → opens_by kind ≡ false → r.scoped_by e n c scope x kind ≡ None
+  scoped_stops_by c scope x k.LeftParen h = absurd cc
+  scoped_stops_by c scope x _ h = refl
+
+  scoped_ends : (c scope x : Token) (ts : List Token) → opens ts ≡ false → look (r.scoped_by e n c scope x) (pure (scoped_name c scope x)) ts ≡ Ok (scoped_name c scope x, ts)
+  scoped_ends c scope x [] h = refl
+  scoped_ends c scope x (t ∷ u) h = look_at (r.scoped_by e n c scope x) (pure (scoped_name c scope x)) None t u (scoped_stops_by c scope x t.kind h)
+
+  scoped_named : (c scope x : Token) (ts : List Token) → Is k.Name x → opens ts ≡ false → r.scoped e n c scope (x ∷ ts) ≡ Ok (scoped_name c scope x, ts)
+  unfolding r.scoped
+  scoped_named c scope x ts is h = ap (λ v. and_then v (λ x. look (r.scoped_by e n c scope x) (pure (scoped_name c scope x)))) (a_token_is is_name x ts (ap is_name is)) ∙ scoped_ends c scope x ts h
 
   scope_at : (c scope : Token) (ts : List Token) → Is k.Scope scope → r.named e n c (scope ∷ ts) ≡ r.scoped e n c scope ts
   unfolding r.named
@@ -95,6 +111,9 @@ module _ (e : ℕ → Parser Tree) (n : ℕ) where
   pub scoped_done : (c scope x left : Token) (es : Args) (ts us : List Token) → Is k.Name c → Is k.Scope scope → Is k.Name x → Is k.LeftParen left → r.args e n left ts ≡ Ok (es, us)
       → r.primary e n (c ∷ scope ∷ x ∷ left ∷ ts) ≡ Ok (scoped_call c scope x es, us)
   scoped_done c scope x left es ts us C S X L h = name_at c (scope ∷ x ∷ left ∷ ts) C ∙ scope_at c scope (x ∷ left ∷ ts) S ∙ scoped_called c scope x left es ts us X L h
+
+  pub scoped_name_done : (c scope x : Token) (ts : List Token) → Is k.Name c → Is k.Scope scope → Is k.Name x → opens ts ≡ false → r.primary e n (c ∷ scope ∷ x ∷ ts) ≡ Ok (scoped_name c scope x, ts)
+  scoped_name_done c scope x ts C S X h = name_at c (scope ∷ x ∷ ts) C ∙ scope_at c scope (x ∷ ts) S ∙ scoped_named c scope x ts X h
 
   pub inside_done : (x : Tree) (right : Token) (ts us : List Token) → Is k.RightParen right → e 0 ts ≡ Ok (x, right ∷ us) → r.inside e n ts ≡ Ok ((x, right), us)
   unfolding r.inside

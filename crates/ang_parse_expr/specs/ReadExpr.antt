@@ -4,7 +4,7 @@ use Rattle.ang_lex.specs.declared.token.Token.{Token}
 use Rattle.ang_lex.specs.declared.token.TokenKind.{TokenKind}
 use Rattle.ang_lex.specs.declared.token.TokenKind.TheVariants as k
 use Rattle.ang_tree.specs.Kinds.{literal_kind, prefix_kind, step_kind, assignment_kind, precedence}
-use Rattle.ang_tree.specs.Tree.{Tree, Args, Trees, literal, name, call, scoped_call, cast, convert, group, postfix, member, method_call, prefix, binary, conditional, assignment, arguments, none, more, added}
+use Rattle.ang_tree.specs.Tree.{Tree, Args, Trees, literal, name, call, scoped_call, scoped_name, cast, convert, group, postfix, member, method_call, prefix, binary, conditional, assignment, arguments, none, more, added}
 use Rattle.ang_parse_read.specs.Read.{Parser, ◌>>=◌, pure, out_of_depth, Choice, given, look, next, Turn, ready, repeat}
 use Rattle.ang_parse_read.specs.Tokens.{a_token, is_name, is_left_paren, is_right_paren, is_less, is_greater, is_colon}
 use Rattle.ang_parse_expr.specs.ReadType.{a_type}
@@ -46,9 +46,13 @@ module _ (expr : ℕ → Parser Tree) (bound : ℕ) where
 
   -- ---- primary
 
+  abbrev pub scoped_by : Token → Token → Token → TokenKind → Choice Tree
+  scoped_by c scope x k.LeftParen = Some (λ left. do es ← args left; pure (scoped_call c scope x es))
+  scoped_by c scope x _ = None
+
   -- after a name and `::`
   unfoldable pub scoped : Token → Token → Parser Tree
-  scoped c scope = do x ← a_token is_name; left ← a_token is_left_paren; es ← args left; pure (scoped_call c scope x es)
+  scoped c scope = do x ← a_token is_name; look (scoped_by c scope x) (pure (scoped_name c scope x))
 
   abbrev pub named_by : Token → TokenKind → Choice Tree
   named_by x k.LeftParen = Some (λ left. do es ← args left; pure (call x es))

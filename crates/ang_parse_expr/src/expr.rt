@@ -141,7 +141,7 @@ pub fn arguments<'a>(
     Ok((Arguments { open, items, close }, rest))
 }
 
-/// Reads what stands after a name and `::`.
+/// Reads what stands after a name and `::`: a name, which may be called.
 #[cycle(expression)]
 #[tactic(auto, unfolding(crate::specs::ReadExpr::scoped))]
 fn scoped<'a>(
@@ -155,14 +155,25 @@ fn scoped<'a>(
         (read.scoped (read.expr depth) depth class scope tokens.now) }
 {
     let (name, rest) = a_name(tokens)?;
-    let (open, rest) = a_left_paren(rest)?;
-    let (arguments, rest) = arguments(alloc, open, rest, depth)?;
+    if let [open, rest @ ..] = rest
+        && matches!(open.kind, TokenKind::LeftParen)
+    {
+        let (arguments, rest) = arguments(alloc, *open, rest, depth)?;
+        return Ok((
+            Expression::ScopedCall {
+                class,
+                scope,
+                name,
+                arguments,
+            },
+            rest,
+        ));
+    }
     Ok((
-        Expression::ScopedCall {
-            class,
+        Expression::ScopedName {
+            enumeration: class,
             scope,
             name,
-            arguments,
         },
         rest,
     ))

@@ -9,7 +9,7 @@ use Rattle.ang_tree.specs.declared.declaration.Parameter.{Parameter}
 use Rattle.ang_tree.specs.declared.declaration.Reference.{Reference}
 use Rattle.ang_tree.specs.Kinds.{Is, IsComma, IfWritten, IfWrittenA, optional, literal_kind, primitive_kind, type_kind, prefix_kind, step_kind, assignment_kind, precedence, direction_kind}
 use Rattle.ang_tree.specs.TypeNames.{spelled_handle, spelled_type, FitsHandle, FitsType}
-use Rattle.ang_tree.specs.Tree.{Tree, Args, Trees, literal, name, call, scoped_call, cast, convert, group, postfix, member, method_call, prefix, binary, conditional, assignment, arguments, none, more, spelled, spelled_args, listed, Fits, FitsArgs, AllFit, OthersFit}
+use Rattle.ang_tree.specs.Tree.{Tree, Args, Trees, literal, name, call, scoped_call, scoped_name, cast, convert, group, postfix, member, method_call, prefix, binary, conditional, assignment, arguments, none, more, spelled, spelled_args, listed, Fits, FitsArgs, AllFit, OthersFit}
 use Rattle.ang_tree.specs.Stmt.{each, Every}
 use Rattle.ang_tree.specs.Declarations.{Params, spelled_reference, spelled_param, FitsReference, FitsParam, FitsItems, FitsParams}
 use Rattle.ang_parse_read.specs.Group.{fronted, deeper, cut, split}
@@ -127,6 +127,7 @@ mutual
   over_tree (scoped_call c scope x es) f =
       over_token c (ap plain f.0) (λ s. scope ∷ x ∷ spelled_args es s)
       (over_token scope (ap plain f.1) (λ s. x ∷ spelled_args es s) (over_token x (ap plain f.2) (spelled_args es) (over_args es f.3)))
+  over_tree (scoped_name c scope x) f = over_token c (ap plain f.0) (λ s. scope ∷ x ∷ s) (over_token scope (ap plain f.1) (λ s. x ∷ s) (over_one x (ap plain f.2)))
   over_tree (cast word less y greater left e right) f =
       over_token word (ap plain f.0) (λ s. less ∷ spelled_type y (greater ∷ left ∷ spelled e (right ∷ s)))
       (over_token less (ap plain f.1) (λ s. spelled_type y (greater ∷ left ∷ spelled e (right ∷ s)))

@@ -7,7 +7,7 @@ use Rattle.ang_tree.specs.declared.type_name.TypeName.{TypeName}
 use Rattle.ang_tree.specs.declared.type_name.Handle.{Handle}
 use Rattle.ang_tree.specs.Kinds.{Is, IsA, IsComma, IfWritten, optional, literal_kind, primitive_kind, type_kind, prefix_kind, step_kind, assignment_kind, precedence}
 use Rattle.ang_tree.specs.TypeNames.{spelled_handle, spelled_type, FitsHandle, FitsType}
-use Rattle.ang_tree.specs.Tree.{Tree, Args, literal, name, call, scoped_call, cast, convert, group, postfix, member, method_call, prefix, binary, conditional, assignment, arguments, spelled, spelled_args, listed, Fits}
+use Rattle.ang_tree.specs.Tree.{Tree, Args, literal, name, call, scoped_call, scoped_name, cast, convert, group, postfix, member, method_call, prefix, binary, conditional, assignment, arguments, spelled, spelled_args, listed, Fits}
 use Rattle.ang_tree.specs.Stmt.{each, Every, Init, absent, value, constructor, Var, Start, with_variables, with_expression, spelled_init, spelled_var, spelled_option, spelled_start, FitsInit, FitsVar, FitsVars, FitsOption, FitsStart}
 use Rattle.ang_parse_read.specs.Read.{Parser, and_then, pure, ◌>>=◌, repeat}
 use Rattle.ang_parse_read.specs.Tokens.{a_token, perhaps, is_name, is_semicolon, is_const, is_left_paren}
@@ -207,6 +207,7 @@ module _ (l : ℕ) where
   runs (name x) ts f h = name_runs x ts f h
   runs (call x (arguments left es right)) ts f h = name_runs x (left ∷ listed es (right ∷ ts)) f.0 (ap names_kind f.1.0)
   runs (scoped_call c scope x es) ts f h = name_runs c (scope ∷ x ∷ spelled_args es ts) f.0 (ap names_kind f.1)
+  runs (scoped_name c scope x) ts f h = name_runs c (scope ∷ x ∷ ts) f.0 (ap names_kind f.1)
   runs (cast word less y greater left e right) ts f h = passes word _ (ap (r.start_by l) f.0)
   runs (convert p left e right) ts f h = starts_at p.kind (r.primitive l) p (left ∷ spelled e (right ∷ ts)) (primitive_starts p.kind f.0) refl ∙ primitive_runs p left (spelled e (right ∷ ts)) f.1
   runs (group left e right) ts f h = passes left _ (ap (r.start_by l) f.0)

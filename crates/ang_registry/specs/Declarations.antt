@@ -27,10 +27,10 @@ declared_factory decl = signature_in (text.declared_factory decl)
 abbrev pub declared_property : List ℕ → Option Signature
 declared_property decl = signature_in (text.declared_property decl)
 
--- a type has a name, and nothing else
+-- a type, an enumeration or a value has a name, and nothing else
 abbrev pub type_signature : List ℕ → Signature
 type_signature name = record { name = name; result = type.Void; params = []; read_only = false }
 
--- A type is declared by its name, an identifier.
+-- A type is declared by its name, an identifier, and so are an enumeration and each of its values.
 abbrev pub declared_type : List ℕ → Option Signature
 declared_type name = if is_identifier name then Some (type_signature name) else None

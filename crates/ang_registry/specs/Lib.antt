@@ -3,5 +3,6 @@ pub mod Roles
 pub mod Declarations
 pub mod Overloads
 pub mod Types
+pub mod Written
 pub mod Among
 pub mod Refusals

@@ -10,10 +10,10 @@ use Rattle.ang_kinds.specs.declared.types.Shape.TheVariants.{ByValue, Handle, Au
 use Rattle.ang_kinds.specs.declared.types.Param.{Param}
 use Rattle.ang_kinds.specs.declared.types.Signature.{Signature}
 use Rattle.ang_kinds.specs.declared.types.TypeRef.{TypeRef}
-use Rattle.ang_kinds.specs.declared.types.TypeRef.TheVariants.{Void, Plain, Object}
+use Rattle.ang_kinds.specs.declared.types.TypeRef.TheVariants as ref
 use Rattle.ang_view.specs.declared.entry.Entry.{Entry}
 use Rattle.ang_view.specs.declared.entry.EntryKind.{EntryKind}
-use Rattle.ang_view.specs.declared.entry.EntryKind.TheVariants.{HostType, Factory, Method, Property, Function, Global}
+use Rattle.ang_view.specs.declared.entry.EntryKind.TheVariants.{HostType, Factory, Method, Property, Function, Global, Enumeration, EnumValue}
 use Rattle.ang_view.specs.Numbers.{primitive_number, pass_number}
 use Rattle.ang_view.specs.Registration.{RegistrationList}
 
@@ -25,15 +25,22 @@ is_handle AutoHandle = true
 
 -- Whether two types are spelled the same, where `T@+` is as `T@`.
 abbrev pub same_type : TypeRef → TypeRef → Bool
-same_type Void Void = true
-same_type Void (Plain q) = false
-same_type Void (Object n s o h) = false
-same_type (Plain p) Void = false
-same_type (Plain p) (Plain q) = primitive_number p == primitive_number q
-same_type (Plain p) (Object n s o h) = false
-same_type (Object m r i g) Void = false
-same_type (Object m r i g) (Plain q) = false
-same_type (Object m r i g) (Object n s o h) = bytes_eq m n && beq (is_handle r) (is_handle s) && beq i o && beq g h
+same_type ref.Void ref.Void = true
+same_type ref.Void (ref.Plain q) = false
+same_type ref.Void (ref.Enumeration n) = false
+same_type ref.Void (ref.Object n s o h) = false
+same_type (ref.Plain p) ref.Void = false
+same_type (ref.Plain p) (ref.Plain q) = primitive_number p == primitive_number q
+same_type (ref.Plain p) (ref.Enumeration n) = false
+same_type (ref.Plain p) (ref.Object n s o h) = false
+same_type (ref.Enumeration m) ref.Void = false
+same_type (ref.Enumeration m) (ref.Plain q) = false
+same_type (ref.Enumeration m) (ref.Enumeration n) = bytes_eq m n
+same_type (ref.Enumeration m) (ref.Object n s o h) = false
+same_type (ref.Object m r i g) ref.Void = false
+same_type (ref.Object m r i g) (ref.Plain q) = false
+same_type (ref.Object m r i g) (ref.Enumeration n) = false
+same_type (ref.Object m r i g) (ref.Object n s o h) = bytes_eq m n && beq (is_handle r) (is_handle s) && beq i o && beq g h
 
 -- names of parameters don't count
 abbrev pub same_parameter : Param → Param → Bool
@@ -45,7 +52,7 @@ same_parameters = pointwise same_parameter
 
 -- ---- what can't stand beside what
 
--- types, functions and global properties share one space of names
+-- types, enumerations, functions and global properties share one space of names
 abbrev pub is_global_name : EntryKind → Bool
 is_global_name HostType = true
 is_global_name Factory = false
@@ -53,6 +60,8 @@ is_global_name Method = false
 is_global_name Property = false
 is_global_name Function = true
 is_global_name Global = true
+is_global_name Enumeration = true
+is_global_name (EnumValue v) = false
 
 -- a type's methods and properties share its names
 abbrev pub is_member_name : EntryKind → Bool
@@ -62,6 +71,8 @@ is_member_name Method = true
 is_member_name Property = true
 is_member_name Function = false
 is_member_name Global = false
+is_member_name Enumeration = false
+is_member_name (EnumValue v) = false
 
 abbrev pub is_factory : EntryKind → Bool
 is_factory HostType = false
@@ -70,11 +81,24 @@ is_factory Method = false
 is_factory Property = false
 is_factory Function = false
 is_factory Global = false
+is_factory Enumeration = false
+is_factory (EnumValue v) = false
+
+-- an enumeration's values share no names but one another's
+abbrev pub is_value : EntryKind → Bool
+is_value HostType = false
+is_value Factory = false
+is_value Method = false
+is_value Property = false
+is_value Function = false
+is_value Global = false
+is_value Enumeration = false
+is_value (EnumValue v) = true
 
 abbrev pub same_name : Signature → Signature → Bool
 same_name x y = bytes_eq x.name y.name
 
--- both belong to one type
+-- both belong to one type, or to one enumeration
 abbrev pub same_owner : Option EntityNo → Option EntityNo → Bool
 same_owner None None = false
 same_owner None (Some b) = false
@@ -89,6 +113,8 @@ excludes_function Method x s = false
 excludes_function Property x s = false
 excludes_function Function x s = same_parameters x.params s.params
 excludes_function Global x s = true
+excludes_function Enumeration x s = true
+excludes_function (EnumValue v) x s = false
 
 -- what a method of the same type and name can't stand beside: methods of one name differ in their parameters or in `const`
 abbrev pub excludes_method : EntryKind → Signature → Signature → Bool
@@ -98,6 +124,8 @@ excludes_method Method x s = same_parameters x.params s.params && beq x.read_onl
 excludes_method Property x s = true
 excludes_method Function x s = false
 excludes_method Global x s = false
+excludes_method Enumeration x s = false
+excludes_method (EnumValue v) x s = false
 
 -- Whether something of this kind, owner and signature can't stand beside the entry. Factories of one type differ in their
 -- parameters, whatever their names.
@@ -108,6 +136,8 @@ clashes_with Method owner s x = same_owner x.owner owner && same_name x.signatur
 clashes_with Property owner s x = is_member_name x.kind && same_owner x.owner owner && same_name x.signature s
 clashes_with Function owner s x = same_name x.signature s && excludes_function x.kind x.signature s
 clashes_with Global owner s x = is_global_name x.kind && same_name x.signature s
+clashes_with Enumeration owner s x = is_global_name x.kind && same_name x.signature s
+clashes_with (EnumValue v) owner s x = is_value x.kind && same_owner x.owner owner && same_name x.signature s
 
 abbrev pub clashes : EntryKind → Option EntityNo → Signature → Option Entry → Bool
 clashes kind owner s None = false

@@ -1,17 +1,17 @@
 -- When a registration is refused, and what it adds (docs/EMBEDDING.md, "Registration").
-use Rattle.std.specs.Prelude.{ℕ, ◌==◌, Bool, false, not, ◌||◌, is_none, nat_le, nat_lt, if◌then◌else◌, List, [], ◌∷◌, ◌++◌, length, Option, Some, None}
+use Rattle.std.specs.Prelude.{ℕ, ℤ, ◌==◌, Bool, false, not, ◌||◌, is_none, nat_le, nat_lt, if◌then◌else◌, List, [], ◌∷◌, ◌++◌, length, Option, Some, None}
 use Rattle.ang_kinds.specs.declared.mask.EntityNo.{EntityNo}
 use Rattle.ang_kinds.specs.declared.types.Signature.{Signature}
 use Rattle.ang_view.specs.declared.entry.Entry.{Entry}
 use Rattle.ang_view.specs.declared.entry.EntryKind.{EntryKind}
-use Rattle.ang_view.specs.declared.entry.EntryKind.TheVariants.{HostType, Factory, Method, Property, Function, Global}
+use Rattle.ang_view.specs.declared.entry.EntryKind.TheVariants.{HostType, Factory, Method, Property, Function, Global, Enumeration, EnumValue}
 use Rattle.ang_registry.specs.declared.error.RegError.{RegError}
 use Rattle.ang_registry.specs.declared.error.RegError.TheVariants.{Limit, EmptyMask, BadDeclaration, UnknownType, WrongDriver, Duplicate}
 use Rattle.ang_view.specs.Registration.{RegistrationList, is_spelled_with}
 use Rattle.ang_registry.specs.Registrations.{Registrations}
 use Rattle.ang_registry.specs.Overloads.{is_factory, is_taken}
-use Rattle.ang_registry.specs.Types.{names_unknown, is_wrong_driver}
-use Rattle.ang_view.specs.Types.{type_named, number_at, driver_at}
+use Rattle.ang_registry.specs.Types.{settled, is_misused, names_unknown, is_wrong_driver, mask_at}
+use Rattle.ang_view.specs.Types.{type_named, enumeration_named, number_at, driver_at}
 
 -- the error of the first row that applies
 abbrev pub first_row : List (Bool × RegError) → Option RegError
@@ -43,14 +43,14 @@ refusal_of_entry list kind owner driver s = first_row (
     (is_taken list kind owner s, Duplicate) ∷
     [])
 
--- ---- the table
+-- ---- the table, for what is declared over the whole list
 
--- Why an entry of a driver, which belongs to no type, is refused: the first row that applies.
+-- Why an entry that belongs to no type, as one of a driver, is refused: the first row that applies.
 unfoldable pub refusal_of_own : EntryKind → Registrations → ℕ → Option Signature → Option RegError
 refusal_of_own kind r driver declared = first_row (
     (is_over_limit r.entries declared, Limit) ∷
     (r.default_mask.0 == 0, EmptyMask) ∷
-    (is_none declared, BadDeclaration) ∷
+    (is_none declared || where_declared (is_misused r.entries) declared, BadDeclaration) ∷
     (where_declared (names_unknown r.entries) declared, UnknownType) ∷
     (where_declared (is_wrong_driver r.entries kind driver) declared, WrongDriver) ∷
     (where_declared (is_taken r.entries kind None) declared, Duplicate) ∷
@@ -62,7 +62,7 @@ abbrev pub refusal_in_type : EntryKind → Registrations → List ℕ → Option
 refusal_in_type kind r type_name place declared = first_row (
     (is_over_limit r.entries declared, Limit) ∷
     (r.default_mask.0 == 0, EmptyMask) ∷
-    (not (where_declared (gives_own kind type_name) declared), BadDeclaration) ∷
+    (not (where_declared (gives_own kind type_name) declared) || where_declared (is_misused r.entries) declared, BadDeclaration) ∷
     (is_none place || where_declared (names_unknown r.entries) declared, UnknownType) ∷
     (where_declared (is_wrong_driver r.entries kind (driver_at r.entries place)) declared, WrongDriver) ∷
     (where_declared (is_taken r.entries kind (number_at place)) declared, Duplicate) ∷
@@ -70,6 +70,23 @@ refusal_in_type kind r type_name place declared = first_row (
 
 unfoldable pub refusal_of_member : EntryKind → Registrations → List ℕ → Option Signature → Option RegError
 refusal_of_member kind r type_name declared = refusal_in_type kind r type_name (type_named r.entries type_name) declared
+
+-- Why a value of the enumeration at this place is refused: the first row that applies. It has the enumeration's mask, whatever
+-- the default one.
+abbrev pub refusal_in_enumeration : ℤ → Registrations → Option ℕ → Option Signature → Option RegError
+refusal_in_enumeration value r place declared = first_row (
+    (is_over_limit r.entries declared, Limit) ∷
+    (is_none declared, BadDeclaration) ∷
+    (is_none place, UnknownType) ∷
+    (where_declared (is_taken r.entries (EnumValue value) (number_at place)) declared, Duplicate) ∷
+    [])
+
+-- what a call declares is settled over the list
+abbrev pub refusal_of_declared : EntryKind → Registrations → ℕ → Option Signature → Option RegError
+refusal_of_declared kind r driver declared = refusal_of_own kind r driver (settled r.entries declared)
+
+abbrev pub refusal_of_declared_member : EntryKind → Registrations → List ℕ → Option Signature → Option RegError
+refusal_of_declared_member kind r type_name declared = refusal_of_member kind r type_name (settled r.entries declared)
 
 -- ---- what is added
 
@@ -82,7 +99,7 @@ abbrev pub with_entry : Registrations → EntryKind → Option EntityNo → ℕ 
 with_entry r kind owner driver f s =
     with_last r (Some (record { kind = kind; owner = owner; driver = driver; f = f; signature = s; mask = r.default_mask }))
 
--- An entry of a driver, which belongs to no type.
+-- An entry that belongs to no type.
 abbrev pub with_own : EntryKind → Registrations → ℕ → ℕ → Option Signature → Registrations
 with_own kind r driver f None = r
 with_own kind r driver f (Some s) = with_entry r kind None driver f s
@@ -95,44 +112,71 @@ with_entry_in kind r place f (Some s) = with_entry r kind (number_at place) (dri
 abbrev pub with_member : EntryKind → Registrations → List ℕ → ℕ → Option Signature → Registrations
 with_member kind r type_name f declared = with_entry_in kind r (type_named r.entries type_name) f declared
 
+-- What a call declares is settled over the list.
+abbrev pub with_declared : EntryKind → Registrations → ℕ → ℕ → Option Signature → Registrations
+with_declared kind r driver f declared = with_own kind r driver f (settled r.entries declared)
+
+abbrev pub with_declared_member : EntryKind → Registrations → List ℕ → ℕ → Option Signature → Registrations
+with_declared_member kind r type_name f declared = with_member kind r type_name f (settled r.entries declared)
+
+-- A value of the enumeration at this place, under its mask. It has no driver.
+abbrev pub with_value_at : ℤ → Registrations → Option ℕ → Option Signature → Registrations
+with_value_at value r place None = r
+with_value_at value r place (Some s) =
+    with_last r (Some (record { kind = EnumValue value; owner = number_at place; driver = 0; f = 0; signature = s; mask = mask_at r.entries place }))
+
 -- ---- call by call
 
 -- A type, declared by its name. It has no function of its driver.
 abbrev pub refusal_of_type : Registrations → ℕ → Option Signature → Option RegError
-refusal_of_type = refusal_of_own HostType
+refusal_of_type = refusal_of_declared HostType
 
 abbrev pub with_type : Registrations → ℕ → Option Signature → Registrations
-with_type r driver declared = with_own HostType r driver 0 declared
+with_type r driver declared = with_declared HostType r driver 0 declared
 
 abbrev pub refusal_of_factory : Registrations → List ℕ → Option Signature → Option RegError
-refusal_of_factory = refusal_of_member Factory
+refusal_of_factory = refusal_of_declared_member Factory
 
 abbrev pub with_factory : Registrations → List ℕ → ℕ → Option Signature → Registrations
-with_factory = with_member Factory
+with_factory = with_declared_member Factory
 
 abbrev pub refusal_of_method : Registrations → List ℕ → Option Signature → Option RegError
-refusal_of_method = refusal_of_member Method
+refusal_of_method = refusal_of_declared_member Method
 
 abbrev pub with_method : Registrations → List ℕ → ℕ → Option Signature → Registrations
-with_method = with_member Method
+with_method = with_declared_member Method
 
 abbrev pub refusal_of_property : Registrations → List ℕ → Option Signature → Option RegError
-refusal_of_property = refusal_of_member Property
+refusal_of_property = refusal_of_declared_member Property
 
 abbrev pub with_property : Registrations → List ℕ → ℕ → Option Signature → Registrations
-with_property = with_member Property
+with_property = with_declared_member Property
 
 abbrev pub refusal_of_function : Registrations → ℕ → Option Signature → Option RegError
-refusal_of_function = refusal_of_own Function
+refusal_of_function = refusal_of_declared Function
 
 abbrev pub with_function : Registrations → ℕ → ℕ → Option Signature → Registrations
-with_function = with_own Function
+with_function = with_declared Function
 
 abbrev pub refusal_of_global : Registrations → ℕ → Option Signature → Option RegError
-refusal_of_global = refusal_of_own Global
+refusal_of_global = refusal_of_declared Global
 
 abbrev pub with_global : Registrations → ℕ → ℕ → Option Signature → Registrations
-with_global = with_own Global
+with_global = with_declared Global
+
+-- An enumeration, declared by its name. It has no driver.
+abbrev pub refusal_of_enumeration : Registrations → Option Signature → Option RegError
+refusal_of_enumeration r declared = refusal_of_declared Enumeration r 0 declared
+
+abbrev pub with_enumeration : Registrations → Option Signature → Registrations
+with_enumeration r declared = with_declared Enumeration r 0 0 declared
+
+-- A value of the enumeration of this name, declared by its own name.
+unfoldable pub refusal_of_value : Registrations → List ℕ → ℤ → Option Signature → Option RegError
+refusal_of_value r enum_name value declared = refusal_in_enumeration value r (enumeration_named r.entries enum_name) declared
+
+abbrev pub with_value : Registrations → List ℕ → ℤ → Option Signature → Registrations
+with_value r enum_name value declared = with_value_at value r (enumeration_named r.entries enum_name) declared
 
 -- A blank has no mask and no declaration.
 abbrev pub refusal_of_blank : Registrations → Option RegError

@@ -4,7 +4,7 @@ use Rattle.ang_host.specs.declared.event.Role.{Role}
 use Rattle.ang_host.specs.declared.event.Role.TheVariants.{Making, Calling, Property as Reading}
 use Rattle.ang_view.specs.declared.entry.Entry.{Entry}
 use Rattle.ang_view.specs.declared.entry.EntryKind.{EntryKind}
-use Rattle.ang_view.specs.declared.entry.EntryKind.TheVariants.{HostType, Factory, Method, Property, Function, Global}
+use Rattle.ang_view.specs.declared.entry.EntryKind.TheVariants.{HostType, Factory, Method, Property, Function, Global, Enumeration, EnumValue}
 use Rattle.ang_view.specs.Registration.{RegistrationList}
 
 -- the role of what can't be asked: no driver has a function of this number
@@ -19,6 +19,8 @@ role_by Method f = Calling f
 role_by Property f = Reading f
 role_by Function f = Calling f
 role_by Global f = Reading f
+role_by Enumeration f = no_role
+role_by (EnumValue v) f = no_role
 
 abbrev pub role_of : Option Entry → Role
 role_of None = no_role

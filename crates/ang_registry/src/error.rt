@@ -17,12 +17,13 @@ pub enum RegError {
     /// The default mask is 0, so that no module could ever see the entry.
     #[error("the default mask is 0")]
     EmptyMask,
-    /// The text is not a declaration of the call's form, or is one that hosts can't use (with a reference or
-    /// an object by value, say); the name of a type is no identifier; or a factory gives another type than
-    /// its own.
+    /// The text is not a declaration of the call's form, or is one that hosts can't use (with a reference, an
+    /// object by value or an enumeration with `@`, say); the name of a type, an enumeration or a value is no
+    /// identifier; or a factory gives another type than its own.
     #[error("not a declaration that the call takes")]
     BadDeclaration,
-    /// The type that the entry is to belong to, or one that its declaration names, is not registered.
+    /// The type or enumeration that the entry is to belong to, or one that its declaration names, is not
+    /// registered.
     #[error("an unknown type")]
     UnknownType,
     /// The driver's number is above 63; the call registers a type, and the driver has one already; or the
@@ -31,10 +32,11 @@ pub enum RegError {
     WrongDriver,
     /// The list has an entry that this one can't stand beside, whatever the masks of the two.
     ///
-    /// Types, functions and global properties share one space of names, and so do the methods and properties
-    /// of one type. But functions of one name can stand side by side where their parameters differ, and
-    /// methods where their parameters or their `const` do. Factories of one type have to differ in their
-    /// parameters, whatever their names. Names of parameters don't count.
+    /// Types, enumerations, functions and global properties share one space of names, and so do the methods
+    /// and properties of one type, and the values of one enumeration. But functions of one name can stand
+    /// side by side where their parameters differ, and methods where their parameters or their `const` do.
+    /// Factories of one type have to differ in their parameters, whatever their names. Names of parameters
+    /// don't count.
     #[error("the name is taken")]
     Duplicate,
     /// The allocator refused memory.

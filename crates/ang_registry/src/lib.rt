@@ -7,6 +7,7 @@ mod lookup;
 mod overload;
 mod refusal;
 mod registry;
+mod settle;
 
 pub use ang_view::{Entry, EntryKind, View};
 pub use error::RegError;

@@ -11,11 +11,19 @@ use ang_view::{Entry, EntryKind, View, spells};
 /// The greatest number of a driver.
 const LAST_DRIVER: u32 = 63;
 
+/// Whether the list has an enumeration of the name.
+pub fn has_enumeration(list: &View, name: &[u8]) -> bool
+    ensures exact { result ≡ spec.has_enumeration list.now name.now }
+{
+    list.find_enumeration(name).is_some()
+}
+
 fn is_known(list: &View, ty: &TypeRef) -> bool
     ensures exact { result ≡ spec.is_known list.now ty.now }
 {
     match ty {
         TypeRef::Void | TypeRef::Plain(_) => true,
+        TypeRef::Enumeration { name } => has_enumeration(list, name.as_slice()),
         TypeRef::Object { name, .. } => list.find_type(name.as_slice()).is_some(),
     }
 }
@@ -49,7 +57,7 @@ fn has_type(entries: &[Option<Entry>], driver: u32) -> bool
     entries.iter().any(|entry| is_type_of(entry, driver))
 }
 
-/// Whether an entry is a type of another driver that is spelled so.
+/// Whether an entry is an object type of another driver that is spelled so.
 fn is_foreign_spelled(entry: &Entry, ty: &TypeRef, driver: u32) -> bool
     ensures exact { result ≡ foreign.is_spelled_foreign driver ty.now (Some entry.now) }
 {
@@ -74,6 +82,7 @@ fn spelled<'a>(list: &'a View, ty: &TypeRef) -> &'a [EntityNo]
 {
     match ty {
         TypeRef::Void | TypeRef::Plain(_) => &[],
+        TypeRef::Enumeration { name } => list.find(name.as_slice()),
         TypeRef::Object { name, .. } => list.find(name.as_slice()),
     }
 }
@@ -87,7 +96,7 @@ fn is_foreign_among(list: &View, numbers: &[EntityNo], ty: &TypeRef, driver: u32
         .any(|number| is_foreign_at(list, *number, ty, driver))
 }
 
-/// Whether some type of another driver is spelled so.
+/// Whether some object type of another driver is spelled so.
 fn spells_foreign(list: &View, ty: &TypeRef, driver: u32) -> bool
     ensures exact { result ≡ list_any (foreign.is_spelled_foreign driver ty.now) list.now }
 {
@@ -112,7 +121,7 @@ fn names_foreign(list: &View, signature: &Signature, driver: u32) -> bool
 }
 
 /// Whether the entry can't be one of its driver's: the number is too great, it would be the driver's
-/// second type, or it names a type of another driver.
+/// second type, or it names an object type of another driver.
 #[tactic(auto, unfolding(crate::specs::Types::is_wrong_driver))]
 pub fn is_wrong_driver(list: &View, entry: &Entry) -> bool
     ensures exact { result

@@ -10,15 +10,17 @@ use crate::{Entry, EntryKind};
 use ang_kinds::{EntityNo, Param, Shape, Signature, TypeRef};
 use ang_view::View;
 
-/// The entries of the same name, or of a factory those of the same type: no others can take its name.
+/// The entries of the same name, or of a factory those of the same type: no others can take its name. Methods,
+/// properties and values share names with those of their own type or enumeration alone.
 fn rivals_of<'a>(list: &'a View, entry: &Entry) -> &'a [EntityNo]
     ensures exact { map (λ number. number.0) result.now ≡ among.rivals list.now entry.now.kind
         entry.now.owner entry.now.signature.name }
 {
     let name = entry.signature.name.as_slice();
     match entry.kind {
-        EntryKind::HostType | EntryKind::Function | EntryKind::Global => list.find(name),
-        EntryKind::Method | EntryKind::Property => match entry.owner {
+        EntryKind::HostType | EntryKind::Function | EntryKind::Global | EntryKind::Enumeration =>
+            list.find(name),
+        EntryKind::Method | EntryKind::Property | EntryKind::EnumValue(_) => match entry.owner {
             None => &[],
             Some(owner) => list.owned(owner, name),
         },
@@ -62,7 +64,7 @@ fn clash_with(entry: &Entry, other: &Entry) -> bool
 {
     let own = &entry.signature;
     match entry.kind {
-        EntryKind::HostType | EntryKind::Global => {
+        EntryKind::HostType | EntryKind::Global | EntryKind::Enumeration => {
             is_global_name(other.kind) && is_same_name(&other.signature, own)
         }
         EntryKind::Factory => {
@@ -83,6 +85,11 @@ fn clash_with(entry: &Entry, other: &Entry) -> bool
         EntryKind::Function => {
             is_same_name(&other.signature, own) && excludes_function(other, own)
         }
+        EntryKind::EnumValue(_) => {
+            matches!(other.kind, EntryKind::EnumValue(_))
+                && is_same_owner(other.owner, entry.owner)
+                && is_same_name(&other.signature, own)
+        }
     }
 }
 
@@ -90,8 +97,10 @@ fn is_global_name(kind: EntryKind) -> bool
     ensures exact { result ≡ spec.is_global_name kind }
 {
     match kind {
-        EntryKind::HostType | EntryKind::Function | EntryKind::Global => true,
-        EntryKind::Factory | EntryKind::Method | EntryKind::Property => false,
+        EntryKind::HostType | EntryKind::Function | EntryKind::Global | EntryKind::Enumeration =>
+            true,
+        EntryKind::Factory | EntryKind::Method | EntryKind::Property | EntryKind::EnumValue(_) =>
+            false,
     }
 }
 
@@ -100,7 +109,12 @@ fn is_member_name(kind: EntryKind) -> bool
 {
     match kind {
         EntryKind::Method | EntryKind::Property => true,
-        EntryKind::HostType | EntryKind::Factory | EntryKind::Function | EntryKind::Global => false,
+        EntryKind::HostType
+        | EntryKind::Factory
+        | EntryKind::Function
+        | EntryKind::Global
+        | EntryKind::Enumeration
+        | EntryKind::EnumValue(_) => false,
     }
 }
 
@@ -124,8 +138,9 @@ fn excludes_function(other: &Entry, signature: &Signature) -> bool
         ≡ spec.excludes_function other.now.kind other.now.signature signature.now }
 {
     match other.kind {
-        EntryKind::HostType | EntryKind::Global => true,
-        EntryKind::Factory | EntryKind::Method | EntryKind::Property => false,
+        EntryKind::HostType | EntryKind::Global | EntryKind::Enumeration => true,
+        EntryKind::Factory | EntryKind::Method | EntryKind::Property | EntryKind::EnumValue(_) =>
+            false,
         EntryKind::Function => have_same_types(
             other.signature.params.as_slice(),
             signature.params.as_slice(),
@@ -138,7 +153,12 @@ fn excludes_method(other: &Entry, signature: &Signature) -> bool
         ≡ spec.excludes_method other.now.kind other.now.signature signature.now }
 {
     match other.kind {
-        EntryKind::HostType | EntryKind::Factory | EntryKind::Function | EntryKind::Global => false,
+        EntryKind::HostType
+        | EntryKind::Factory
+        | EntryKind::Function
+        | EntryKind::Global
+        | EntryKind::Enumeration
+        | EntryKind::EnumValue(_) => false,
         EntryKind::Property => true,
         EntryKind::Method => {
             have_same_types(
@@ -173,6 +193,9 @@ fn is_same_type(other: &TypeRef, ty: &TypeRef) -> bool
     match (other, ty) {
         (TypeRef::Void, TypeRef::Void) => true,
         (TypeRef::Plain(a), TypeRef::Plain(b)) => a == b,
+        (TypeRef::Enumeration { name: a }, TypeRef::Enumeration { name: b }) => {
+            a.as_slice() == b.as_slice()
+        }
         (
             TypeRef::Object {
                 name: a,
@@ -194,7 +217,8 @@ fn is_same_type(other: &TypeRef, ty: &TypeRef) -> bool
     }
 }
 
-fn is_handle_shape(shape: Shape) -> bool
+/// Whether it is a handle, which an auto handle is too.
+pub fn is_handle_shape(shape: Shape) -> bool
     ensures exact { result ≡ is_handle shape }
 {
     match shape {

@@ -22,7 +22,8 @@ fn has_many_parameters(declared: &Option<Signature>) -> bool
 }
 
 #[tactic(auto, unfolding(crate::specs::Refusals::is_over_limit))]
-fn is_over_limit(list: &View, declared: &Option<Signature>) -> bool
+/// Whether 1,024 entries are there, or the declaration has more than 32 parameters.
+pub fn is_over_limit(list: &View, declared: &Option<Signature>) -> bool
     ensures exact { result ≡ spec.is_over_limit list.now declared.now }
     ensures room { result ≡ false → length list.now < 1024 }
 {

@@ -1,12 +1,14 @@
 //! The registry.
-ghost use Rattle.std.specs.Prelude.{◌≡◌, ◌≢◌, ◌≤◌, ◌<◌, [], length, None, Some, IfOk, IfErr, OnOk, OnErr, option_map, IfSome};
+ghost use Rattle.std.specs.Prelude.{◌≡◌, ◌≢◌, ◌≤◌, ◌<◌, false, [], length, None, Some, IfOk, IfErr, OnOk, OnErr, option_map, IfSome};
 ghost use Rattle.std.specs.Option.{option_copied};
 ghost use Rattle.ang_view.specs.Registration.{entry_at, seen, function_named, SeesFunction};
 ghost use Rattle.ang_view.specs.Hidden.{hidden};
-ghost use Rattle.ang_view.specs.Types.{type_named};
-ghost use Rattle.ang_view.specs.Values.{SignatureTakesValues, DeclaresValues, EntryTakesValues, TakesValues};
+ghost use Rattle.ang_view.specs.Types.{type_named, enumeration_named};
+ghost use Rattle.ang_view.specs.Values.{EntryTakesValues, TakesValues};
 ghost use Rattle.ang_registry.specs.Declarations as spec;
-ghost use Rattle.ang_registry.specs.Refusals.{refusal_of_type, with_type, refusal_of_factory, with_factory, refusal_of_method, with_method, refusal_of_property, with_property, refusal_of_function, with_function, refusal_of_global, with_global, refusal_of_blank, with_blank, refusal_of_own, with_own, refusal_of_member, with_member, refusal_of_entry, with_entry, with_last};
+ghost use Rattle.ang_registry.specs.Types.{is_misused};
+ghost use Rattle.ang_registry.specs.Written.{DeclaresWritten, WritesValues};
+ghost use Rattle.ang_registry.specs.Refusals.{refusal_of_type, with_type, refusal_of_factory, with_factory, refusal_of_method, with_method, refusal_of_property, with_property, refusal_of_function, with_function, refusal_of_global, with_global, refusal_of_enumeration, with_enumeration, refusal_of_value, with_value, refusal_of_blank, with_blank, refusal_of_declared, with_declared, refusal_of_own, with_own, refusal_of_declared_member, with_declared_member, refusal_of_member, with_member, refusal_of_entry, with_entry, with_last};
 
 use crate::RegError;
 use crate::declaration::{
@@ -14,7 +16,8 @@ use crate::declaration::{
 };
 use crate::lookup::{is_wrong_driver, names_unknown};
 use crate::overload::is_duplicate;
-use crate::refusal::{MOST_ENTRIES, check_room, gives_own};
+use crate::refusal::{MOST_ENTRIES, check_room, gives_own, is_over_limit};
+use crate::settle::{is_misused, mask_of, settled};
 use ang_kinds::{EntityNo, Mask, Signature};
 use ang_view::{Entry, EntryKind, View, find_type, hidden_of, view_of, whole_of};
 use std::alloc::{AllocError, Global};
@@ -62,7 +65,7 @@ impl Registry {
     }
 
     /// Sets the mask that the entries registered from now on get, and answers the one before. A mask of 0 is
-    /// taken too; while it is set no entry is accepted (`EmptyMask`).
+    /// taken too; while it is set no entry but values of enumerations is accepted (`EmptyMask`).
     pub fn set_default_mask(&mut self, mask: Mask) -> Mask
         ensures before { result ≡ self.old.default_mask }
         ensures set { self.new.default_mask ≡ mask }
@@ -80,9 +83,9 @@ impl Registry {
     ///
     /// The first of these that applies: `Limit` where 1,024 entries are there; `EmptyMask` where the default
     /// mask is 0; `BadDeclaration` where the name is no identifier; `WrongDriver` where `driver` is above 63
-    /// or has a type already; `Duplicate` where a type, a function or a global property has the name.
-    /// `Memory`, where the allocator refused memory, may come instead of any other answer. After an error the
-    /// registry is as it was.
+    /// or has a type already; `Duplicate` where a type, an enumeration, a function or a global property has
+    /// the name. `Memory`, where the allocator refused memory, may come instead of any other answer. After an
+    /// error the registry is as it was.
     #[tactic(auto, using(crate::proofs::Values::type_values))]
     pub fn type_(&mut self, name: &[u8], driver: u32) -> Result<EntityNo, RegError>
         ensures accepted { OnOk result
@@ -96,7 +99,7 @@ impl Registry {
         ensures unchanged { OnErr result (self.new ≡ self.old) }
     {
         let declared = declared_type(self.alloc, name)?;
-        self.add_own(EntryKind::HostType, driver, 0, declared)
+        self.add_declared(EntryKind::HostType, driver, 0, declared)
     }
 
     /// Registers a factory of a type, which makes objects of the type, and answers the entry's number. The
@@ -126,7 +129,7 @@ impl Registry {
         ensures unchanged { OnErr result (self.new ≡ self.old) }
     {
         let declared = declared_factory(self.alloc, decl)?;
-        self.add_member(EntryKind::Factory, type_name, f, declared)
+        self.add_declared_member(EntryKind::Factory, type_name, f, declared)
     }
 
     /// Registers a method of a type, and answers the entry's number. The type's driver is asked for it by
@@ -155,20 +158,20 @@ impl Registry {
         ensures unchanged { OnErr result (self.new ≡ self.old) }
     {
         let declared = declared_method(self.alloc, decl)?;
-        self.add_member(EntryKind::Method, type_name, f, declared)
+        self.add_declared_member(EntryKind::Method, type_name, f, declared)
     }
 
     /// Registers a property of a type's objects, and answers the entry's number. The type's driver is asked
     /// for it by `read` or `write`, with the number `f`. The declaration is `type NAME`, where the type is a
-    /// primitive one; with `const` in front of it scripts can't write the property.
+    /// primitive one or an enumeration; with `const` in front of it scripts can't write the property.
     ///
     /// # Errors
     ///
     /// The first of these that applies: `Limit` where 1,024 entries are there; `EmptyMask` where the default
-    /// mask is 0; `BadDeclaration` where the text is of another form or its type is no primitive one;
-    /// `UnknownType` where the type of the objects is not registered; `Duplicate` where that type has a
-    /// method or a property of the name. `Memory`, where the allocator refused memory, may come instead of
-    /// any other answer. After an error the registry is as it was.
+    /// mask is 0; `BadDeclaration` where the text is of another form or its type is an object or a handle;
+    /// `UnknownType` where the type of the objects or the one that the text names is not registered;
+    /// `Duplicate` where that type has a method or a property of the name. `Memory`, where the allocator
+    /// refused memory, may come instead of any other answer. After an error the registry is as it was.
     #[tactic(auto, using(crate::proofs::Values::property_values))]
     pub fn property(&mut self, type_name: &[u8], f: u32, decl: &[u8]) -> Result<EntityNo, RegError>
         ensures accepted { OnOk result
@@ -183,7 +186,7 @@ impl Registry {
         ensures unchanged { OnErr result (self.new ≡ self.old) }
     {
         let declared = declared_property(self.alloc, decl)?;
-        self.add_member(EntryKind::Property, type_name, f, declared)
+        self.add_declared_member(EntryKind::Property, type_name, f, declared)
     }
 
     /// Registers a function of a driver, and answers the entry's number. The driver is asked for it by
@@ -195,9 +198,9 @@ impl Registry {
     /// than 32 parameters; `EmptyMask` where the default mask is 0; `BadDeclaration` where the text is of
     /// another form or is one that hosts can't use; `UnknownType` where it names a type that is not
     /// registered; `WrongDriver` where `driver` is above 63 or the text names a type of another driver;
-    /// `Duplicate` where a type or a global property has the name, or a function of the name has the same
-    /// parameters. `Memory`, where the allocator refused memory, may come instead of any other answer. After
-    /// an error the registry is as it was.
+    /// `Duplicate` where a type, an enumeration or a global property has the name, or a function of the name
+    /// has the same parameters. `Memory`, where the allocator refused memory, may come instead of any other
+    /// answer. After an error the registry is as it was.
     #[tactic(auto, using(crate::proofs::Values::function_values))]
     pub fn function(&mut self, driver: u32, f: u32, decl: &[u8]) -> Result<EntityNo, RegError>
         ensures accepted { OnOk result
@@ -211,20 +214,22 @@ impl Registry {
         ensures unchanged { OnErr result (self.new ≡ self.old) }
     {
         let declared = declared_function(self.alloc, decl)?;
-        self.add_own(EntryKind::Function, driver, f, declared)
+        self.add_declared(EntryKind::Function, driver, f, declared)
     }
 
     /// Registers a global property of a driver, and answers the entry's number. The driver is asked for it by
     /// `read` or `write`, with the number `f` and without an object. The declaration is `type NAME`, where
-    /// the type is a primitive one; with `const` in front of it scripts can't write the property.
+    /// the type is a primitive one or an enumeration; with `const` in front of it scripts can't write the
+    /// property.
     ///
     /// # Errors
     ///
     /// The first of these that applies: `Limit` where 1,024 entries are there; `EmptyMask` where the default
-    /// mask is 0; `BadDeclaration` where the text is of another form or its type is no primitive one;
-    /// `WrongDriver` where `driver` is above 63; `Duplicate` where a type, a function or a global property
-    /// has the name. `Memory`, where the allocator refused memory, may come instead of any other answer.
-    /// After an error the registry is as it was.
+    /// mask is 0; `BadDeclaration` where the text is of another form or its type is an object or a handle;
+    /// `UnknownType` where it names a type that is not registered; `WrongDriver` where `driver` is above 63;
+    /// `Duplicate` where a type, an enumeration, a function or a global property has the name. `Memory`,
+    /// where the allocator refused memory, may come instead of any other answer. After an error the registry
+    /// is as it was.
     #[tactic(auto, using(crate::proofs::Values::global_values))]
     pub fn global_property(
         &mut self,
@@ -243,7 +248,66 @@ impl Registry {
         ensures unchanged { OnErr result (self.new ≡ self.old) }
     {
         let declared = declared_property(self.alloc, decl)?;
-        self.add_own(EntryKind::Global, driver, f, declared)
+        self.add_declared(EntryKind::Global, driver, f, declared)
+    }
+
+    /// Registers an enumeration, and answers the entry's number. Its name stands in later declarations as that
+    /// of a primitive type does, and in scripts as `int`. It belongs to no driver: what is of it is a number
+    /// of 32 bits with a sign, which drivers get and give as `Int`.
+    ///
+    /// # Errors
+    ///
+    /// The first of these that applies: `Limit` where 1,024 entries are there; `EmptyMask` where the default
+    /// mask is 0; `BadDeclaration` where the name is no identifier; `Duplicate` where a type, an enumeration,
+    /// a function or a global property has the name. `Memory`, where the allocator refused memory, may come
+    /// instead of any other answer. After an error the registry is as it was.
+    #[tactic(auto, using(crate::proofs::Values::enumeration_values))]
+    pub fn enum_(&mut self, name: &[u8]) -> Result<EntityNo, RegError>
+        ensures accepted { OnOk result
+            (refusal_of_enumeration self.old (spec.declared_type name.now) ≡ None) }
+        ensures number { IfOk result (λ number. number.0 ≡ length self.old.entries) }
+        ensures added { OnOk result
+            (self.new ≡ with_enumeration self.old (spec.declared_type name.now)) }
+
+        ensures first_refusal { IfErr result (λ why. why ≢ RegError.Memory
+            → refusal_of_enumeration self.old (spec.declared_type name.now) ≡ Some why) }
+        ensures unchanged { OnErr result (self.new ≡ self.old) }
+    {
+        let declared = declared_type(self.alloc, name)?;
+        self.add_declared(EntryKind::Enumeration, 0, 0, declared)
+    }
+
+    /// Registers a value of an enumeration, and answers the entry's number. It has the enumeration's mask,
+    /// whatever the default one. Scripts write it as `ENUM::NAME`, or by its name alone where nothing else
+    /// that the script sees has the name.
+    ///
+    /// # Errors
+    ///
+    /// The first of these that applies: `Limit` where 1,024 entries are there; `BadDeclaration` where the name
+    /// is no identifier; `UnknownType` where no enumeration has the name `enum_name`; `Duplicate` where that
+    /// enumeration has a value of the name. `Memory`, where the allocator refused memory, may come instead of
+    /// any other answer. After an error the registry is as it was.
+    #[tactic(auto, using(crate::proofs::Values::enum_value_values))]
+    pub fn enum_value(
+        &mut self,
+        enum_name: &[u8],
+        name: &[u8],
+        value: i32,
+    ) -> Result<EntityNo, RegError>
+        ensures accepted { OnOk result
+            (refusal_of_value self.old enum_name.now value (spec.declared_type name.now)
+            ≡ None) }
+        ensures number { IfOk result (λ number. number.0 ≡ length self.old.entries) }
+        ensures added { OnOk result
+            (self.new ≡ with_value self.old enum_name.now value (spec.declared_type name.now)) }
+
+        ensures first_refusal { IfErr result (λ why. why ≢ RegError.Memory
+            → refusal_of_value self.old enum_name.now value (spec.declared_type name.now)
+            ≡ Some why) }
+        ensures unchanged { OnErr result (self.new ≡ self.old) }
+    {
+        let declared = declared_type(self.alloc, name)?;
+        self.add_value(enum_name, value, declared)
     }
 
     /// Adds a blank, which no mask sees, and answers its number. A host that leaves an entry out puts a blank
@@ -268,7 +332,28 @@ impl Registry {
         self.push(None)
     }
 
-    /// Adds an entry that belongs to a driver and to no type.
+    /// Adds an entry that belongs to no type.
+    #[tactic(auto, using(crate::proofs::Values::settled_values))]
+    fn add_declared(
+        &mut self,
+        kind: EntryKind,
+        driver: u32,
+        f: u32,
+        declared: Option<Signature>,
+    ) -> Result<EntityNo, RegError>
+        requires values { DeclaresWritten kind declared }
+        ensures accepted { OnOk result (refusal_of_declared kind self.old driver declared ≡ None) }
+        ensures number { IfOk result (λ number. number.0 ≡ length self.old.entries) }
+        ensures added { OnOk result (self.new ≡ with_declared kind self.old driver f declared) }
+        ensures first_refusal { IfErr result (λ why. why ≢ RegError.Memory
+            → refusal_of_declared kind self.old driver declared ≡ Some why) }
+        ensures unchanged { OnErr result (self.new ≡ self.old) }
+    {
+        let declared = settled(self.alloc, &self.list, declared)?;
+        self.add_own(kind, driver, f, declared)
+    }
+
+    /// Adds an entry that belongs to no type, of which this is declared over the whole list.
     fn add_own(
         &mut self,
         kind: EntryKind,
@@ -276,7 +361,7 @@ impl Registry {
         f: u32,
         declared: Option<Signature>,
     ) -> Result<EntityNo, RegError>
-        requires values { DeclaresValues kind declared }
+        requires values { DeclaresWritten kind declared }
         ensures accepted { OnOk result (refusal_of_own kind self.old driver declared ≡ None) }
         ensures number { IfOk result (λ number. number.0 ≡ length self.old.entries) }
         ensures added { OnOk result (self.new ≡ with_own kind self.old driver f declared) }
@@ -288,10 +373,36 @@ impl Registry {
         let Some(signature) = declared else {
             return Err(RegError::BadDeclaration);
         };
+        if is_misused(&self.list, &signature) {
+            return Err(RegError::BadDeclaration);
+        }
         self.add(kind, None, driver, f, signature)
     }
 
     /// Adds an entry that belongs to the type of this name, and so to the type's driver.
+    #[tactic(auto, using(crate::proofs::Values::settled_values))]
+    fn add_declared_member(
+        &mut self,
+        kind: EntryKind,
+        type_name: &[u8],
+        f: u32,
+        declared: Option<Signature>,
+    ) -> Result<EntityNo, RegError>
+        requires values { DeclaresWritten kind declared }
+        ensures accepted { OnOk result
+            (refusal_of_declared_member kind self.old type_name.now declared ≡ None) }
+        ensures number { IfOk result (λ number. number.0 ≡ length self.old.entries) }
+        ensures added { OnOk result
+            (self.new ≡ with_declared_member kind self.old type_name.now f declared) }
+        ensures first_refusal { IfErr result (λ why. why ≢ RegError.Memory
+            → refusal_of_declared_member kind self.old type_name.now declared ≡ Some why) }
+        ensures unchanged { OnErr result (self.new ≡ self.old) }
+    {
+        let declared = settled(self.alloc, &self.list, declared)?;
+        self.add_member(kind, type_name, f, declared)
+    }
+
+    /// Adds an entry that belongs to the type of this name, of which this is declared over the whole list.
     fn add_member(
         &mut self,
         kind: EntryKind,
@@ -299,7 +410,7 @@ impl Registry {
         f: u32,
         declared: Option<Signature>,
     ) -> Result<EntityNo, RegError>
-        requires values { DeclaresValues kind declared }
+        requires values { DeclaresWritten kind declared }
         ensures accepted { OnOk result
             (refusal_of_member kind self.old type_name.now declared ≡ None) }
         ensures number { IfOk result (λ number. number.0 ≡ length self.old.entries) }
@@ -316,6 +427,9 @@ impl Registry {
         if !gives_own(kind, type_name, &signature) {
             return Err(RegError::BadDeclaration);
         }
+        if is_misused(&self.list, &signature) {
+            return Err(RegError::BadDeclaration);
+        }
         let Some(found) = find_type(&self.list, type_name) else {
             return Err(RegError::UnknownType);
         };
@@ -323,6 +437,7 @@ impl Registry {
     }
 
     /// Adds an entry under the default mask, unless `UnknownType`, `WrongDriver` or `Duplicate` refuses it.
+    #[tactic(auto, using(crate::proofs::Values::written_takes))]
     fn add(
         &mut self,
         kind: EntryKind,
@@ -332,7 +447,8 @@ impl Registry {
         signature: Signature,
     ) -> Result<EntityNo, RegError>
         requires room { length self.old.entries < 1024 }
-        requires values { SignatureTakesValues kind signature }
+        requires values { WritesValues kind signature }
+        requires used { is_misused self.old.entries signature ≡ false }
         ensures accepted { OnOk result
             (refusal_of_entry self.old.entries kind owner driver signature ≡ None) }
         ensures number { IfOk result (λ number. number.0 ≡ length self.old.entries) }
@@ -362,6 +478,48 @@ impl Registry {
         self.push(Some(entry))
     }
 
+    /// Adds a value of the enumeration of this name, under the enumeration's mask.
+    #[tactic(auto, unfolding(crate::specs::Refusals::refusal_of_value))]
+    fn add_value(
+        &mut self,
+        enum_name: &[u8],
+        value: i32,
+        declared: Option<Signature>,
+    ) -> Result<EntityNo, RegError>
+        requires values { DeclaresWritten (EntryKind.EnumValue value) declared }
+        ensures accepted { OnOk result
+            (refusal_of_value self.old enum_name.now value declared ≡ None) }
+        ensures number { IfOk result (λ number. number.0 ≡ length self.old.entries) }
+        ensures added { OnOk result
+            (self.new ≡ with_value self.old enum_name.now value declared) }
+        ensures first_refusal { IfErr result (λ why. why ≢ RegError.Memory
+            → refusal_of_value self.old enum_name.now value declared ≡ Some why) }
+        ensures unchanged { OnErr result (self.new ≡ self.old) }
+    {
+        if is_over_limit(&self.list, &declared) {
+            return Err(RegError::Limit);
+        }
+        let Some(signature) = declared else {
+            return Err(RegError::BadDeclaration);
+        };
+        let Some(number) = self.list.find_enumeration(enum_name) else {
+            return Err(RegError::UnknownType);
+        };
+        let entry = Entry {
+            kind: EntryKind::EnumValue(value),
+            owner: Some(number),
+            driver: 0,
+            f: 0,
+            signature,
+            mask: mask_of(&self.list, number),
+        };
+        let is_taken = is_duplicate(&self.list, &entry);
+        if is_taken {
+            return Err(RegError::Duplicate);
+        }
+        self.push(Some(entry))
+    }
+
     /// Puts an entry or a blank last.
     fn push(&mut self, entry: Option<Entry>) -> Result<EntityNo, RegError>
         requires room { length self.old.entries < 1024 }
@@ -378,7 +536,8 @@ impl Registry {
 
     /// What a module of the mask sees of the list: a copy of the list in which each entry that it does not
     /// see is a blank. It has at most 1,024 entries, blanks included. The checker of scripts relies on
-    /// `values`: no declaration in it has an `&out` parameter, and each property is of a primitive type.
+    /// `values`: no declaration in it has an `&out` parameter, and each property is of a primitive type or an
+    /// enumeration.
     ///
     /// # Errors
     ///
@@ -436,6 +595,15 @@ impl Registry {
             ≡ type_named self.now.entries name.now }
     {
         self.list.find_type(name)
+    }
+
+    /// The number of the enumeration of this name, whatever its mask, or none where there is none. It takes
+    /// no memory.
+    pub fn find_enumeration(&self, name: &[u8]) -> Option<EntityNo>
+        ensures exact { option_map (λ number. number.0) result
+            ≡ enumeration_named self.now.entries name.now }
+    {
+        self.list.find_enumeration(name)
     }
 
     /// The number of the first function of the name that a module of the mask sees, or none where it sees

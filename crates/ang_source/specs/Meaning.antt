@@ -101,14 +101,16 @@ abbrev pub brought_to : ArgType → Option Primitive
 brought_to type.Void = None
 brought_to type.Null = None
 brought_to (type.Plain p) = integer_of p
+brought_to (type.Enumeration n) = Some I32
 brought_to (type.Object n c) = None
 brought_to (type.Handle n c) = None
 
--- the primitive type that it is, if it is one
+-- the primitive type that it is, if it is one; a value of an enumeration is an `int`
 abbrev pub primitive_of : ArgType → Option Primitive
 primitive_of type.Void = None
 primitive_of type.Null = None
 primitive_of (type.Plain p) = Some p
+primitive_of (type.Enumeration n) = Some I32
 primitive_of (type.Object n c) = None
 primitive_of (type.Handle n c) = None
 
@@ -119,6 +121,7 @@ abbrev pub kind_of : ArgType → ValueKind
 kind_of type.Void = holds_a.Number
 kind_of type.Null = holds_a.Handle
 kind_of (type.Plain p) = holds_a.Number
+kind_of (type.Enumeration n) = holds_a.Number
 kind_of (type.Object n c) = holds_a.Handle
 kind_of (type.Handle n c) = holds_a.Handle
 
@@ -386,6 +389,7 @@ abbrev pub referred : ArgType → Passing
 referred type.Void = In
 referred type.Null = In
 referred (type.Plain p) = In
+referred (type.Enumeration n) = In
 referred (type.Object n c) = Object
 referred (type.Handle n c) = In
 

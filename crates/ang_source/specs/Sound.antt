@@ -8,7 +8,7 @@ use Rattle.ang_kinds.specs.declared.types.Pass.{Pass}
 use Rattle.ang_kinds.specs.declared.types.Pass.TheVariants.{RefOut}
 use Rattle.ang_view.specs.declared.entry.Entry.{Entry}
 use Rattle.ang_view.specs.declared.entry.EntryKind.{EntryKind}
-use Rattle.ang_view.specs.declared.entry.EntryKind.TheVariants.{HostType, Factory, Method, Property, Function, Global}
+use Rattle.ang_view.specs.declared.entry.EntryKind.TheVariants.{HostType, Factory, Method, Property, Function, Global, Enumeration, EnumValue}
 use Rattle.ang_view.specs.Registration.{RegistrationList, entry_at}
 use Rattle.ang_typed.specs.declared.expression.HostEntity.{HostEntity}
 use Rattle.ang_typed.specs.declared.expression.Callee.{Callee}
@@ -46,6 +46,8 @@ argument_number Method n = Some (suc n)
 argument_number Property n = None
 argument_number Function n = Some n
 argument_number Global n = None
+argument_number Enumeration n = None
+argument_number (EnumValue v) n = None
 
 -- a function, a factory or a method of the host that is called with `count` arguments
 pub record IsHostCallee (V : RegistrationList) (h : HostEntity) (count : ℕ) : Type 0 where

@@ -14,6 +14,7 @@ mutual
     name : Token → Tree
     call : Token → Args → Tree
     scoped_call : Token → Token → Token → Args → Tree
+    scoped_name : Token → Token → Token → Tree
     cast : Token → Token → TypeName → Token → Token → Tree → Token → Tree
     convert : Token → Token → Tree → Token → Tree
     group : Token → Tree → Token → Tree
@@ -46,6 +47,7 @@ abbrev mutual
   spelled (name x) after = x ∷ after
   spelled (call x es) after = x ∷ spelled_args es after
   spelled (scoped_call c s x es) after = c ∷ s ∷ x ∷ spelled_args es after
+  spelled (scoped_name c s x) after = c ∷ s ∷ x ∷ after
   spelled (cast word less y greater left e right) after = word ∷ less ∷ spelled_type y (greater ∷ left ∷ spelled e (right ∷ after))
   spelled (convert p left e right) after = p ∷ left ∷ spelled e (right ∷ after)
   spelled (group left e right) after = left ∷ spelled e (right ∷ after)
@@ -81,6 +83,7 @@ abbrev mutual
   Fits (name x) = Is k.Name x
   Fits (call x es) = Is k.Name x × FitsArgs es
   Fits (scoped_call c s x es) = Is k.Name c × Is k.Scope s × Is k.Name x × FitsArgs es
+  Fits (scoped_name c s x) = Is k.Name c × Is k.Scope s × Is k.Name x
   Fits (cast word less y greater left e right) = Is k.Cast word × Is k.Less less × FitsType y × Is k.Greater greater × Is k.LeftParen left × Fits e × Is k.RightParen right
   Fits (convert p left e right) = IsA primitive_kind p × Is k.LeftParen left × Fits e × Is k.RightParen right
   Fits (group left e right) = Is k.LeftParen left × Fits e × Is k.RightParen right

@@ -37,7 +37,7 @@ use Rattle.ang_tree.specs.declared.declaration.InterfaceMethod.{InterfaceMethod}
 use Rattle.ang_tree.specs.declared.declaration.Import as imports
 use Rattle.ang_tree.specs.declared.declaration.Function as functions
 use Rattle.ang_tree.specs.declared.declaration.Parameters.{Parameters}
-use Rattle.ang_tree.specs.Tree.{Tree, Args, Trees, literal, name, call, scoped_call, cast, convert, group, postfix, member, method_call, prefix, binary, conditional, assignment, arguments, none, more}
+use Rattle.ang_tree.specs.Tree.{Tree, Args, Trees, literal, name, call, scoped_call, scoped_name, cast, convert, group, postfix, member, method_call, prefix, binary, conditional, assignment, arguments, none, more}
 use Rattle.ang_tree.specs.Stmt.{Init, absent, value, constructor, Var, Vars, Start, with_variables, with_expression, Stmt, Body, Stmts, block, variables, expression, break, continue, return, when, either, while, do_while, for, body, end, then}
 use Rattle.ang_tree.specs.Declarations as decl
 
@@ -56,6 +56,7 @@ expression_step (Expression-F.Literal t) = literal t
 expression_step (Expression-F.Name x) = name x
 expression_step (Expression-F.Call x es) = call x es
 expression_step (Expression-F.ScopedCall c s x es) = scoped_call c s x es
+expression_step (Expression-F.ScopedName c s x) = scoped_name c s x
 expression_step (Expression-F.Cast word less y greater left e right) = cast word less y greater left e.value right
 expression_step (Expression-F.Convert p left e right) = convert p left e.value right
 expression_step (Expression-F.Parenthesized left e right) = group left e.value right

@@ -29,6 +29,15 @@ pub enum Expression {
         /// The arguments, with their parentheses.
         arguments: Arguments,
     },
+    /// `NAME "::" NAME`: the first name is an enumeration, the second a value of it.
+    ScopedName {
+        /// The name of the enumeration.
+        enumeration: Token,
+        /// The `::`.
+        scope: Token,
+        /// The name of its value.
+        name: Token,
+    },
     /// A handle cast to another type: `"cast" "<" type ">" "(" assign ")"`
     Cast {
         /// The word `cast`.

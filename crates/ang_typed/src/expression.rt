@@ -130,11 +130,12 @@ pub enum StepKind {
 #[cycle(expression)]
 #[derive(Drop)]
 pub enum Expression {
-    /// A number of an integer type, as it is written: not negative, and within the type.
+    /// A number of an integer type: one that is written, which is not negative, or an enumeration's value, which is
+    /// an `int`.
     Number {
         /// The number's type, an integer type.
         ty: Prim,
-        /// The number, from 0 up to the greatest of its type.
+        /// The number, within its type: from 0 up, or as two's complement in 64 bits where it is less than 0.
         value: u64,
     },
     /// `true` or `false`

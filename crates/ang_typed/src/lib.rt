@@ -8,7 +8,8 @@
 //! Numbers, in all of the tree: a *local* is numbered by how many parameters and locals of its function
 //! are alive at its declaration, so parameters come first, from 0; *functions*, *globals*, *families* (classes and
 //! interfaces) and *imports* are numbered from 0 in the order of their declarations, each kind for itself, and the bodies
-//! of families after the functions. In types a family is 1,024 and its number, and a host type its entry's number.
+//! of families after the functions. In types a family is 1,024 and its number, and a host type or an enumeration its
+//! entry's number.
 #![tactic(auto)]
 
 mod expression;

@@ -12,6 +12,11 @@ pub enum ArgType {
     Null,
     /// A primitive type.
     Plain(Prim),
+    /// An enumeration of the host, by its number.
+    Enumeration {
+        /// The number of its entry.
+        number: u32,
+    },
     /// An object.
     Object {
         /// The number of its type.

@@ -15,6 +15,8 @@ pub enum Asks {
     Value,
     /// A type.
     Type,
+    /// An enumeration, in front of `::` and the name of a value.
+    Enumeration,
     /// A call of a bare name, with arguments of these types.
     Call(List<ArgType>),
     /// An object of the host type of this number, made with arguments of these types.

@@ -1,17 +1,25 @@
 //! Whether one type converts to another by itself, and what that costs.
 ghost use Rattle.std.specs.Prelude.{◌≡◌};
-ghost use Rattle.ang_types.specs.Ranks.{argument_rank, const_rank, greatest, rank_of};
+ghost use Rattle.ang_types.specs.Ranks.{
+  argument_rank,
+  const_rank,
+  enumeration_rank,
+  greatest,
+  number_rank,
+  rank_of,
+};
 
 use crate::integers::rank_of_primitive;
 use crate::{ArgType, Lineage};
-use ang_kinds::Pass;
+use ang_kinds::{Pass, Prim};
 
 /// The rank of the implicit conversion from one type to another, or `None` where there is none.
 ///
 /// 0 is the same type; 1 an object to a handle, a handle to an object parameter, `const` added, or null to a
-/// handle; 2 an integer to a wider one of equal signedness; 3 any other integer to an integer; 4 a derived
-/// class to a base class or an interface. Of several that apply the greatest counts. `const` is never lost,
-/// and `bool` converts to itself alone. Nothing stands above a number that the lineage doesn't have. It takes
+/// handle; 2 an integer to a wider one of equal signedness, or an enumeration to `int`; 3 any other integer, or
+/// an enumeration, to an integer; 4 a derived class to a base class or an interface. Of several that apply the
+/// greatest counts. `const` is never lost, `bool` converts to itself alone, and to an enumeration nothing but it
+/// does. Nothing stands above a number that the lineage doesn't have. It takes
 /// no memory.
 pub fn rank(lineage: &Lineage, from: ArgType, to: ArgType) -> Option<u8>
     ensures exact { result ≡ rank_of lineage.now from to }
@@ -20,6 +28,10 @@ pub fn rank(lineage: &Lineage, from: ArgType, to: ArgType) -> Option<u8>
         (ArgType::Void, ArgType::Void) | (ArgType::Null, ArgType::Null) => Some(0),
         (ArgType::Null, ArgType::Handle { .. }) => Some(1),
         (ArgType::Plain(p), ArgType::Plain(q)) => rank_of_primitive(p, q),
+        (ArgType::Enumeration { .. }, ArgType::Plain(q)) => rank_of_number(q),
+        (ArgType::Enumeration { number: n }, ArgType::Enumeration { number: m }) => {
+            rank_of_enumeration(n, m)
+        }
         (
             ArgType::Object {
                 number: n,
@@ -62,6 +74,25 @@ pub fn rank(lineage: &Lineage, from: ArgType, to: ArgType) -> Option<u8>
         ) => greatest_of(1, rank_of_const(r, s), lineage.class_rank(n, m)),
         _ => None,
     }
+}
+
+fn rank_of_number(to: Prim) -> Option<u8>
+    ensures exact { result ≡ number_rank to }
+{
+    match to {
+        Prim::I32 => Some(2),
+        Prim::Bool => None,
+        _ => Some(3),
+    }
+}
+
+fn rank_of_enumeration(from: u32, to: u32) -> Option<u8>
+    ensures exact { result ≡ enumeration_rank from to }
+{
+    if from == to {
+        return Some(0);
+    }
+    None
 }
 
 fn rank_of_const(from: bool, to: bool) -> Option<u8>

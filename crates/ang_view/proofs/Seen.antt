@@ -6,7 +6,7 @@ use Rattle.std.proofs.lemmas.Bool.Decides.{Decides-ltb}
 use Rattle.std.proofs.lemmas.Slice.Eq.{bytes_eq-Decides}
 use Rattle.ang_view.specs.declared.entry.Entry.{Entry}
 use Rattle.ang_view.specs.declared.entry.EntryKind.{EntryKind}
-use Rattle.ang_view.specs.declared.entry.EntryKind.TheVariants.{HostType, Factory, Method, Property, Function, Global}
+use Rattle.ang_view.specs.declared.entry.EntryKind.TheVariants.{HostType, Factory, Method, Property, Function, Global, Enumeration, EnumValue}
 use Rattle.ang_view.specs.Registration.{RegistrationList, entry_at, is_seen, seen_entry, seen, is_function, is_function_named, function_named, SeesFunction}
 use Rattle.ang_view.proofs.Lists.{length-map, and_gives}
 
@@ -42,6 +42,8 @@ kind_from Method e = cc
 kind_from Property e = cc
 kind_from Function e = refl
 kind_from Global e = cc
+kind_from Enumeration e = cc
+kind_from (EnumValue v) e = cc
 
 sees_from : (list : RegistrationList) (m : ℕ) (name : List ℕ) (n : ℕ) (here : Option Entry) → entry_at list n ≡ here → entry_at (seen list m) n ≡ seen_entry list m here → is_function_named name (seen_entry list m here) ≡ true → SeesFunction list m name n
 sees_from list m name n None e v t = cc

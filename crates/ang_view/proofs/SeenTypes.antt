@@ -9,7 +9,7 @@ use Rattle.ang_kinds.specs.declared.types.Param.{Param}
 use Rattle.ang_kinds.specs.declared.types.Shape.{Shape}
 use Rattle.ang_kinds.specs.declared.types.Signature.{Signature}
 use Rattle.ang_kinds.specs.declared.types.TypeRef.{TypeRef}
-use Rattle.ang_kinds.specs.declared.types.TypeRef.TheVariants.{Void, Plain, Object}
+use Rattle.ang_kinds.specs.declared.types.TypeRef.TheVariants.{Void, Plain, Enumeration, Object}
 use Rattle.ang_view.specs.declared.entry.Entry.{Entry}
 use Rattle.ang_view.specs.declared.entry.EntryKind.{EntryKind}
 use Rattle.ang_view.specs.declared.entry.EntryKind.TheVariants as entry
@@ -244,6 +244,8 @@ spelled_is_bare entry.Method e = cc
 spelled_is_bare entry.Property e = cc
 spelled_is_bare entry.Function e = cc
 spelled_is_bare entry.Global e = cc
+spelled_is_bare entry.Enumeration e = refl
+spelled_is_bare (entry.EnumValue v) e = cc
 
 by_number : (r : ℕ → Bool) (es : List EntityNo) → list_all (λ (e : EntityNo). r e.0) es ≡ list_all r (map (λ (e : EntityNo). e.0) es)
 by_number r [] = refl
@@ -279,9 +281,16 @@ name_kept : (b c d e : Bool) → (b ≡ true → d ≡ true) → (c ≡ true →
 name_kept true c d e f g h = rw (f refl, g h) refl
 name_kept false c d e f g h = cc
 
+spelled_has_name : (own : List ℕ) (t : Entry) → (is_type t.kind && bytes_eq own t.signature.name) ≡ true → has_name own (Some t) ≡ true
+spelled_has_name own t e =
+    name_kept (is_type t.kind) (bytes_eq own t.signature.name) (is_bare t.kind) (bytes_eq t.signature.name own) (spelled_is_bare t.kind)
+    (λ s. (bytes_eq-Decides t.signature.name own).1 (sym ((bytes_eq-Decides own t.signature.name).0 s))) e
+
 -- a type that is spelled by a name has the name
 pub has_its_name : (own : List ℕ) (shape : Shape) (o' h' : Bool) (o : Option Entry) → is_spelled_type (Object own shape o' h') o ≡ true → has_name own o ≡ true
 has_its_name own shape o' h' None e = cc
-has_its_name own shape o' h' (Some t) e =
-    name_kept (is_type t.kind) (bytes_eq own t.signature.name) (is_bare t.kind) (bytes_eq t.signature.name own) (spelled_is_bare t.kind)
-    (λ s. (bytes_eq-Decides t.signature.name own).1 (sym ((bytes_eq-Decides own t.signature.name).0 s))) e
+has_its_name own shape o' h' (Some t) e = spelled_has_name own t e
+
+pub enumeration_has_its_name : (own : List ℕ) (o : Option Entry) → is_spelled_type (Enumeration own) o ≡ true → has_name own o ≡ true
+enumeration_has_its_name own None e = cc
+enumeration_has_its_name own (Some t) e = spelled_has_name own t e

@@ -4,8 +4,10 @@ use Rattle.std.specs.List.{prefix_len, list_all}
 use Rattle.std.proofs.lemmas.Slice.Eq.{bytes_eq-Decides}
 use Rattle.ang_kinds.specs.Masks.{meets}
 use Rattle.ang_view.specs.declared.entry.Entry.{Entry}
-use Rattle.ang_view.specs.Registration.{RegistrationList, entry_at, is_type, mentions, is_number, is_named_by, named, has_mask_for, is_seen, seen_entry, seen}
-use Rattle.ang_view.specs.Types.{is_type_named, type_named}
+use Rattle.ang_view.specs.declared.entry.EntryKind.{EntryKind}
+use Rattle.ang_view.specs.declared.entry.EntryKind.TheVariants as entry
+use Rattle.ang_view.specs.Registration.{RegistrationList, entry_at, is_host_type, is_type, mentions, is_number, is_named_by, named, has_mask_for, is_seen, seen_entry, seen}
+use Rattle.ang_view.specs.Types.{enumeration_named, is_enumeration, is_enumeration_named, is_type_named, type_named}
 use Rattle.ang_view.proofs.Lists.{position-map, and_gives, and_from, Decides-list_all-filter}
 use Rattle.ang_view.proofs.Entries.{entry_at-lt}
 use Rattle.ang_view.proofs.Seen.{entry_at-seen}
@@ -67,35 +69,87 @@ prefix_len-same p q (x ∷ xs) d h =
 position-same : {X : Type 0} (p q : X → Bool) (xs : List X) (d : X) → ((k : ℕ) → k < length xs → p (get_or xs k d) ≡ q (get_or xs k d)) → position p xs ≡ position q xs
 position-same p q xs d h = rw (prefix_len-same (λ x. not (p x)) (λ x. not (q x)) xs d (λ k l. ap not (h k l)))
 
-pub named_from : (x t : Entry) (k : ℕ) (name : List ℕ) → is_type x.kind ≡ false → mentions x.signature name ≡ true → is_type_named name (Some t) ≡ true → is_named_by x k (Some t) ≡ true
-named_from x t k name f h e =
-    let r = and_gives (is_type t.kind) (bytes_eq t.signature.name name) e in
-    let same : t.signature.name ≡ name = (bytes_eq-Decides t.signature.name name).0 r.1 in
+-- a test that only a type of this name passes
+record AsksType (name : List ℕ) (test : Option Entry → Bool) : Type 0 where
+  passes_no_blank : test None ≡ false
+  type : (t : Entry) → test (Some t) ≡ true → is_type t.kind ≡ true
+  has_name : (t : Entry) → test (Some t) ≡ true → bytes_eq t.signature.name name ≡ true
+
+named_from : (x t : Entry) (k : ℕ) (name : List ℕ) → is_type x.kind ≡ false → mentions x.signature name ≡ true → is_type t.kind ≡ true → bytes_eq t.signature.name name ≡ true → is_named_by x k (Some t) ≡ true
+named_from x t k name f h is e =
+    let same : t.signature.name ≡ name = (bytes_eq-Decides t.signature.name name).0 e in
     let by : mentions x.signature t.signature.name ≡ true = rw same h in
     let either : (is_number k x.owner || mentions x.signature t.signature.name) ≡ true = or_true _ _ by in
-    rw (f, r.0, either)
+    rw (f, is, either)
   where
     or_true : (b c : Bool) → c ≡ true → (b || c) ≡ true
     or_true true c e = refl
     or_true false c e = e
 
-pub hidden_too : (name : List ℕ) (b : Bool) (t : Entry) → is_type_named name (Some t) ≡ false → is_type_named name (cond b (Some t) None) ≡ false
-hidden_too name true t e = e
-hidden_too name false t e = refl
+module _ (name : List ℕ) (test : Option Entry → Bool) (asks : AsksType name test) where
+  hidden_too : (b : Bool) (t : Entry) → test (Some t) ≡ false → test (cond b (Some t) None) ≡ false
+  hidden_too true t e = e
+  hidden_too false t e = asks.passes_no_blank
 
-same_test : (list : RegistrationList) (m : ℕ) (x : Entry) (name : List ℕ) (k : ℕ) → is_seen list m x ≡ true → is_type x.kind ≡ false → mentions x.signature name ≡ true
-    → (here : Option Entry) → entry_at list k ≡ here → (b : Bool) → is_type_named name here ≡ b → is_type_named name (seen_entry list m here) ≡ is_type_named name here
-same_test list m x name k s f h None e b t = refl
-same_test list m x name k s f h (Some y) e true t =
-    let by : is_named_by x k (Some y) ≡ true = named_from x y k name f h t in
-    let mask : has_mask_for m (Some y) ≡ true = ap (has_mask_for m) (sym e) ∙ has_mask-named list m x k s (ap (is_named_by x k) e ∙ by) in
-    ap (is_type_named name) (shown list m x k (Some y) by mask)
-same_test list m x name k s f h (Some y) e false t = hidden_too name (is_seen list m y) y t ∙ sym t
+  same_test : (list : RegistrationList) (m : ℕ) (x : Entry) (k : ℕ) → is_seen list m x ≡ true → is_type x.kind ≡ false → mentions x.signature name ≡ true
+      → (here : Option Entry) → entry_at list k ≡ here → (b : Bool) → test here ≡ b → test (seen_entry list m here) ≡ test here
+  same_test list m x k s f h None e b t = refl
+  same_test list m x k s f h (Some y) e true t =
+      let by : is_named_by x k (Some y) ≡ true = named_from x y k name f h (asks.type y t) (asks.has_name y t) in
+      let mask : has_mask_for m (Some y) ≡ true = ap (has_mask_for m) (sym e) ∙ has_mask-named list m x k s (ap (is_named_by x k) e ∙ by) in
+      ap test (shown list m x k (Some y) by mask)
+  same_test list m x k s f h (Some y) e false t = hidden_too (is_seen list m y) y t ∙ sym t
 
--- a type that a seen entry names has the number in the view that it has in the whole list
+  place-seen : (list : RegistrationList) (m n : ℕ) (x : Entry) → entry_at (seen list m) n ≡ Some x → is_type x.kind ≡ false → mentions x.signature name ≡ true → position test (seen list m) ≡ position test list
+  unfolding seen
+  place-seen list m n x e f h =
+      let s = is_seen-in_view list m n x e in
+      position-map test (seen_entry list m) list
+      ∙ position-same (λ y. test (seen_entry list m y)) test list None (λ k l. same_test list m x k s f h (entry_at list k) refl (test (entry_at list k)) refl)
+
+host_type_is_type : (k : EntryKind) → is_host_type k ≡ true → is_type k ≡ true
+host_type_is_type entry.HostType e = refl
+host_type_is_type entry.Factory e = cc
+host_type_is_type entry.Method e = cc
+host_type_is_type entry.Property e = cc
+host_type_is_type entry.Function e = cc
+host_type_is_type entry.Global e = cc
+host_type_is_type entry.Enumeration e = cc
+host_type_is_type (entry.EnumValue v) e = cc
+
+enumeration_is_type : (k : EntryKind) → is_enumeration k ≡ true → is_type k ≡ true
+enumeration_is_type entry.HostType e = cc
+enumeration_is_type entry.Factory e = cc
+enumeration_is_type entry.Method e = cc
+enumeration_is_type entry.Property e = cc
+enumeration_is_type entry.Function e = cc
+enumeration_is_type entry.Global e = cc
+enumeration_is_type entry.Enumeration e = refl
+enumeration_is_type (entry.EnumValue v) e = cc
+
+asks_host_type : (name : List ℕ) → AsksType name (is_type_named name)
+asks_host_type name =
+    record {
+      passes_no_blank = refl;
+      type = λ t e. host_type_is_type t.kind (and_gives (is_host_type t.kind) (bytes_eq t.signature.name name) e).0;
+      has_name = λ t e. (and_gives (is_host_type t.kind) (bytes_eq t.signature.name name) e).1;
+    }
+
+asks_enumeration : (name : List ℕ) → AsksType name (is_enumeration_named name)
+asks_enumeration name =
+    record {
+      passes_no_blank = refl;
+      type = λ t e. enumeration_is_type t.kind (and_gives (is_enumeration t.kind) (bytes_eq t.signature.name name) e).0;
+      has_name = λ t e. (and_gives (is_enumeration t.kind) (bytes_eq t.signature.name name) e).1;
+    }
+
+-- a type of host objects that a seen entry names has the number in the view that it has in the whole list
 pub type_named-seen : (list : RegistrationList) (m n : ℕ) (x : Entry) (name : List ℕ) → entry_at (seen list m) n ≡ Some x → is_type x.kind ≡ false → mentions x.signature name ≡ true → type_named (seen list m) name ≡ type_named list name
-unfolding seen type_named
-type_named-seen list m n x name e f h =
-    let s = is_seen-in_view list m n x e in
-    position-map (is_type_named name) (seen_entry list m) list
-    ∙ position-same (λ y. is_type_named name (seen_entry list m y)) (is_type_named name) list None (λ k l. same_test list m x name k s f h (entry_at list k) refl (is_type_named name (entry_at list k)) refl)
+unfolding type_named
+type_named-seen list m n x name e f h = place-seen name (is_type_named name) (asks_host_type name) list m n x e f h
+
+-- and so has an enumeration
+pub enumeration_named-seen : (list : RegistrationList) (m n : ℕ) (x : Entry) (name : List ℕ) → entry_at (seen list m) n ≡ Some x → is_type x.kind ≡ false → mentions x.signature name ≡ true
+    → enumeration_named (seen list m) name ≡ enumeration_named list name
+unfolding enumeration_named
+enumeration_named-seen list m n x name e f h = place-seen name (is_enumeration_named name) (asks_enumeration name) list m n x e f h

@@ -7,10 +7,10 @@ use Rattle.ang_kinds.specs.Masks.{meets}
 use Rattle.ang_kinds.specs.declared.mask.EntityNo.{EntityNo}
 use Rattle.ang_kinds.specs.declared.types.Signature.{Signature}
 use Rattle.ang_kinds.specs.declared.types.TypeRef.{TypeRef}
-use Rattle.ang_kinds.specs.declared.types.TypeRef.TheVariants.{Void, Plain, Object}
+use Rattle.ang_kinds.specs.declared.types.TypeRef.TheVariants as ref
 use Rattle.ang_view.specs.declared.entry.Entry.{Entry}
 use Rattle.ang_view.specs.declared.entry.EntryKind.{EntryKind}
-use Rattle.ang_view.specs.declared.entry.EntryKind.TheVariants.{HostType, Factory, Method, Property, Function, Global}
+use Rattle.ang_view.specs.declared.entry.EntryKind.TheVariants.{HostType, Factory, Method, Property, Function, Global, Enumeration, EnumValue}
 
 -- The registration list: the entries in the order of registration, numbered from 0. `None` is a blank.
 abbrev pub RegistrationList : Type 0
@@ -22,6 +22,7 @@ entry_at list n = slice_index_or list n None
 
 -- ---- the types that a declaration names
 
+-- the types that declarations can name: types of host objects, and enumerations
 abbrev pub is_type : EntryKind → Bool
 is_type HostType = true
 is_type Factory = false
@@ -29,12 +30,26 @@ is_type Method = false
 is_type Property = false
 is_type Function = false
 is_type Global = false
+is_type Enumeration = true
+is_type (EnumValue v) = false
+
+-- the types of host objects
+abbrev pub is_host_type : EntryKind → Bool
+is_host_type HostType = true
+is_host_type Factory = false
+is_host_type Method = false
+is_host_type Property = false
+is_host_type Function = false
+is_host_type Global = false
+is_host_type Enumeration = false
+is_host_type (EnumValue v) = false
 
 -- whether a type is spelled with this name
 abbrev pub is_spelled_with : List ℕ → TypeRef → Bool
-is_spelled_with name Void = false
-is_spelled_with name (Plain p) = false
-is_spelled_with name (Object own shape const_object const_handle) = bytes_eq own name
+is_spelled_with name ref.Void = false
+is_spelled_with name (ref.Plain p) = false
+is_spelled_with name (ref.Enumeration own) = bytes_eq own name
+is_spelled_with name (ref.Object own shape const_object const_handle) = bytes_eq own name
 
 -- whether a signature names the type of this name, in its result or in a parameter
 abbrev pub mentions : Signature → List ℕ → Bool
@@ -44,13 +59,14 @@ abbrev pub is_number : ℕ → Option EntityNo → Bool
 is_number n None = false
 is_number n (Some e) = e.0 == n
 
--- whether the declaration of x names entry n: a type that its signature names, or its own type; a type names nothing
+-- whether the declaration of x names entry n: a type that its signature names, or its own type; a type names nothing, and a value
+-- of an enumeration names that one
 abbrev pub is_named_by : Entry → ℕ → Option Entry → Bool
 is_named_by x n None = false
 is_named_by x n (Some t) = not (is_type x.kind) && is_type t.kind && (is_number n x.owner || mentions x.signature t.signature.name)
 
 -- The numbers of the types that the declaration of x names; a factory, method or object property names its own type
--- too, and a type names none.
+-- too, a value of an enumeration its enumeration, and a type names none.
 unfoldable pub named : RegistrationList → Entry → List ℕ
 named list x = filter (λ n. is_named_by x n (entry_at list n)) (range_with_len 0 (length list))
 
@@ -81,6 +97,8 @@ is_function Method = false
 is_function Property = false
 is_function Function = true
 is_function Global = false
+is_function Enumeration = false
+is_function (EnumValue v) = false
 
 abbrev pub is_function_named : List ℕ → Option Entry → Bool
 is_function_named name None = false

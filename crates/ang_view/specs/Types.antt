@@ -1,18 +1,38 @@
--- The types of a registration list by name (docs/EMBEDDING.md, "Registration").
-use Rattle.std.specs.Prelude.{ℕ, Bool, false, ◌&&◌, List, Option, Some, None}
+-- The types and enumerations of a registration list by name (docs/EMBEDDING.md, "Registration").
+use Rattle.std.specs.Prelude.{ℕ, Bool, true, false, ◌&&◌, List, Option, Some, None}
 use Rattle.std.specs.List.{position}
 use Rattle.std.specs.Str.{bytes_eq}
 use Rattle.ang_kinds.specs.declared.mask.EntityNo.{EntityNo}
 use Rattle.ang_view.specs.declared.entry.Entry.{Entry}
-use Rattle.ang_view.specs.Registration.{RegistrationList, entry_at, is_type}
+use Rattle.ang_view.specs.declared.entry.EntryKind.{EntryKind}
+use Rattle.ang_view.specs.declared.entry.EntryKind.TheVariants.{HostType, Factory, Method, Property, Function, Global, Enumeration, EnumValue}
+use Rattle.ang_view.specs.Registration.{RegistrationList, entry_at, is_host_type}
 
 abbrev pub is_type_named : List ℕ → Option Entry → Bool
 is_type_named name None = false
-is_type_named name (Some t) = is_type t.kind && bytes_eq t.signature.name name
+is_type_named name (Some t) = is_host_type t.kind && bytes_eq t.signature.name name
 
--- the place of the type of this name
+-- the place of the type of host objects of this name
 unfoldable pub type_named : RegistrationList → List ℕ → Option ℕ
 type_named list name = position (is_type_named name) list
+
+abbrev pub is_enumeration : EntryKind → Bool
+is_enumeration HostType = false
+is_enumeration Factory = false
+is_enumeration Method = false
+is_enumeration Property = false
+is_enumeration Function = false
+is_enumeration Global = false
+is_enumeration Enumeration = true
+is_enumeration (EnumValue v) = false
+
+abbrev pub is_enumeration_named : List ℕ → Option Entry → Bool
+is_enumeration_named name None = false
+is_enumeration_named name (Some t) = is_enumeration t.kind && bytes_eq t.signature.name name
+
+-- the place of the enumeration of this name
+unfoldable pub enumeration_named : RegistrationList → List ℕ → Option ℕ
+enumeration_named list name = position (is_enumeration_named name) list
 
 -- the type's number
 abbrev pub number_at : Option ℕ → Option EntityNo

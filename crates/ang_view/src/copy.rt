@@ -17,6 +17,9 @@ fn copy_type(alloc: Global, ty: &TypeRef) -> Result<TypeRef, AllocError>
     match ty {
         TypeRef::Void => Ok(TypeRef::Void),
         TypeRef::Plain(primitive) => Ok(TypeRef::Plain(*primitive)),
+        TypeRef::Enumeration { name } => Ok(TypeRef::Enumeration {
+            name: copy_name(alloc, name)?,
+        }),
         TypeRef::Object {
             name,
             shape,

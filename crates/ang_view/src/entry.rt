@@ -17,6 +17,10 @@ pub enum EntryKind {
     Function,
     /// A global property.
     Global,
+    /// An enumeration, which belongs to no driver.
+    Enumeration,
+    /// A value of its own enumeration, with its number. It has the mask of that enumeration.
+    EnumValue(i32),
 }
 
 /// One entry of the registration list. Its name is its signature's.
@@ -26,7 +30,7 @@ pub enum EntryKind {
 pub struct Entry {
     /// What it is.
     pub kind: EntryKind,
-    /// The type that a factory, method or object property belongs to.
+    /// The type that a factory, method or object property belongs to, and the enumeration of a value.
     pub owner: Option<EntityNo>,
     /// The driver that answers for it, from 0 to 63.
     pub driver: u32,

@@ -1,4 +1,4 @@
-//! The types of a registration list, by name.
+//! The types and enumerations of a registration list, by name.
 ghost use Rattle.std.specs.Prelude.{◌≡◌, Some, None, IfSome, IfNone};
 ghost use Rattle.ang_view.specs.Types as spec;
 
@@ -21,6 +21,17 @@ pub(crate) fn is_type_named(entry: &Option<Entry>, name: &[u8]) -> bool
         None => false,
         Some(entry) => {
             matches!(entry.kind, EntryKind::HostType) && entry.signature.name.as_slice() == name
+        }
+    }
+}
+
+pub(crate) fn is_enumeration_named(entry: &Option<Entry>, name: &[u8]) -> bool
+    ensures exact { result ≡ spec.is_enumeration_named name.now entry.now }
+{
+    match entry {
+        None => false,
+        Some(entry) => {
+            matches!(entry.kind, EntryKind::Enumeration) && entry.signature.name.as_slice() == name
         }
     }
 }

@@ -5,12 +5,12 @@ ghost use Rattle.std.specs.List.{list_all};
 ghost use Rattle.ang_view.specs.Hidden.{hidden, hidden_entry};
 ghost use Rattle.ang_view.specs.Named as spec;
 ghost use Rattle.ang_view.specs.SeenTypes as types;
-ghost use Rattle.ang_view.specs.Types.{is_type_named, type_named};
+ghost use Rattle.ang_view.specs.Types.{enumeration_named, is_enumeration_named, is_type_named, type_named};
 ghost use Rattle.ang_view.specs.Registration.{entry_at, is_type, is_function, is_spelled_with, mentions, is_number, is_named_by, named, has_mask_for, is_seen, seen_entry, seen, is_function_named, function_named};
 
-use crate::by_name::{BARE, index_of, maker_scope, member_scope, push_entry};
+use crate::by_name::{BARE, index_of, maker_scope, member_scope, push_names, values_of};
 use crate::copy::{copy_entries, copy_entry};
-use crate::lookup::is_type_named;
+use crate::lookup::{is_enumeration_named, is_type_named};
 use crate::{Entry, EntryKind};
 use ang_index::Index;
 use ang_kinds::{EntityNo, Mask, Signature, TypeRef};
@@ -20,24 +20,27 @@ use std::marker::Model;
 /// What a module of a mask sees of a registration list: the list, in which each entry that it does not
 /// see is a blank. Numbers are those of the list (docs/EMBEDDING.md, "Masks").
 ///
-/// Contracts see the list. Beside it stand the numbers of its entries by name, and of members and factories by type, so
-/// that none of the calls that look for them goes through the list, and none takes memory.
+/// Contracts see the list. Beside it stand the numbers of its entries by name, of members and factories by type, and of
+/// values by their own names, so that none of the calls that look for them goes through the list, and none takes memory.
 #[derive(Drop)]
 pub struct View {
     entries: Vec<Option<Entry>>,
     index: Index<EntityNo>,
+    values: Index<EntityNo>,
 }
 
 impl Model for View {
     ghost use Rattle.std.specs.Prelude.{◌≤◌, length};
-    ghost use Rattle.ang_view.specs.Named.{Indexes};
+    ghost use Rattle.ang_view.specs.Named.{Indexes, scope_in, value_scope_in};
     ghost use Rattle.ang_view.specs.Registration.{RegistrationList};
 
     ghost Value = { RegistrationList };
 
     ghost view = { λ v. v.entries.items };
 
-    ghost invariant = { λ v. (length v.entries.items ≤ 1024) × Indexes v.entries.items v.index };
+    ghost invariant = { λ v. (length v.entries.items ≤ 1024)
+        × Indexes scope_in v.entries.items v.index
+        × Indexes value_scope_in v.entries.items v.values };
 }
 
 impl View {
@@ -51,6 +54,7 @@ impl View {
         View {
             entries: Vec::new(alloc),
             index: Index::new(alloc),
+            values: Index::new(alloc),
         }
     }
 
@@ -58,7 +62,7 @@ impl View {
     /// as before.
     ///
     /// The only error is want of memory.
-    #[tactic(auto, using(crate::proofs::Named::one_more_indexed))]
+    #[tactic(auto, using(crate::proofs::Named::one_more_indexed, crate::proofs::Named::same_indexed))]
     pub fn push(&mut self, alloc: Global, entry: Option<Entry>) -> Result<(), AllocError>
         requires room { length self.old < 1024 }
         ensures pushed { OnOk result (self.new ≡ self.old ++ entry ∷ []) }
@@ -66,7 +70,7 @@ impl View {
     {
         let number = EntityNo(self.entries.len() as u32);
         self.entries.reserve(1)?;
-        push_entry(alloc, &mut self.index, &entry, number)?;
+        push_names(alloc, &mut self.index, &mut self.values, &entry, number)?;
         self.entries.push_reserved(entry);
         Ok(())
     }
@@ -86,7 +90,7 @@ impl View {
         self.entries.get(number.0 as usize)?.as_ref()
     }
 
-    /// The numbers of the seen types, functions and global properties of this name, rising. It takes no memory.
+    /// The numbers of the seen types, enumerations, functions and global properties of this name, rising. It takes no memory.
     #[tactic(auto, using(crate::proofs::Named::names_are))]
     pub fn find(&self, name: &[u8]) -> &[EntityNo]
         ensures exact { map (λ number. number.0) result.now ≡ spec.find self.now name.now }
@@ -94,18 +98,19 @@ impl View {
         self.index.find(BARE, name)
     }
 
-    /// Whether the entry of this number is a type that is seen.
+    /// Whether the entry of this number is a type or enumeration that is seen.
     fn has_type(&self, ty: EntityNo) -> bool
         ensures exact { result ≡ spec.is_type_entry (entry_at self.now ty.0) }
     {
         match self.get(ty) {
             None => false,
-            Some(entry) => matches!(entry.kind, EntryKind::HostType),
+            Some(entry) => is_type(entry),
         }
     }
 
-    /// The numbers of the seen methods and properties of this name of the type of this number, rising; none where that is
-    /// no type that is seen. It takes no memory.
+    /// The numbers of the seen methods and properties of this name of the type of this number, or of the seen values of this
+    /// name of the enumeration of this number, rising; none where that is no type or enumeration that is seen. It takes no
+    /// memory.
     pub fn members(&self, ty: EntityNo, name: &[u8]) -> &[EntityNo]
         ensures exact { map (λ number. number.0) result.now
             ≡ spec.members self.now ty.0 name.now }
@@ -147,12 +152,27 @@ impl View {
         self.index.find(maker_scope(owner), &[])
     }
 
-    /// The number of the type of this name, or none where it is not seen. What a seen entry names is seen,
+    /// The numbers of the seen values of this name, of whatever enumerations, rising. It takes no memory.
+    #[tactic(auto, using(crate::proofs::Named::values_are))]
+    pub fn values(&self, name: &[u8]) -> &[EntityNo]
+        ensures exact { map (λ number. number.0) result.now ≡ spec.values_named self.now name.now }
+    {
+        self.values.find(BARE, name)
+    }
+
+    /// The number of the type of host objects of this name, or none where it is not seen. What a seen entry names is seen,
     /// and has the number here that it has in the whole list (`laws::types_are_seen`). It takes no memory.
     pub fn find_type(&self, name: &[u8]) -> Option<EntityNo>
         ensures exact { option_map (λ number. number.0) result ≡ type_named self.now name.now }
     {
         first_type(&self.entries, self.find(name), name)
+    }
+
+    /// The number of the enumeration of this name, or none where it is not seen. It takes no memory.
+    pub fn find_enumeration(&self, name: &[u8]) -> Option<EntityNo>
+        ensures exact { option_map (λ number. number.0) result ≡ enumeration_named self.now name.now }
+    {
+        first_enumeration(&self.entries, self.find(name), name)
     }
 
     /// The number of the first function of this name that a module of the mask sees. It takes no memory.
@@ -195,13 +215,45 @@ fn first_type(entries: &[Option<Entry>], numbers: &[EntityNo], name: &[u8]) -> O
     None
 }
 
+/// Whether the entry of this number is the enumeration of this name.
+fn is_enumeration_at(entries: &[Option<Entry>], number: usize, name: &[u8]) -> bool
+    ensures exact { result ≡ is_enumeration_named name.now (entry_at entries.now number) }
+{
+    match entries.get(number) {
+        None => false,
+        Some(entry) => is_enumeration_named(entry, name),
+    }
+}
+
+/// The first of these numbers whose entry is the enumeration of this name.
+fn first_enumeration(
+    entries: &[Option<Entry>],
+    numbers: &[EntityNo],
+    name: &[u8],
+) -> Option<EntityNo>
+    ensures exact { option_map (λ number. number.0) result
+        ≡ spec.first_of (λ n. is_enumeration_named name.now (entry_at entries.now n)) numbers.now }
+{
+    for number in numbers {
+        if is_enumeration_at(entries, number.0 as usize, name) {
+            return Some(*number);
+        }
+    }
+    None
+}
+
 /// These entries as a view.
 fn view_with(alloc: Global, entries: Vec<Option<Entry>>) -> Result<View, AllocError>
     requires few { length entries.items ≤ 1024 }
     ensures same { IfOk result (λ view. view ≡ entries.items) }
 {
     let index = index_of(alloc, entries.as_slice())?;
-    Ok(View { entries, index })
+    let values = values_of(alloc, entries.as_slice())?;
+    Ok(View {
+        entries,
+        index,
+        values,
+    })
 }
 
 /// The view of the mask of a whole list.
@@ -351,14 +403,15 @@ fn sees_types(list: &View, mask: Mask, entry: &Entry) -> bool
         ≡ list_all (λ n. has_mask_for mask.0 (entry_at list.now n))
         (named list.now entry.now) }
 {
-    is_host_type(entry)
+    is_type(entry)
         || sees_owner(list, mask, entry.owner) && sees_signature(list, mask, &entry.signature)
 }
 
-fn is_host_type(entry: &Entry) -> bool
+/// Whether the entry is a type that declarations can name: a type of host objects, or an enumeration.
+fn is_type(entry: &Entry) -> bool
     ensures exact { result ≡ is_type entry.now.kind }
 {
-    matches!(entry.kind, EntryKind::HostType)
+    matches!(entry.kind, EntryKind::HostType | EntryKind::Enumeration)
 }
 
 fn sees_owner(list: &View, mask: Mask, owner: Option<EntityNo>) -> bool
@@ -387,7 +440,7 @@ fn sees_type(list: &View, mask: Mask, ty: &TypeRef) -> bool
 {
     match ty {
         TypeRef::Void | TypeRef::Plain(_) => true,
-        TypeRef::Object { name, .. } => list
+        TypeRef::Enumeration { name } | TypeRef::Object { name, .. } => list
             .find(name.as_slice())
             .iter()
             .all(|number| sees_spelled(list.get(*number), mask, ty)),
@@ -402,7 +455,7 @@ fn sees_spelled(found: Option<&Entry>, mask: Mask, ty: &TypeRef) -> bool
     match found {
         None => true,
         Some(entry) => {
-            !(is_host_type(entry) && spells(ty, entry.signature.name.as_slice()))
+            !(is_type(entry) && spells(ty, entry.signature.name.as_slice()))
                 || entry.mask.meets(mask)
         }
     }
@@ -421,8 +474,8 @@ fn meets(found: Option<&Entry>, mask: Mask) -> bool
 pub fn names_entry(entry: &Entry, number: usize, other: &Entry) -> bool
     ensures exact { result ≡ is_named_by entry.now number (Some other.now) }
 {
-    !matches!(entry.kind, EntryKind::HostType)
-        && matches!(other.kind, EntryKind::HostType)
+    !is_type(entry)
+        && is_type(other)
         && (belongs_to(entry.owner, number)
             || mentions_type(&entry.signature, other.signature.name.as_slice()))
 }
@@ -455,6 +508,8 @@ pub fn spells(ty: &TypeRef, name: &[u8]) -> bool
 {
     match ty {
         TypeRef::Void | TypeRef::Plain(_) => false,
-        TypeRef::Object { name: own, .. } => own.as_slice() == name,
+        TypeRef::Enumeration { name: own } | TypeRef::Object { name: own, .. } => {
+            own.as_slice() == name
+        }
     }
 }

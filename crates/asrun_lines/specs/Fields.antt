@@ -1,6 +1,6 @@
 -- The fields of a line, and the numbers, masks and values that they spell (docs/EMBEDDING.md, "The
 -- program").
-use Rattle.std.specs.Prelude.{ℕ, ◌+◌, ◌*◌, ◌^◌, Bool, ◌||◌, List, [], ◌∷◌, length, take, drop, Option, Some, None, nat_lt, ◌==◌, if◌then◌else◌, position}
+use Rattle.std.specs.Prelude.{ℕ, ℤ, pos, neg_ℤ, ◌+◌, ◌*◌, ◌^◌, Bool, ◌||◌, List, [], ◌∷◌, length, take, drop, Option, Some, None, nat_lt, nat_le, slice_index, ◌==◌, if◌then◌else◌, position}
 use Rattle.std.specs.Option.{option_and_then, option_map}
 use Rattle.std.specs.List.{list_any}
 use Rattle.std.specs.Char.{digit_value}
@@ -57,3 +57,20 @@ mask_of text =
 -- a number of 32 bits in 1 to 10 decimal digits
 unfoldable pub number_of : List ℕ → Option ℕ
 number_of text = decimal_of 10 text >>= below (2 ^ 32)
+
+-- a number of 32 bits with a sign, written as `7` or, without its sign here, as `-7`
+unfoldable pub positive32_of : List ℕ → Option ℤ
+positive32_of digits = do
+  n ← decimal_of 10 digits
+  if nat_lt n (2 ^ 31) then Some (pos n) else None
+
+unfoldable pub negative32_of : List ℕ → Option ℤ
+negative32_of digits = do
+  n ← decimal_of 10 digits
+  if nat_le n (2 ^ 31) then Some (neg_ℤ (pos n)) else None
+
+-- `7` or `-7`, of 1 to 10 digits
+unfoldable pub signed_of : List ℕ → Option ℤ
+signed_of text =
+    if length text == 0 then None
+    else (if slice_index text 0 == 45 then negative32_of (drop 1 text) else positive32_of text)

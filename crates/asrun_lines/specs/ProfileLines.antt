@@ -1,9 +1,9 @@
 -- The lines of a profile: what a host registers (docs/EMBEDDING.md, "The program").
-use Rattle.std.specs.Prelude.{ℕ, List, Option, Some, None, codes, if◌then◌else◌}
+use Rattle.std.specs.Prelude.{ℕ, ℤ, List, Option, Some, None, codes, if◌then◌else◌}
 use Rattle.std.specs.Option.{option_map}
 use Rattle.std.specs.Str.{bytes_eq}
 use Rattle.ang_kinds.specs.declared.mask.Mask.{Mask}
-use Rattle.asrun_lines.specs.Fields.{◌>>=◌, field_of, rest_of, number_of, mask_of}
+use Rattle.asrun_lines.specs.Fields.{◌>>=◌, field_of, last_field_of, rest_of, number_of, signed_of, mask_of}
 use Rattle.asrun_lines.specs.declared.profile_lines.ProfileLine.{ProfileLine}
 use Rattle.asrun_lines.specs.declared.profile_lines.ProfileLine.TheVariants as line
 
@@ -16,6 +16,8 @@ pub data Entry : Type 0 where
   Property : List ℕ → ℕ → List ℕ → Entry
   Function : ℕ → ℕ → List ℕ → Entry
   Global : ℕ → ℕ → List ℕ → Entry
+  Enumeration : List ℕ → Entry
+  EnumValue : List ℕ → List ℕ → ℤ → Entry
   Blank : Entry
 
 abbrev pub entry : ProfileLine → Entry
@@ -26,6 +28,8 @@ entry (line.Method type_name f decl) = Method type_name.now f decl.now
 entry (line.Property type_name f decl) = Property type_name.now f decl.now
 entry (line.Function driver f decl) = Function driver f decl.now
 entry (line.Global driver f decl) = Global driver f decl.now
+entry (line.Enumeration name) = Enumeration name.now
+entry (line.EnumValue enumeration name value) = EnumValue enumeration.now name.now value
 entry line.Blank = Blank
 
 -- `NAME DRIVER`, after the word `type`
@@ -54,6 +58,18 @@ own_of text = do
   decl ← rest_of f.1
   Some (d, n, decl)
 
+-- `NAME`, after the word `enum`
+unfoldable pub enumeration_of : List ℕ → Option Entry
+enumeration_of text = option_map Enumeration (last_field_of text)
+
+-- `ENUM NAME N`, after the word `value`
+unfoldable pub enum_value_of : List ℕ → Option Entry
+enum_value_of text = do
+  enumeration ← field_of text
+  name ← field_of enumeration.1
+  value ← signed_of name.1
+  Some (EnumValue enumeration.0 name.0 value)
+
 -- what a line says after its first word
 unfoldable pub entry_behind : List ℕ → List ℕ → Option Entry
 entry_behind word text =
@@ -69,7 +85,9 @@ entry_behind word text =
     then option_map (λ o. Function o.0 o.1 o.2) (own_of text)
     else (if bytes_eq word (codes "global")
     then option_map (λ o. Global o.0 o.1 o.2) (own_of text)
-    else None))))))
+    else (if bytes_eq word (codes "enum") then enumeration_of text
+    else (if bytes_eq word (codes "value") then enum_value_of text
+    else None))))))))
 
 -- one of these lines, or `blank` alone
 unfoldable pub entry_of : List ℕ → Option Entry

@@ -1,6 +1,6 @@
 //! The fields of a line, and the numbers and masks that they spell.
 ghost use Rattle.std.specs.Prelude.{◌≡◌, ◌≤◌, ◌^◌, ◌<◌, ◌==◌, length, position, IfSome, option_map};
-ghost use Rattle.asrun_lines.specs.Fields.{field_of, last_field_of, rest_of, numeral64_of, decimal_of, mask_of, number_of};
+ghost use Rattle.asrun_lines.specs.Fields.{field_of, last_field_of, rest_of, numeral64_of, decimal_of, mask_of, number_of, positive32_of, negative32_of, signed_of};
 
 use ang_kinds::Mask;
 
@@ -92,4 +92,35 @@ pub fn mask(text: &[u8]) -> Option<Mask>
         return None;
     }
     u32::try_from(numeral(text, 16)?).ok().map(Mask)
+}
+
+/// The number of 32 bits that `7` spells.
+#[tactic(auto, unfolding(crate::specs::Fields::positive32_of))]
+fn positive(digits: &[u8]) -> Option<i32>
+    ensures exact { result ≡ positive32_of digits.now }
+{
+    i32::try_from(decimal(digits, 10)?).ok()
+}
+
+/// The number of 32 bits that `-7` spells, without its sign.
+#[tactic(auto, unfolding(crate::specs::Fields::negative32_of))]
+fn negative(digits: &[u8]) -> Option<i32>
+    ensures exact { result ≡ negative32_of digits.now }
+{
+    let n = i128::from(decimal(digits, 10)?);
+    i32::try_from(-n).ok()
+}
+
+/// The number of 32 bits with a sign that `7` or `-7` spells, in 1 to 10 digits.
+#[tactic(auto, unfolding(crate::specs::Fields::signed_of))]
+pub fn signed(text: &[u8]) -> Option<i32>
+    ensures exact { result ≡ signed_of text.now }
+{
+    if text.is_empty() {
+        return None;
+    }
+    if text[0] == b'-' {
+        return negative(&text[1..]);
+    }
+    positive(text)
 }

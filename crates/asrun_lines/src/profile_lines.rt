@@ -1,8 +1,8 @@
 //! The lines of a profile.
 ghost use Rattle.std.specs.Prelude.{◌≡◌, option_map};
-ghost use Rattle.asrun_lines.specs.ProfileLines.{entry, type_of, member_of, own_of, entry_behind, entry_of};
+ghost use Rattle.asrun_lines.specs.ProfileLines.{entry, type_of, member_of, own_of, enumeration_of, enum_value_of, entry_behind, entry_of};
 
-use crate::fields::{field, mask, number, rest};
+use crate::fields::{field, last_field, mask, number, rest, signed};
 use ang_kinds::Mask;
 
 /// A line of a profile that is neither empty nor a comment. A declaration is the rest of its line.
@@ -62,6 +62,20 @@ pub enum ProfileLine<'a> {
         /// The declaration.
         decl: &'a [u8],
     },
+    /// `enum NAME`: an enumeration.
+    Enumeration {
+        /// The enumeration's name.
+        name: &'a [u8],
+    },
+    /// `value ENUM NAME N`: a value of an enumeration.
+    EnumValue {
+        /// The enumeration that has it.
+        enumeration: &'a [u8],
+        /// The value's name.
+        name: &'a [u8],
+        /// Its number.
+        value: i32,
+    },
     /// `blank`: a number without an entry.
     Blank,
 }
@@ -100,6 +114,28 @@ fn own(text: &[u8]) -> Option<(u32, u32, &[u8])>
     Some((driver, f, decl))
 }
 
+#[tactic(auto, unfolding(crate::specs::ProfileLines::enumeration_of))]
+fn enumeration_line(text: &[u8]) -> Option<ProfileLine<'_>>
+    ensures exact { option_map entry result ≡ enumeration_of text.now }
+{
+    let name = last_field(text)?;
+    Some(ProfileLine::Enumeration { name })
+}
+
+#[tactic(auto, unfolding(crate::specs::ProfileLines::enum_value_of))]
+fn enum_value_line(text: &[u8]) -> Option<ProfileLine<'_>>
+    ensures exact { option_map entry result ≡ enum_value_of text.now }
+{
+    let (enumeration, text) = field(text)?;
+    let (name, text) = field(text)?;
+    let value = signed(text)?;
+    Some(ProfileLine::EnumValue {
+        enumeration,
+        name,
+        value,
+    })
+}
+
 /// What a line spells after its first word.
 #[tactic(auto, unfolding(crate::specs::ProfileLines::entry_behind))]
 fn line_behind<'a>(word: &[u8], text: &'a [u8]) -> Option<ProfileLine<'a>>
@@ -131,6 +167,12 @@ fn line_behind<'a>(word: &[u8], text: &'a [u8]) -> Option<ProfileLine<'a>>
     if word == b"global".as_slice() {
         let (driver, f, decl) = own(text)?;
         return Some(ProfileLine::Global { driver, f, decl });
+    }
+    if word == b"enum".as_slice() {
+        return enumeration_line(text);
+    }
+    if word == b"value".as_slice() {
+        return enum_value_line(text);
     }
     None
 }

@@ -1,5 +1,5 @@
 -- What a run tells at its end.
-use Rattle.std.proofs.Common.{◌≡◌, ℕ, Bool, true, false, cond, List, Option, Some, None, IfSome, Result, Ok, Err, inl, inr, refl}
+use Rattle.std.proofs.Common.{◌≡◌, ◌⊎◌, ap, ℕ, Bool, true, false, cond, List, Option, Some, None, IfSome, Result, Ok, Err, inl, inr, refl}
 use Rattle.std.specs.Result.{IfOk, IfErr, OnErr}
 use Rattle.std.specs.List.{list_all}
 use Rattle.std.specs.declared.alloc.Global.{Global}
@@ -10,6 +10,7 @@ use Rattle.ang_view.specs.Registration.{RegistrationList}
 use Rattle.ang_engine_world.specs.World.{World}
 use Rattle.asrun_session.specs.Deeds.{Deed, is_ok, status_of}
 use Rattle.asrun_session.specs.Reading.{unread}
+use Rattle.asrun_session.specs.Writing.{unwritten}
 use Rattle.asrun_session.specs.Whole.{RunsSession, Unread, Ends, Stops, Tells, Starts, StartStops, start_of, outcome_of}
 use Rattle.asrun_session.specs.declared.ending.IoFault.TheVariants as io
 use Rattle.asrun_session.specs.declared.ending.Status.{Status}
@@ -81,3 +82,20 @@ module _ {V : Type 0} {P : V → Type 0} (m : Meanings P) (xs ys : List (DynBox 
   tells R (Some p) (Some s) budget old mid new ended a h k u =
       let taken : Tells m xs ys mid new (Ok R) s budget (outcome_of ended) = tells_taken R s budget mid new ended h k u in
       rw (a.0, ← a.1) taken
+
+-- no list was registered by a profile that is refused, so that all holds of it
+none_registered : (start : Result RegistrationList (List ℕ)) (B : RegistrationList → Type 0) → IfOk start (λ R. ⊥) → IfOk start B
+none_registered (Ok R) B h = absurd h
+none_registered (Err text) B h = tt
+
+never_taken : (profile : Option (List ℕ)) (B : RegistrationList → Type 0)
+    → IfSome profile (λ p. IfOk (start_of p) (λ R. ⊥)) → IfSome profile (λ p. IfOk (start_of p) B)
+never_taken None B h = tt
+never_taken (Some p) B h = none_registered (start_of p) B h
+
+-- a write fault before there was an engine is one over a profile that is refused
+pub unwritten_untaken : (A : Type 0) (B : RegistrationList → Type 0) (profile : Option (List ℕ)) (why : Stop)
+    → (why ≡ unwritten → IfSome profile (λ p. IfOk (start_of p) (λ R. ⊥)))
+    → IfErr (outcome_of (Err why)) (λ e. e ≡ io.Write → A ⊎ IfSome profile (λ p. IfOk (start_of p) B))
+unwritten_untaken A B profile stop.Memory h = tt
+unwritten_untaken A B profile (stop.Fault why) h = λ e. inr (never_taken profile B (h (ap stop.Fault e)))

@@ -4,10 +4,10 @@ use Rattle.ang_registry.specs.declared.error.RegError.{RegError}
 use Rattle.ang_registry.specs.Registrations.{Registrations}
 use Rattle.ang_kinds.specs.declared.mask.EntityNo.{EntityNo}
 use Rattle.ang_registry.specs.Declarations.{declared_type, declared_factory, declared_method, declared_property, declared_function}
-use Rattle.ang_registry.specs.Refusals.{refusal_of_type, with_type, refusal_of_factory, with_factory, refusal_of_method, with_method, refusal_of_property, with_property, refusal_of_function, with_function, refusal_of_global, with_global, refusal_of_blank, with_blank}
+use Rattle.ang_registry.specs.Refusals.{refusal_of_type, with_type, refusal_of_factory, with_factory, refusal_of_method, with_method, refusal_of_property, with_property, refusal_of_function, with_function, refusal_of_global, with_global, refusal_of_enumeration, with_enumeration, refusal_of_value, with_value, refusal_of_blank, with_blank}
 use Rattle.ang_registry.specs.declared.error.RegError.TheVariants.{Memory as NoMemory}
 use Rattle.asrun_lines.specs.Lines.{shown_of, is_skipped}
-use Rattle.asrun_lines.specs.ProfileLines.{Entry, DefaultMask, HostType, Factory, Method, Property, Function, Global, Blank, entry_of}
+use Rattle.asrun_lines.specs.ProfileLines.{Entry, DefaultMask, HostType, Factory, Method, Property, Function, Global, Enumeration, EnumValue, Blank, entry_of}
 use Rattle.asrun_session.specs.declared.profile.ProfileFault.{ProfileFault}
 use Rattle.asrun_session.specs.declared.profile.ProfileFault.TheVariants.{BadLine, Refused}
 use Rattle.asrun_session.specs.declared.profile.ProfileStop.{ProfileStop}
@@ -44,6 +44,12 @@ entered n r (Some (Function driver f decl)) =
 entered n r (Some (Global driver f decl)) =
     registered n (refusal_of_global r driver (declared_property decl))
     (with_global r driver f (declared_property decl))
+entered n r (Some (Enumeration name)) =
+    registered n (refusal_of_enumeration r (declared_type name))
+    (with_enumeration r (declared_type name))
+entered n r (Some (EnumValue enumeration name value)) =
+    registered n (refusal_of_value r enumeration value (declared_type name))
+    (with_value r enumeration value (declared_type name))
 entered n r (Some Blank) = registered n (refusal_of_blank r) (with_blank r)
 
 abbrev pub line_entered : ℕ → Registrations → List ℕ → Result Registrations ProfileFault

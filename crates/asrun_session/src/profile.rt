@@ -66,6 +66,12 @@ fn enter(registry: &mut Registry, number: u64, line: &[u8]) -> Result<(), Profil
         ProfileLine::Global { driver, f, decl } => {
             judged(number, registry.global_property(driver, f, decl))
         }
+        ProfileLine::Enumeration { name } => judged(number, registry.enum_(name)),
+        ProfileLine::EnumValue {
+            enumeration,
+            name,
+            value,
+        } => judged(number, registry.enum_value(enumeration, name, value)),
         ProfileLine::Blank => judged(number, registry.blank()),
     }
 }

@@ -13,3 +13,16 @@ function 2 2 Cell@+ pick(Cell@+)
 type Counter 1
 mask 00000002
 factory Counter 0 Counter@ f()
+# Two enumerations, entries 8 to 14, and a hidden one, 15 to 17.
+mask 00000003
+enum Color
+value Color RED 1
+value Color GREEN 3
+value Color BLUE -2
+enum Light
+value Light DIM 4
+value Light BLUE 5
+mask 00000002
+enum Secret
+value Secret HIDDEN 7
+value Secret GREEN 8

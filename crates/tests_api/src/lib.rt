@@ -10,3 +10,5 @@ mod kinds;
 mod registry;
 #[cfg(test)]
 mod types;
+#[cfg(test)]
+mod views;

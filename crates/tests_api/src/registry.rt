@@ -1,7 +1,7 @@
 //! Outside examples: a whole profile, the refusals that the documents name, limits, views, and each call once.
 
-use ang_kinds::{EntityNo, Mask};
-use ang_registry::{EntryKind, RegError, Registry};
+use ang_kinds::{EntityNo, Mask, TypeRef};
+use ang_registry::{Entry, EntryKind, RegError, Registry};
 use std::alloc::{AllocError, Global};
 use std::process::Abort;
 
@@ -14,6 +14,8 @@ enum Line {
     Property(&'static [u8], u32, &'static [u8]),
     Function(u32, u32, &'static [u8]),
     Global(u32, u32, &'static [u8]),
+    Enum(&'static [u8]),
+    Value(&'static [u8], &'static [u8], i32),
     Blank,
 }
 
@@ -25,6 +27,8 @@ fn add(registry: &mut Registry, line: &Line) -> Result<EntityNo, RegError> {
         Line::Property(name, f, decl) => registry.property(name, *f, decl),
         Line::Function(driver, f, decl) => registry.function(*driver, *f, decl),
         Line::Global(driver, f, decl) => registry.global_property(*driver, *f, decl),
+        Line::Enum(name) => registry.enum_(name),
+        Line::Value(enumeration, name, value) => registry.enum_value(enumeration, name, *value),
         Line::Blank => registry.blank(),
     }
 }
@@ -249,6 +253,151 @@ fn refusals_over_a_whole_profile(rt: HostRuntime) {
     assert_eq!(rt; wrong, None);
 }
 
+/// An enumeration of two values, a function that takes one, and a type.
+const COLORS: [Step; 5] = [
+    Step::Number(0, Line::Enum(b"Color")),
+    Step::Number(1, Line::Value(b"Color", b"RED", 1)),
+    Step::Number(2, Line::Value(b"Color", b"BLUE", -2)),
+    Step::Number(3, Line::Function(0, 0, b"void paint(Color)")),
+    Step::Number(4, Line::Type(b"Cell", 2)),
+];
+
+/// Calls over these.
+const OVER_COLORS: [Step; 37] = [
+    Step::Refused(RegError::UnknownType, Line::Value(b"Colour", b"RED", 1)),
+    Step::Refused(RegError::UnknownType, Line::Value(b"Cell", b"RED", 1)),
+    Step::Refused(RegError::BadDeclaration, Line::Value(b"Colour", b"1x", 1)),
+    Step::Refused(RegError::BadDeclaration, Line::Value(b"Color", b"int", 1)),
+    Step::Refused(RegError::Duplicate, Line::Value(b"Color", b"RED", 3)),
+    Step::Refused(RegError::BadDeclaration, Line::Enum(b"")),
+    Step::Refused(RegError::BadDeclaration, Line::Enum(b"enum Color")),
+    Step::Refused(RegError::Duplicate, Line::Enum(b"Color")),
+    Step::Refused(RegError::Duplicate, Line::Enum(b"paint")),
+    Step::Refused(RegError::Duplicate, Line::Enum(b"Cell")),
+    Step::Refused(RegError::Duplicate, Line::Type(b"Color", 3)),
+    Step::Refused(RegError::Duplicate, Line::Global(0, 0, b"int Color")),
+    Step::Refused(
+        RegError::Duplicate,
+        Line::Function(0, 0, b"void Color(int)"),
+    ),
+    Step::Refused(
+        RegError::Duplicate,
+        Line::Function(0, 0, b"int paint(Color c)"),
+    ),
+    Step::Refused(
+        RegError::BadDeclaration,
+        Line::Function(0, 0, b"void f(Cell)"),
+    ),
+    Step::Refused(
+        RegError::BadDeclaration,
+        Line::Function(0, 0, b"void f(Nope, Cell)"),
+    ),
+    Step::Refused(
+        RegError::BadDeclaration,
+        Line::Function(0, 0, b"void f(Color@+)"),
+    ),
+    Step::Refused(
+        RegError::BadDeclaration,
+        Line::Function(0, 0, b"const Color f()"),
+    ),
+    Step::Refused(
+        RegError::BadDeclaration,
+        Line::Global(0, 0, b"const Cell c"),
+    ),
+    Step::Refused(RegError::UnknownType, Line::Function(0, 0, b"void f(Nope)")),
+    Step::Refused(RegError::UnknownType, Line::Global(0, 0, b"Nope n")),
+    Step::Refused(
+        RegError::UnknownType,
+        Line::Method(b"Color", 0, b"void f()"),
+    ),
+    Step::Refused(RegError::UnknownType, Line::Property(b"Color", 0, b"int f")),
+    Step::Refused(
+        RegError::BadDeclaration,
+        Line::Factory(b"Color", 0, b"Color@ f()"),
+    ),
+    Step::Length(5),
+    Step::Number(5, Line::Function(0, 1, b"void paint(int)")),
+    Step::Number(6, Line::Function(0, 2, b"Color mixed(Color, Color)")),
+    Step::Number(7, Line::Global(0, 0, b"Color tint")),
+    Step::Number(8, Line::Global(0, 0, b"const Color base")),
+    Step::Number(9, Line::Factory(b"Cell", 0, b"Cell@ f(Color)")),
+    Step::Number(10, Line::Method(b"Cell", 0, b"Color color() const")),
+    Step::Number(11, Line::Function(0, 3, b"void RED()")),
+    Step::Number(12, Line::Enum(b"Light")),
+    Step::Number(13, Line::Value(b"Light", b"RED", 2147483647)),
+    Step::Mask(0, 1),
+    Step::Refused(RegError::EmptyMask, Line::Enum(b"int")),
+    Step::Number(14, Line::Value(b"Color", b"Cell", -2147483648)),
+];
+
+/// What is kept of a value: its enumeration, and the mask of that, whatever the default one was.
+fn keeps_a_value(rt: &impl Abort, registry: &Registry) {
+    match registry.get(EntityNo(14)) {
+        Some(value) => {
+            assert!(rt; value.kind == EntryKind::EnumValue(-2147483648));
+            assert!(rt; value.owner == Some(EntityNo(0)) && value.mask == Mask(1));
+        }
+        None => panic!(rt; "no entry 14"),
+    }
+}
+
+/// The name of the enumeration that the first parameter of an entry is of.
+fn first_enumeration(entry: &Entry) -> Option<&[u8]> {
+    match &entry.signature.params.as_slice().first()?.ty {
+        TypeRef::Enumeration { name } => Some(name.as_slice()),
+        _ => None,
+    }
+}
+
+/// What is kept of a parameter.
+fn keeps_an_enumeration(rt: &impl Abort, registry: &Registry) {
+    match registry.get(EntityNo(3)) {
+        Some(paint) => {
+            assert!(rt; first_enumeration(paint) == Some(b"Color".as_slice()));
+        }
+        None => panic!(rt; "no entry 3"),
+    }
+}
+
+#[test]
+fn refusals_over_an_enumeration(rt: HostRuntime) {
+    let mut registry = Registry::new(rt.alloc());
+    let before = first_wrong(&mut registry, &COLORS);
+    let wrong = first_wrong(&mut registry, &OVER_COLORS);
+    keeps_a_value(&rt, &registry);
+    keeps_an_enumeration(&rt, &registry);
+    drop(registry);
+    assert_eq!(rt; before, None);
+    assert_eq!(rt; wrong, None);
+}
+
+/// An enumeration for one mask, its value under another default mask, and a function for both that takes one.
+const HIDDEN_COLORS: [Step; 5] = [
+    Step::Number(0, Line::Enum(b"Color")),
+    Step::Mask(2, 1),
+    Step::Number(1, Line::Value(b"Color", b"RED", 1)),
+    Step::Mask(3, 2),
+    Step::Number(2, Line::Function(0, 0, b"void paint(Color)")),
+];
+
+#[test]
+fn what_names_a_hidden_enumeration_is_hidden(rt: HostRuntime) -> Result<(), AllocError> {
+    let mut registry = Registry::new(rt.alloc());
+    let wrong = first_wrong(&mut registry, &HIDDEN_COLORS);
+    let found = registry.find_enumeration(b"Color");
+    let mut hidden = true;
+    for number in 0..3 {
+        let for_one = sees(rt.alloc(), &registry, 1, number);
+        let for_two = sees(rt.alloc(), &registry, 2, number);
+        hidden &= for_one == Ok(true) && for_two == Ok(false);
+    }
+    drop(registry);
+    assert_eq!(rt; wrong, None);
+    assert_eq!(rt; found, Some(EntityNo(0)));
+    assert!(rt; hidden);
+    Ok(())
+}
+
 const MOST: &[u8] = b"void f(int,int,int,int,int,int,int,int,int,int,int,int,int,int,int,int,\
     int,int,int,int,int,int,int,int,int,int,int,int,int,int,int,int)";
 
@@ -256,7 +405,7 @@ const MORE: &[u8] = b"void g(int,int,int,int,int,int,int,int,int,int,int,int,int
     int,int,int,int,int,int,int,int,int,int,int,int,int,int,int,int,int)";
 
 /// A function of the most parameters, and as many entries as there may be.
-const LIMITS: [Step; 8] = [
+const LIMITS: [Step; 10] = [
     Step::Number(0, Line::Function(0, 0, MOST)),
     Step::Mask(0, 1),
     Step::Refused(RegError::Limit, Line::Function(64, 0, MORE)),
@@ -264,6 +413,8 @@ const LIMITS: [Step; 8] = [
     Step::Blanks(1, 1024),
     Step::Refused(RegError::Limit, Line::Blank),
     Step::Refused(RegError::Limit, Line::Type(b"1x", 64)),
+    Step::Refused(RegError::Limit, Line::Enum(b"1x")),
+    Step::Refused(RegError::Limit, Line::Value(b"Color", b"1x", 1)),
     Step::Length(1024),
 ];
 

@@ -17,6 +17,11 @@ const INT64: ArgType = ArgType::Plain(Prim::I64);
 
 const BOOL: ArgType = ArgType::Plain(Prim::Bool);
 
+// two enumerations by number
+const COLOR: ArgType = ArgType::Enumeration { number: 4 };
+
+const SIDE: ArgType = ArgType::Enumeration { number: 5 };
+
 const BASE_OBJECT: ArgType = ArgType::Object {
     number: BASE,
     read_only: false,
@@ -90,7 +95,7 @@ fn integers_meet_in_their_common_type(rt: HostRuntime) {
 }
 
 /// From which type to which one, and the rank.
-const RANKS: [(ArgType, ArgType, Option<u8>); 27] = [
+const RANKS: [(ArgType, ArgType, Option<u8>); 37] = [
     (INT, INT, Some(0)),
     (BOOL, BOOL, Some(0)),
     (INT, INT64, Some(2)),
@@ -118,6 +123,16 @@ const RANKS: [(ArgType, ArgType, Option<u8>); 27] = [
     (CONST_DERIVED_HANDLE, BASE_HANDLE, None),
     (APART_HANDLE, BASE_HANDLE, None),
     (APART_HANDLE, INT, None),
+    (COLOR, COLOR, Some(0)),
+    (COLOR, INT, Some(2)),
+    (COLOR, INT64, Some(3)),
+    (COLOR, ArgType::Plain(Prim::I8), Some(3)),
+    (COLOR, ArgType::Plain(Prim::U32), Some(3)),
+    (COLOR, BOOL, None),
+    (COLOR, SIDE, None),
+    (SIDE, COLOR, None),
+    (INT, COLOR, None),
+    (ArgType::Null, COLOR, None),
 ];
 
 fn rank_of(alloc: Global, from: ArgType, to: ArgType) -> Result<Option<u8>, AllocError> {
@@ -172,7 +187,7 @@ const TAKES: Functions = &[
 /// A name, the functions of that name, the types of the arguments, and what is picked.
 type Choice = (&'static str, Functions, &'static [ArgType], Pick);
 
-const BY_VALUE: [Choice; 8] = [
+const BY_VALUE: [Choice; 10] = [
     ("put(int)", PUT, &[INT], Pick::One(1)),
     ("put(int) of one", FIRST_PUT, &[INT], Pick::One(0)),
     ("f(int, int)", CROSSED, &[INT, INT], Pick::Ambiguous),
@@ -180,6 +195,8 @@ const BY_VALUE: [Choice; 8] = [
     ("f(int, bool)", CROSSED, &[INT, BOOL], Pick::NoViable),
     ("f(int)", CROSSED, &[INT], Pick::NoViable),
     ("of none", &[], &[], Pick::NoViable),
+    ("put(color)", PUT, &[COLOR], Pick::One(1)),
+    ("f(color, int)", CROSSED, &[COLOR, INT], Pick::Ambiguous),
     ("f(int, int) of three", CLEAR, &[INT, INT], Pick::One(2)),
 ];
 

@@ -17,6 +17,8 @@ const HANDLE: ArgType = ArgType::Handle {
     read_only: true,
 };
 
+const ENUMERATION: ArgType = ArgType::Enumeration { number: 3 };
+
 fn without_const(ty: ArgType) -> Written {
     Written {
         ty,
@@ -193,6 +195,34 @@ fn arguments_stand_in_order(rt: HostRuntime) {
     }
 }
 
+/// An enumeration takes what an `int` does.
+const ENUMERATED: [(Value, Option<u64>); 9] = [
+    (Value::Int(0), Some(0)),
+    (Value::Int(-2_147_483_648), Some(0xffff_ffff_8000_0000)),
+    (Value::Int(2_147_483_647), Some(2_147_483_647)),
+    (Value::Int(-1), Some(u64::MAX)),
+    (Value::Int(-2_147_483_649), None),
+    (Value::Int(2_147_483_648), None),
+    (Value::Uint(1), None),
+    (Value::Bool(true), None),
+    (Value::Key(None), None),
+];
+
+fn passes_enumeration(alloc: Global, value: Value, bits: Option<u64>) -> bool {
+    match bits {
+        Some(bits) => passes(alloc, &[ENUMERATION], &[value], Some(&[bits])),
+        None => passes(alloc, &[ENUMERATION], &[value], None),
+    }
+}
+
+#[test]
+fn an_enumeration_has_the_range_of_int(rt: HostRuntime) {
+    for row in &ENUMERATED {
+        let (value, bits) = *row;
+        assert!(rt; passes_enumeration(rt.alloc(), value, bits), "{value:?}");
+    }
+}
+
 /// Whether a function of one parameter of this type can't be called, and takes no null handle.
 fn takes_none(alloc: Global, ty: ArgType) -> bool {
     let Ok(function) = taking(alloc, &[ty]) else {
@@ -215,10 +245,11 @@ fn gives(alloc: Global, ty: ArgType) -> bool {
 }
 
 /// A result's type, and whether a function that has it can be called.
-const RESULTS: [(ArgType, bool); 7] = [
+const RESULTS: [(ArgType, bool); 8] = [
     (ArgType::Plain(Prim::I8), true),
     (ArgType::Plain(Prim::U64), true),
     (ArgType::Plain(Prim::Bool), true),
+    (ENUMERATION, true),
     (ArgType::Void, true),
     // objects are no results
     (OBJECT, false),

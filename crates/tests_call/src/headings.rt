@@ -9,14 +9,16 @@ use ang_registry::{RegError, Registry, View};
 use ang_tree::Script;
 use std::alloc::{AllocError, Global};
 
-/// The functions 0 to 7. Those named `f` differ in one thing each.
+/// The functions 0 to 8. Those named `f` differ in one thing each.
 const MODULE: &[u8] =
-    b"void f() {} int f(int a) { return a; } int f(const int a) { return a; } int f(int &in a) { return a; } int f(int &out a) { a = 1; return a; } const int c() { return 1; } uint g(uint8 a, int64 b, bool d) { return 1; } void u(int x) {}";
+    b"void f() {} int f(int a) { return a; } int f(const int a) { return a; } int f(int &in a) { return a; } int f(int &out a) { a = 1; return a; } const int c() { return 1; } uint g(uint8 a, int64 b, bool d) { return 1; } void u(int x) {} Color k(Color a, const Color b) { return a; }";
 
-/// Puts into the registry `void print(int)` and the type `Cell`.
+/// Puts into the registry `void print(int)`, the type `Cell`, and the enumerations `Color` and `Shade`.
 fn register(registry: &mut Registry) -> Result<(), RegError> {
     let _ = registry.function(0, 0, b"void print(int)")?;
     let _ = registry.type_(b"Cell", 2)?;
+    let _ = registry.enum_(b"Color")?;
+    let _ = registry.enum_(b"Shade")?;
     Ok(())
 }
 
@@ -41,7 +43,7 @@ fn names_in(alloc: Global, view: &View, text: &[u8]) -> Option<Names> {
 }
 
 /// Which function of the module each text names.
-const NAMED: [(&str, usize); 16] = [
+const NAMED: [(&str, usize); 18] = [
     ("void f()", 0),
     ("void f(void)", 0),
     ("\u{FEFF} void\r\n\tf/* of nothing */( ) // a comment", 0),
@@ -58,10 +60,12 @@ const NAMED: [(&str, usize); 16] = [
     ("uint g(uint8, int64, bool)", 6),
     ("uint32 g(uint8 x, int64 y, bool z)", 6),
     ("void u(int)", 7),
+    ("Color k(Color, const Color)", 8),
+    ("Color k(Color x, const Color y)", 8),
 ];
 
 /// Headings that no function of the module has, and texts of another form.
-const NOT_NAMED: [&str; 35] = [
+const NOT_NAMED: [&str; 41] = [
     "int f()",
     "const void f()",
     "void f(int)",
@@ -95,6 +99,12 @@ const NOT_NAMED: [&str; 35] = [
     "void f(Nope)",
     "Nope f()",
     "void f(Cell@ c)",
+    "int k(Color, const Color)",
+    "Color k(int, const int)",
+    "Color k(Color, Color)",
+    "Shade k(Color, const Color)",
+    "Color k(Shade, const Color)",
+    "Color k(Color@, const Color)",
     "class C",
     "import void f() from \"m\"",
 ];
@@ -105,8 +115,8 @@ const LENGTHS: [(&str, usize, Option<usize>); 2] = [
     ("a longer text", 65_534, None),
 ];
 
-/// Which functions of the module can be called: those that take primitives by value.
-const CALLABLE: [(&str, bool); 8] = [
+/// Which functions of the module can be called: those that take primitives and enumerations by value.
+const CALLABLE: [(&str, bool); 9] = [
     ("void f()", true),
     ("int f(int)", true),
     ("int f(const int)", true),
@@ -115,6 +125,7 @@ const CALLABLE: [(&str, bool); 8] = [
     ("const int c()", true),
     ("uint g(uint8, int64, bool)", true),
     ("void u(int)", true),
+    ("Color k(Color, const Color)", true),
 ];
 
 /// `void f()` and spaces, as many bytes as that.

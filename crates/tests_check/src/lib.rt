@@ -3,6 +3,8 @@
 #![tactic(auto)]
 
 #[cfg(test)]
+mod enumerations;
+#[cfg(test)]
 mod errors;
 #[cfg(test)]
 mod limits;

@@ -76,11 +76,16 @@ fn in_front(alloc: Global, operator: TokenKind, ty: ArgType) -> Result<Operand, 
     prefix(alloc, &objects(alloc), &token(operator, 1), operand)
 }
 
+/// A conversion to the primitive type that is written in front of a value of this type.
+fn converted(alloc: Global, to: Prim, ty: ArgType) -> Result<Operand, Stop> {
+    let operand = value(alloc, ty, 6)?;
+    let word = token(TokenKind::Primitive(to), 1);
+    convert(alloc, &objects(alloc), &word, operand)
+}
+
 /// `int8(e)` of a value of this type.
 fn narrowed(alloc: Global, ty: ArgType) -> Result<Operand, Stop> {
-    let operand = value(alloc, ty, 6)?;
-    let word = token(TokenKind::Primitive(Prim::I8), 1);
-    convert(alloc, &objects(alloc), &word, operand)
+    converted(alloc, Prim::I8, ty)
 }
 
 /// `++` after a variable in parentheses.
@@ -93,6 +98,17 @@ fn group_counted_up(alloc: Global) -> Result<Operand, Stop> {
 fn constant_counted_down(alloc: Global) -> Result<Operand, Stop> {
     let constant = variable(alloc, I8, 2, true)?;
     postfix(alloc, constant, TokenKind::Decrement)
+}
+
+/// `++` in front of a variable of this type.
+fn counted_up(alloc: Global, ty: ArgType) -> Result<Operand, Stop> {
+    let operand = variable(alloc, ty, 2, false)?;
+    prefix(
+        alloc,
+        &objects(alloc),
+        &token(TokenKind::Increment, 1),
+        operand,
+    )
 }
 
 /// A value of this type assigned to what is written in front of it.
@@ -126,6 +142,10 @@ const BOOL: ArgType = ArgType::Plain(Prim::Bool);
 const I8: ArgType = ArgType::Plain(Prim::I8);
 
 const I32: ArgType = ArgType::Plain(Prim::I32);
+
+const COLOR: ArgType = ArgType::Enumeration { number: 2 };
+
+const SIDE: ArgType = ArgType::Enumeration { number: 3 };
 
 const CELL: ArgType = ArgType::Object {
     number: 0,
@@ -320,7 +340,7 @@ fn objects_are_not_assigned_by_value(rt: HostRuntime) {
 }
 
 /// Two values and what comes of `c ? a : b`.
-const CHOICES: [(ArgType, ArgType, Typing); 8] = [
+const CHOICES: [(ArgType, ArgType, Typing); 12] = [
     (
         I32,
         ArgType::Plain(Prim::U32),
@@ -341,6 +361,10 @@ const CHOICES: [(ArgType, ArgType, Typing); 8] = [
         Err(Some((ErrorKind::BadConversion, 9))),
     ),
     (HANDLE, OTHER, Err(Some((ErrorKind::BadConversion, 9)))),
+    (COLOR, COLOR, Ok(COLOR)),
+    (COLOR, SIDE, Ok(I32)),
+    (I8, COLOR, Ok(I32)),
+    (COLOR, BOOL, Err(Some((ErrorKind::BadConversion, 9)))),
 ];
 
 #[test]
@@ -348,5 +372,94 @@ fn a_choice_has_the_type_of_both(rt: HostRuntime) {
     for (chosen_type, other, outcome) in CHOICES {
         let found = typing(chosen(rt.alloc(), chosen_type, other));
         assert!(rt; found == outcome, "{chosen_type:?} : {other:?}");
+    }
+}
+
+/// Two operands of which one is of an enumeration, the operator between them, and what comes of it.
+const OF_ENUMERATIONS: [(ArgType, TokenKind, ArgType, Typing); 8] = [
+    (COLOR, TokenKind::Plus, COLOR, Ok(I32)),
+    (COLOR, TokenKind::ShiftLeft, I8, Ok(I32)),
+    (COLOR, TokenKind::Equal, SIDE, Ok(BOOL)),
+    (I8, TokenKind::Less, COLOR, Ok(BOOL)),
+    (
+        COLOR,
+        TokenKind::Equal,
+        BOOL,
+        Err(Some((ErrorKind::BadConversion, 5))),
+    ),
+    (
+        COLOR,
+        TokenKind::And,
+        BOOL,
+        Err(Some((ErrorKind::NotBool, 1))),
+    ),
+    (
+        COLOR,
+        TokenKind::Is,
+        COLOR,
+        Err(Some((ErrorKind::BadConversion, 1))),
+    ),
+    (
+        ArgType::Null,
+        TokenKind::Is,
+        COLOR,
+        Err(Some((ErrorKind::BadConversion, 5))),
+    ),
+];
+
+#[test]
+fn an_enumeration_is_worked_with_as_an_int(rt: HostRuntime) {
+    for (left, operator, right, outcome) in OF_ENUMERATIONS {
+        let found = typing(between(rt.alloc(), left, operator, right));
+        assert!(rt; found == outcome, "{left:?} {operator:?} {right:?}");
+    }
+}
+
+#[test]
+fn one_enumeration_becomes_an_int_and_is_not_counted(rt: HostRuntime) {
+    let alloc = rt.alloc();
+    let minus = typing(in_front(alloc, TokenKind::Minus, COLOR));
+    assert!(rt; minus == Ok(I32));
+    let handle = typing(in_front(alloc, TokenKind::At, COLOR));
+    assert!(rt; handle == Err(Some((ErrorKind::BadConversion, 2))));
+    assert!(rt; typing(narrowed(alloc, COLOR)) == Ok(I8));
+    let truth = typing(converted(alloc, Prim::Bool, COLOR));
+    assert!(rt; truth == Err(Some((ErrorKind::BadConversion, 6))));
+    let counted = typing(counted_up(alloc, COLOR));
+    assert!(rt; counted == Err(Some((ErrorKind::BadConversion, 2))));
+}
+
+/// A variable's type, the sign of an assignment, a value's type, and what comes of them.
+const STORED: [(ArgType, TokenKind, ArgType, Typing); 6] = [
+    (COLOR, TokenKind::Assign, COLOR, Ok(COLOR)),
+    (I32, TokenKind::Assign, COLOR, Ok(I32)),
+    (I8, TokenKind::PlusAssign, COLOR, Ok(I8)),
+    (
+        COLOR,
+        TokenKind::Assign,
+        I32,
+        Err(Some((ErrorKind::BadConversion, 6))),
+    ),
+    (
+        COLOR,
+        TokenKind::Assign,
+        SIDE,
+        Err(Some((ErrorKind::BadConversion, 6))),
+    ),
+    (
+        COLOR,
+        TokenKind::PlusAssign,
+        I32,
+        Err(Some((ErrorKind::BadConversion, 1))),
+    ),
+];
+
+#[test]
+fn a_value_of_an_enumeration_is_put_in_its_variables(rt: HostRuntime) {
+    let alloc = rt.alloc();
+    for (ty, operator, value, outcome) in STORED {
+        let written = variable(alloc, ty, 1, false);
+        let found = typing(stored(alloc, written, operator, value));
+        assert!(rt; found == outcome, "{ty:?} {operator:?} {value:?}");
     }
 }

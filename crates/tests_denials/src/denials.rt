@@ -22,6 +22,30 @@ enum Host {
     Counter,
     /// A type, and a method of it under one mask, `const` under another one.
     Cell,
+    /// An enumeration with two values, and a function that takes it.
+    Color,
+    /// Two enumerations with a value of one name, and a global property of that name under another mask.
+    Values,
+}
+
+/// The enumeration `Color`: `RED` is 1, and `BLUE` -2.
+fn register_color(registry: &mut Registry) -> Result<(), RegError> {
+    registry.enum_(b"Color")?;
+    registry.enum_value(b"Color", b"RED", 1)?;
+    registry.enum_value(b"Color", b"BLUE", -2)?;
+    registry.function(0, 0, b"void paint(Color)")?;
+    Ok(())
+}
+
+fn register_values(registry: &mut Registry) -> Result<(), RegError> {
+    registry.set_default_mask(Mask(3));
+    registry.enum_(b"Near")?;
+    registry.enum_value(b"Near", b"NONE", 0)?;
+    registry.enum_(b"Far")?;
+    registry.enum_value(b"Far", b"NONE", 0)?;
+    registry.set_default_mask(Mask(1));
+    registry.global_property(0, 0, b"int NONE")?;
+    Ok(())
 }
 
 fn register(registry: &mut Registry, host: Host) -> Result<(), RegError> {
@@ -50,6 +74,8 @@ fn register(registry: &mut Registry, host: Host) -> Result<(), RegError> {
             registry.set_default_mask(Mask(1));
             registry.method(b"Cell", 0, b"int get() const")?;
         }
+        Host::Color => register_color(registry)?,
+        Host::Values => register_values(registry)?,
     }
     Ok(())
 }
@@ -120,7 +146,7 @@ fn has_rows(alloc: Global, host: Host, mask: u32, text: &str, wanted: &[Row]) ->
     }
 }
 
-const DENIED: [(Host, u32, &str, &[Row]); 7] = [
+const DENIED: [(Host, u32, &str, &[Row]); 12] = [
     (
         Host::Print,
         2,
@@ -158,6 +184,21 @@ const DENIED: [(Host, u32, &str, &[Row]); 7] = [
         "void m(const Cell@ c) { c.get(); }",
         &[(27, 2, 1, 2)],
     ),
+    (
+        Host::Color,
+        2,
+        "int m(){ return RED; }",
+        &[(17, 0, 1, 2), (17, 1, 1, 2)],
+    ),
+    (
+        Host::Color,
+        2,
+        "int m(){ return Color::RED; }",
+        &[(17, 0, 1, 2)],
+    ),
+    (Host::Color, 2, "void m(){ Color c; }", &[(11, 0, 1, 2)]),
+    (Host::Color, 2, "void m(){ Color(9); }", &[(11, 0, 1, 2)]),
+    (Host::Values, 2, "int m(){ return NONE; }", &[(17, 4, 1, 2)]),
 ];
 
 #[test]
@@ -167,11 +208,14 @@ fn hidden_entries_that_would_resolve_a_use_are_told(rt: HostRuntime) {
     }
 }
 
-/// Names that stay the script's, and a name that nothing has.
-const OWN: [(Host, u32, &str); 3] = [
+/// Names that stay the script's, a name that nothing has, and arguments that what is hidden does not take.
+const OWN: [(Host, u32, &str); 6] = [
     (Host::Print, 2, "void main(){ int print = 1; print(2); }"),
     (Host::Log, 2, "int log; void main(){ log(1); }"),
     (Host::Log, 2, "void main(){ lag(1); }"),
+    (Host::Color, 2, "void RED(){} int m(){ return RED; }"),
+    (Host::Color, 2, "void m(){ Color(true); }"),
+    (Host::Color, 2, "void m(){ paint(1); }"),
 ];
 
 #[test]

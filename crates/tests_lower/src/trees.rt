@@ -107,10 +107,9 @@ fn loops_and_their_steps(rt: HostRuntime) -> Result<(), AllocError> {
     Ok(())
 }
 
-/// `f(a, g)` of a local a and a global g of the type `int8`, both for `&out` parameters of the type `int`
-fn called(alloc: Global) -> Tree {
-    let small = ArgType::Plain(Prim::I8);
-    let arguments = two_out(alloc, Variable::Local(0), Variable::Global(4), small);
+/// `f(a, g)` of a local a and a global g of the type `to`, both for `&out` parameters of the type `int`
+fn called(alloc: Global, to: ArgType) -> Tree {
+    let arguments = two_out(alloc, Variable::Local(0), Variable::Global(4), to);
     call(alloc, Callee::Own(0), arguments)
 }
 
@@ -132,10 +131,10 @@ fn asked(alloc: Global) -> Tree {
 }
 
 /// `int f() { int a, b; return f(a, g) + put(1); }`, where both parameters of f are `&out`, the second one
-/// for an `int8` global 4, and `put` is entity 17.
-fn calling(alloc: Global) -> Result<Typed, AllocError> {
+/// for a global 4 of the type `to`, and `put` is entity 17.
+fn calling(alloc: Global, to: ArgType) -> Result<Typed, AllocError> {
     let rows = only(alloc, two_locals(alloc));
-    let sum = operate(alloc, Operator::Add, called(alloc), asked(alloc));
+    let sum = operate(alloc, Operator::Add, called(alloc, to), asked(alloc));
     let rows = then(rows, give_back(alloc, sum));
     module_of(alloc, &[], rows)
 }
@@ -146,7 +145,20 @@ const CALLING: &str = "[] { declare 0; declare 0; return (Work(Add, I32)) (Own(0
 
 #[test]
 fn the_last_target_comes_first(rt: HostRuntime) -> Result<(), AllocError> {
-    let wrong = first_wrong(rt.alloc(), calling(rt.alloc())?, &[CALLING])?;
+    let module = calling(rt.alloc(), ArgType::Plain(Prim::I8))?;
+    let wrong = first_wrong(rt.alloc(), module, &[CALLING])?;
+    assert_eq!(rt; wrong, None);
+    Ok(())
+}
+
+const CALLING_FOR_ENUMERATION: &str = "[] { declare 0; declare 0; return (Work(Add, I32)) (Own(0) [\
+    Target { spot: Global(4), to: Some(I32) }, Target { spot: Local(1), to: Some(I32) }]) 0 0 \
+    (Ask(EntityNo(17))) 1; }";
+
+#[test]
+fn a_variable_of_an_enumeration_takes_an_int(rt: HostRuntime) -> Result<(), AllocError> {
+    let module = calling(rt.alloc(), ArgType::Enumeration { number: 3 })?;
+    let wrong = first_wrong(rt.alloc(), module, &[CALLING_FOR_ENUMERATION])?;
     assert_eq!(rt; wrong, None);
     Ok(())
 }

@@ -15,6 +15,12 @@ fn handle(alloc: Global) -> TypeRef {
     }
 }
 
+fn enumeration(alloc: Global) -> TypeRef {
+    TypeRef::Enumeration {
+        name: List::from_vec(Vec::new(alloc)),
+    }
+}
+
 fn param(alloc: Global, ty: TypeRef) -> Param {
     Param {
         ty,
@@ -24,16 +30,17 @@ fn param(alloc: Global, ty: TypeRef) -> Param {
     }
 }
 
-/// An `int64` and a handle.
+/// An `int64`, a handle and an enumeration.
 fn params(alloc: Global) -> Result<Vec<Param>, AllocError> {
-    let mut params = Vec::with_capacity(alloc, 2)?;
+    let mut params = Vec::with_capacity(alloc, 3)?;
     params.push(param(alloc, TypeRef::Plain(Prim::I64)))?;
     params.push(param(alloc, handle(alloc)))?;
+    params.push(param(alloc, enumeration(alloc)))?;
     Ok(params)
 }
 
-/// A `const` entry of driver 3 with the driver's number 7, that takes an `int64` and a handle and gives a
-/// `bool`.
+/// A `const` entry of driver 3 with the driver's number 7, that takes an `int64`, a handle and an enumeration and
+/// gives a `bool`.
 fn entry(alloc: Global, kind: EntryKind) -> Result<Entry, AllocError> {
     let params = params(alloc)?;
     Ok(Entry {
@@ -84,7 +91,11 @@ fn each_kind_has_its_role(rt: HostRuntime) -> Result<(), AllocError> {
 /// Whether the parameters of a function, and its result, pass as they have to.
 fn passes(alloc: Global) -> Result<(bool, bool), AllocError> {
     let found = used(alloc, EntryKind::Function)?;
-    let params = [HostType::Plain(Prim::I64), HostType::Handle];
+    let params = [
+        HostType::Plain(Prim::I64),
+        HostType::Handle,
+        HostType::Plain(Prim::I32),
+    ];
     Ok((
         found.params.as_slice() == params.as_slice(),
         found.result == HostType::Plain(Prim::Bool),

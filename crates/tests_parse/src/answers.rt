@@ -47,7 +47,7 @@ fn is_fault(fault: &ParseError, want: Want<'_>) -> bool {
 }
 
 /// A text, and the line, the column and the text of the token that no script can have there.
-const FAULTS: [(&str, u32, u32, &str); 14] = [
+const FAULTS: [(&str, u32, u32, &str); 16] = [
     ("void m() { return }", 1, 19, "}"),
     ("int f(", 1, 7, ""),
     ("int", 1, 4, ""),
@@ -65,6 +65,9 @@ const FAULTS: [(&str, u32, u32, &str); 14] = [
     ("A x(int b);", 1, 11, ";"),
     // no parameters go on at the number, and no arguments at `)`
     ("A x(B, 1 + ) {", 1, 12, ")"),
+    // a name stands after `::`, and no second `::` after that name
+    ("int a = E::;", 1, 12, ";"),
+    ("int a = E::V::W;", 1, 13, "::"),
 ];
 
 #[test]

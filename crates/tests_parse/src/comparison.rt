@@ -234,7 +234,7 @@ fn first_wrong(alloc: Global, script: &str) -> Result<Option<Wrong>, AllocError>
 
 /// What a script is made of, and its words. What stands in parentheses may be parameters or arguments; the token after
 /// them tells which.
-const SCRIPTS: [(&str, &str); 13] = [
+const SCRIPTS: [(&str, &str); 14] = [
     (
         "functions and globals",
         "const int a = 1 , b ( 2 , c ) , d ; ; void g ( void ) { } A @ const h ;",
@@ -271,6 +271,7 @@ const SCRIPTS: [(&str, &str); 13] = [
         "operands",
         "void e ( ) { z = cast < T @ > ( p . q ( 1 ) . r ++ ) ; int ( 3 ) ; A :: f ( null , this ) ; ( a ) . b ( ) ; }",
     ),
+    ("values", "int a = E :: V + 1 ;"),
     (
         "operators",
         "bool k = a * b / c % d + e - f << g >> h >>> i & j ^ k | l < m <= n > o >= p == q != r is s !is t ;",

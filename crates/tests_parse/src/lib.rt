@@ -8,8 +8,6 @@ mod answers;
 #[cfg(test)]
 mod comparison;
 #[cfg(test)]
-mod readers;
-#[cfg(test)]
 mod recognizer;
 #[cfg(test)]
 mod trees;

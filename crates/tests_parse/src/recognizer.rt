@@ -162,6 +162,7 @@ Primary null
 Primary this
 Primary NAME
 Primary NAME Arguments
+Primary NAME :: NAME
 Primary NAME :: NAME Arguments
 Primary cast < Type > ( Assign )
 Primary PRIM ( Assign )

@@ -24,6 +24,8 @@ enum Sort {
 enum Kind {
     Literal,
     Name,
+    ScopedCall,
+    ScopedName,
     Member,
     Prefix,
     Binary(TokenKind),
@@ -109,6 +111,8 @@ fn kind_of(tree: &Expression) -> Kind {
     match tree {
         Expression::Literal(_) => Kind::Literal,
         Expression::Name(_) => Kind::Name,
+        Expression::ScopedCall { .. } => Kind::ScopedCall,
+        Expression::ScopedName { .. } => Kind::ScopedName,
         Expression::Member { .. } => Kind::Member,
         Expression::Prefix { .. } => Kind::Prefix,
         Expression::Binary { operator, .. } => Kind::Binary(operator.kind),
@@ -331,7 +335,7 @@ const BLOCK: &str = "A@ f(B, int &out c) { return c; } class D {}";
 const BASES: &str = "class A : B, C {} class D {}";
 
 /// A script, and what it has to have.
-const SCRIPTS: [(&str, Fact); 16] = [
+const SCRIPTS: [(&str, Fact); 19] = [
     (
         ALL_SORTS,
         Fact::Declarations(&[
@@ -370,6 +374,23 @@ const SCRIPTS: [(&str, Fact); 16] = [
     (
         "int v = -a.b;",
         Fact::Value(Kind::Prefix, Kind::Member, Kind::Member),
+    ),
+    // two names with `::` between them are a value, and with a parenthesis behind them a call
+    (
+        "int v = E::V;",
+        Fact::Value(Kind::ScopedName, Kind::Another, Kind::Another),
+    ),
+    (
+        "int v = E::V + 1;",
+        Fact::Value(
+            Kind::Binary(TokenKind::Plus),
+            Kind::ScopedName,
+            Kind::Literal,
+        ),
+    ),
+    (
+        "int v = E::V(1);",
+        Fact::Value(Kind::ScopedCall, Kind::Another, Kind::Another),
     ),
     // `void` alone is no parameters
     ("void f() {}", Fact::Parameters(false, &[])),

@@ -46,6 +46,11 @@ const CELL: Want = Want::Object("Cell", Shape::AutoHandle, false);
 
 const CONST_CELL: Want = Want::Object("Cell", Shape::AutoHandle, true);
 
+/// A bare name, which the registry makes an enumeration where one has it.
+const COLOR: Want = Want::Object("Color", Shape::ByValue, false);
+
+const CONST_COLOR: Want = Want::Object("Color", Shape::ByValue, true);
+
 const MADE_CELL: Want = Want::Object("Cell", Shape::Handle, false);
 
 const MADE_COUNTER: Want = Want::Object("Counter", Shape::Handle, false);
@@ -62,7 +67,7 @@ type Worked = (
 );
 
 /// Those of a profile with two types, and others that have what these lack.
-static WORKED: [Worked; 18] = [
+static WORKED: [Worked; 25] = [
     (
         Parser::Factory,
         "Counter@ f()",
@@ -172,10 +177,52 @@ static WORKED: [Worked; 18] = [
         &[(INT, "count"), (CONST_CELL, "other")],
         false,
     ),
+    (
+        Parser::Function,
+        "void paint(Color)",
+        "paint",
+        Want::Void,
+        &[(COLOR, "")],
+        false,
+    ),
+    (
+        Parser::Function,
+        "Color mixed(Color a, int)",
+        "mixed",
+        COLOR,
+        &[(COLOR, "a"), (INT, "")],
+        false,
+    ),
+    (
+        Parser::Factory,
+        "Cell@ f(Color)",
+        "f",
+        MADE_CELL,
+        &[(COLOR, "")],
+        false,
+    ),
+    (
+        Parser::Method,
+        "Color color() const",
+        "color",
+        COLOR,
+        &[],
+        true,
+    ),
+    (Parser::Property, "Color tint", "tint", COLOR, &[], false),
+    (
+        Parser::Property,
+        "const Color base",
+        "base",
+        CONST_COLOR,
+        &[],
+        true,
+    ),
+    (Parser::Type, "Color", "", COLOR, &[], false),
 ];
 
 /// Texts that are of no form, or of one that is left out.
-static REFUSED: [(Parser, &str, DeclError); 26] = [
+static REFUSED: [(Parser, &str, DeclError); 25] = [
     (Parser::Function, "", DeclError::Syntax),
     (Parser::Function, "void f(int,)", DeclError::Syntax),
     (Parser::Function, "void f(int a = 1)", DeclError::Syntax),
@@ -195,7 +242,16 @@ static REFUSED: [(Parser, &str, DeclError); 26] = [
         DeclError::Unsupported,
     ),
     (Parser::Function, "void f(int &)", DeclError::Unsupported),
-    (Parser::Function, "void f(Cell)", DeclError::Unsupported),
+    (
+        Parser::Function,
+        "void f(Color &in)",
+        DeclError::Unsupported,
+    ),
+    (
+        Parser::Function,
+        "void f(const Color)",
+        DeclError::Unsupported,
+    ),
     (Parser::Function, "void f(Cell@)", DeclError::Unsupported),
     (
         Parser::Function,
@@ -207,16 +263,14 @@ static REFUSED: [(Parser, &str, DeclError); 26] = [
         "void f(int, void)",
         DeclError::Unsupported,
     ),
-    (Parser::Function, "Cell f()", DeclError::Unsupported),
+    (Parser::Function, "const Color f()", DeclError::Unsupported),
     (Parser::Function, "Cell@ f()", DeclError::Unsupported),
     (
         Parser::Method,
         "void f(Cell@+ const) const",
         DeclError::Unsupported,
     ),
-    (Parser::Factory, "Cell@ f(Cell)", DeclError::Unsupported),
     (Parser::Property, "Cell@+ next", DeclError::Unsupported),
-    (Parser::Type, "Cell", DeclError::Unsupported),
     (Parser::Type, "int@", DeclError::Unsupported),
 ];
 

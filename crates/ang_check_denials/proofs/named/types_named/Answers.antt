@@ -3,7 +3,7 @@ use Rattle.std.proofs.Common.{◌≤◌, length, List, rules, ap, ◌∙◌}
 use Rattle.std.proofs.lemmas.List.{take_all}
 use Rattle.ang_kinds.specs.declared.mask.EntityNo.{EntityNo}
 use Rattle.ang_view.specs.Registration.{entry_at}
-use Rattle.ang_view.specs.Types.{is_type_named}
+use Rattle.ang_check_denials.specs.Names.{is_a_type_named}
 use Rattle.ang_check_denials.proofs.Types.{types_are}
 use Rattle.ang_check_denials.proofs.named.types_named.Goals as goal
 
@@ -16,6 +16,6 @@ returns c =
     record {
       exact =
           c.loop-number.invariant
-          ∙ ap (λ (es : List EntityNo). filter (λ k. is_type_named name (entry_at V k)) (map (λ (e : EntityNo). e.0) es)) (take_all c.loop-number.number-index found end)
+          ∙ ap (λ (es : List EntityNo). filter (λ k. is_a_type_named name (entry_at V k)) (map (λ (e : EntityNo). e.0) es)) (take_all c.loop-number.number-index found end)
           ∙ types_are V name found c.find-found.ensures.exact;
     }

@@ -1,24 +1,26 @@
 use Rattle.std.proofs.Common.{inl, inr, rules, tests, ◌≡◌, true, Option, sym, ap, ◌∙◌}
 use Rattle.std.proofs.lemmas.Iterator.{YieldsList-from_slice}
 use Rattle.std.proofs.lemmas.Iterator.Search.{all_from_yields_List}
-use Rattle.ang_kinds.specs.declared.types.TypeRef.TheVariants.{Object}
 use Rattle.ang_view.specs.declared.entry.Entry.{Entry}
 use Rattle.ang_view.specs.Named.{find, has_name}
 use Rattle.ang_view.specs.Registration.{entry_at}
 use Rattle.ang_view.specs.SeenTypes.{is_spelled_type, meets_if_spelled}
-use Rattle.ang_view.proofs.SeenTypes.{found_met, has_its_name, plain_met, void_met}
+use Rattle.ang_view.proofs.SeenTypes.{enumeration_has_its_name, found_met, has_its_name, plain_met, void_met}
 use Rattle.ang_view.proofs.view.sees_type.Goals as goal
 
-pub returns-in-Object : goal.returns-in-Object
-returns-in-Object c =
+pub returns-in-Enumeration : goal.returns-in-Enumeration
+returns-in-Enumeration c =
     let list = c.args.list.now in
     let mask = c.args.mask.0 in
     let ty = c.args.ty.now in
-    let name = c.in-Object.name in
+    let name = c.in-Enumeration.name in
     let numbers = c.find.result.now in
-    let is : ty ≡ Object name c.in-Object.shape c.in-Object.const_object c.in-Object.const_handle = c.in-Object.is in
     let wide : (o : Option Entry) → is_spelled_type ty o ≡ true → has_name name o ≡ true =
-    λ o e. has_its_name name c.in-Object.shape c.in-Object.const_object c.in-Object.const_handle o (ap (λ t. is_spelled_type t o) (sym is) ∙ e) in
+    λ o e.
+    elim c.in-Enumeration.is [
+      | inl is ↦ enumeration_has_its_name name o (ap (λ t. is_spelled_type t o) (sym is) ∙ e)
+      | inr is ↦ has_its_name name is.0 is.1 is.2 o (ap (λ t. is_spelled_type t o) (sym is.3) ∙ e)
+    ] in
     record {
       exact =
           all_from_yields_List (λ e. meets_if_spelled mask ty (entry_at list e.0)) _ _ _ c.all.ensures.ran (YieldsList-from_slice numbers cc) (λ x b q k. search (rules, tests))

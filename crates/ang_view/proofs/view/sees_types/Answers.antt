@@ -4,14 +4,14 @@ use Rattle.ang_view.specs.SeenTypes.{meets_owner, meets_signature}
 use Rattle.ang_view.proofs.SeenTypes.{named_none, own_type_met, own_type_unmet, types_met}
 use Rattle.ang_view.proofs.view.sees_types.Goals as goal
 
-pub returns-then-is_host_type : goal.returns-then-is_host_type
-returns-then-is_host_type c =
+pub returns-then-is_type : goal.returns-then-is_type
+returns-then-is_type c =
     let list = c.args.list.now in
     let mask = c.args.mask.0 in
     let x = c.args.entry.now in
-    let names_none : is_type x.kind ≡ true = sym c.is_host_type.ensures.exact ∙ c.if-is_host_type.true in
+    let names_none : is_type x.kind ≡ true = sym c.is_type.ensures.exact ∙ c.if-is_type.true in
     record {
-      exact = c.is_host_type.ensures.exact ∙ named_none (is_type x.kind) (meets_owner list mask x.owner && meets_signature list mask x.signature) names_none ∙ types_met list mask x;
+      exact = c.is_type.ensures.exact ∙ named_none (is_type x.kind) (meets_owner list mask x.owner && meets_signature list mask x.signature) names_none ∙ types_met list mask x;
     }
 
 pub returns-then-sees_owner : goal.returns-then-sees_owner
@@ -19,7 +19,7 @@ returns-then-sees_owner c =
     let list = c.args.list.now in
     let mask = c.args.mask.0 in
     let x = c.args.entry.now in
-    let names : is_type x.kind ≡ false = sym c.is_host_type.ensures.exact ∙ c.if-is_host_type.false in
+    let names : is_type x.kind ≡ false = sym c.is_type.ensures.exact ∙ c.if-is_type.false in
     let met : meets_owner list mask x.owner ≡ true = sym c.sees_owner.ensures.exact ∙ c.if-sees_owner.true in
     record {
       exact =
@@ -32,7 +32,7 @@ returns-else-sees_owner c =
     let list = c.args.list.now in
     let mask = c.args.mask.0 in
     let x = c.args.entry.now in
-    let names : is_type x.kind ≡ false = sym c.is_host_type.ensures.exact ∙ c.if-is_host_type.false in
+    let names : is_type x.kind ≡ false = sym c.is_type.ensures.exact ∙ c.if-is_type.false in
     let unmet : meets_owner list mask x.owner ≡ false = sym c.sees_owner.ensures.exact ∙ c.if-sees_owner.false in
     record {
       exact =

@@ -1,5 +1,5 @@
 use Rattle.std.proofs.Common.{refl}
-use Rattle.asrun_session.proofs.Telling.{tells, tells_untaken}
+use Rattle.asrun_session.proofs.Telling.{tells, tells_untaken, unwritten_untaken}
 use Rattle.asrun_session.proofs.whole.session.Goals as goal
 
 pub returns-clause-output : goal.returns-clause-output
@@ -11,3 +11,7 @@ pub returns-in-Err-clause-output : goal.returns-in-Err-clause-output
 returns-in-Err-clause-output g c =
     rw c.outcome_of.ensures.exact (tells_untaken (λ v. (g.dyn-1.0.entry v).1) c.args.drivers.items _ (g.P.Read.remaining c.args.profile.now)
     (g.S.Read.remaining c.args.session.now) c.args.budget _ _ c.in-Err.stop refl c.in-Err.ensures.cut c.in-Err.ensures.fault)
+
+pub returns-in-Err-clause-session_read : goal.returns-in-Err-clause-session_read
+returns-in-Err-clause-session_read g c =
+    rw c.outcome_of.ensures.exact (unwritten_untaken _ _ (g.P.Read.remaining c.args.profile.now) c.in-Err.stop c.in-Err.ensures.refused)

@@ -1,8 +1,9 @@
-use Rattle.std.proofs.Common.{◌≡◌, None, rules, ap}
+use Rattle.std.proofs.Common.{◌≡◌, true, false, None, rules, ap}
 use Rattle.std.proofs.lemmas.Result.{err_from_is_err_and}
 use Rattle.ang_registry.specs.Registrations.{Registrations}
+use Rattle.ang_registry.specs.Types.{is_misused}
 use Rattle.ang_registry.specs.Refusals.{refusal_of_own, refusal_of_entry}
-use Rattle.ang_registry.proofs.Tables.{AreHeld, HasRoom, refusal_of_own-early, refusal_of_own-bad, refusal_of_own-entry}
+use Rattle.ang_registry.proofs.Tables.{AreHeld, HasRoom, refusal_of_own-early, refusal_of_own-bad, refusal_of_own-misused, refusal_of_own-entry}
 use Rattle.ang_registry.proofs.registry.Registry.add_own.Goals as goal
 
 pub returns-in_err-check_room-clause-first_refusal :
@@ -27,6 +28,17 @@ returns-in_default-clause-first_refusal c =
     let none : a.declared ≡ None = first_of (cc, search rules) in
     λ _. refusal_of_own-bad a.kind a.self.now a.driver a.declared _ _ held room none
 
+pub returns-then-is_misused-clause-first_refusal : goal.returns-then-is_misused-clause-first_refusal
+returns-then-is_misused-clause-first_refusal c =
+    let a = c.args in
+    let held : AreHeld c.self.inside.list c.self.inside.default_mask a.self.now = record {
+      same_entries = ap (λ (r : Registrations). r.entries) c.self.view_is;
+      same_mask = ap (λ (r : Registrations). r.default_mask) c.self.view_is;
+    } in
+    let room : HasRoom c.self.inside.list c.self.inside.default_mask a.declared = record { within_limit = c.in_ok-check_room.ensures.limit; has_mask = c.in_ok-check_room.ensures.mask } in
+    let misused : is_misused c.self.inside.list c.in-Some.signature ≡ true = first_of (cc, search rules) in
+    λ _. refusal_of_own-misused a.kind a.self.now a.driver a.declared c.in-Some.signature _ _ held room c.in-Some.is misused
+
 pub returns-clause-accepted : goal.returns-clause-accepted
 returns-clause-accepted c =
     let a = c.args in
@@ -35,7 +47,8 @@ returns-clause-accepted c =
       same_mask = ap (λ (r : Registrations). r.default_mask) c.self.view_is;
     } in
     let room : HasRoom c.self.inside.list c.self.inside.default_mask a.declared = record { within_limit = c.in_ok-check_room.ensures.limit; has_mask = c.in_ok-check_room.ensures.mask } in
-    let same : refusal_of_own a.kind a.self.now a.driver a.declared ≡ refusal_of_entry a.self.now.entries a.kind None a.driver c.in-Some.signature = refusal_of_own-entry a.kind a.self.now a.driver a.declared c.in-Some.signature _ _ held room c.in-Some.is in
+    let used : is_misused c.self.inside.list c.in-Some.signature ≡ false = first_of (cc, search rules) in
+    let same : refusal_of_own a.kind a.self.now a.driver a.declared ≡ refusal_of_entry a.self.now.entries a.kind None a.driver c.in-Some.signature = refusal_of_own-entry a.kind a.self.now a.driver a.declared c.in-Some.signature _ _ held room c.in-Some.is used in
     rw same c.add.ensures.accepted
 
 pub returns-clause-first_refusal : goal.returns-clause-first_refusal
@@ -46,5 +59,6 @@ returns-clause-first_refusal c =
       same_mask = ap (λ (r : Registrations). r.default_mask) c.self.view_is;
     } in
     let room : HasRoom c.self.inside.list c.self.inside.default_mask a.declared = record { within_limit = c.in_ok-check_room.ensures.limit; has_mask = c.in_ok-check_room.ensures.mask } in
-    let same : refusal_of_own a.kind a.self.now a.driver a.declared ≡ refusal_of_entry a.self.now.entries a.kind None a.driver c.in-Some.signature = refusal_of_own-entry a.kind a.self.now a.driver a.declared c.in-Some.signature _ _ held room c.in-Some.is in
+    let used : is_misused c.self.inside.list c.in-Some.signature ≡ false = first_of (cc, search rules) in
+    let same : refusal_of_own a.kind a.self.now a.driver a.declared ≡ refusal_of_entry a.self.now.entries a.kind None a.driver c.in-Some.signature = refusal_of_own-entry a.kind a.self.now a.driver a.declared c.in-Some.signature _ _ held room c.in-Some.is used in
     rw same c.add.ensures.first_refusal

@@ -1,9 +1,0 @@
-use Rattle.std.specs.Prelude.{find}
-use Rattle.std.proofs.Common.{◌≡◌, drop}
-use Rattle.ang_check_denials.specs.Added.{is_shown}
-use Rattle.ang_check_denials.proofs.named.first_shown.Given as goal
-
-abbrev pub invariant-loop-number : goal.invariant-loop-number
-invariant-loop-number l =
-    find (is_shown l.masked.list l.view l.added) l.numbers
-    ≡ find (is_shown l.masked.list l.view l.added) (drop l.number-index l.numbers)
