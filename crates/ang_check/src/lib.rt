@@ -1,10 +1,8 @@
 //! The checker: a build's resolved tree or its errors, and the denials of a refused build.
 //!
-//! One body: of a function, a method or a constructor, or the initializer of a global: its resolved tree, or the first
-//! refusal in reading order (docs/LANGUAGE.md, "Statements").
-//!
-//! All bodies and initializers of a build, judged one by one: their resolved tree, and what is refused of them
-//! (docs/LANGUAGE.md, "Statements").
+//! The bodies of functions, methods and constructors and the initializers of globals are judged one by
+//! one: each gives its resolved tree, or its first refusal in reading order (docs/LANGUAGE.md,
+//! "Statements").
 #![tactic(auto)]
 
 mod checking;

@@ -1,10 +1,9 @@
-//! What an operator makes of typed operands: the type of the whole and its resolved tree, or why the operands
-//! can't stand there.
+//! Types an operator over typed operands: the type of the whole and its resolved tree, or why the
+//! operands can't stand there (docs/LANGUAGE.md, "Expressions").
 //!
-//! Each function here takes the operands of one operation, as they come from left to right, and answers the whole as an
-//! operand again, or the first refusal in the order of the text (docs/LANGUAGE.md, "Expressions"). No name is looked up here.
-//!
-//! An expression that was typed, what it is fit for, and why one is refused (docs/LANGUAGE.md, "Expressions").
+//! An operand is an expression that was typed, with what it is fit for. Each function takes the operands
+//! of one operation, as they come from left to right, and answers the whole as an operand again, or the
+//! first refusal in the order of the text. No name is looked up here.
 #![tactic(auto)]
 
 mod assignments;

@@ -1,7 +1,6 @@
-//! Where a path through a function ends, so that a function with a result is known to return one.
-//!
-//! The typing of statements: their resolved tree and the locals that are alive after them, or the
-//! first refusal in reading order (docs/LANGUAGE.md, "Statements").
+//! Types statements: their resolved tree and the locals that are alive after them, or the first refusal
+//! in reading order; and says where a path through a function ends, so that a function with a result is
+//! known to return one (docs/LANGUAGE.md, "Statements").
 #![tactic(auto)]
 
 mod frame;

@@ -1,12 +1,8 @@
-//! From the resolved tree to the machine's instructions: the code of a module's bodies does what the module
-//! means (docs/MEANING.md, "What a script means" and "Code").
+//! Generates the machine's instructions: the code of a module's bodies does what the module means
+//! (docs/MEANING.md, "What a script means" and "Code").
 //!
-//! `specs/` says what the code of a module is; `laws` says that it behaves as its source.
-//!
-//! The generator: from the core tree to the machine's instructions, which do what the tree does.
-//!
-//! `specs/` has the code of a body and what it means that code does what bodies do (docs/MEANING.md,
-//! "Code"); `laws` says that it does.
+//! `specs/` has the code of a body and of a module, and what it means that code does what bodies do;
+//! `laws` says that it does, and that a module's code behaves as its source.
 #![tactic(auto)]
 
 ghost use Rattle.std.specs.Prelude.{◌≡◌, IfOk, map as list_map};

@@ -1,14 +1,8 @@
-//! From the resolved tree to the core tree, which means the same (docs/MEANING.md, "What a script means"
-//! and "What a body does").
+//! Lowers the resolved tree to the core tree, which means the same (docs/MEANING.md, "What a script
+//! means" and "What a body does").
 //!
-//! `specs/` has the core tree of each construct; `laws` says that it means what the script means, and that
-//! it keeps what the generator wants of a body.
-//!
-//! From an expression of the resolved tree to that of the core tree, which means the same (docs/MEANING.md,
-//! "What a script means" and "What a body does").
-//!
-//! `specs/` has the core tree of each expression; that it means what the script means is a law of
-//! `ang_lower`, which stands above.
+//! `specs/` has the core tree of each construct; `laws` says that it means what the script means, and
+//! that it keeps what the generator wants of a body.
 #![tactic(auto)]
 
 mod bodies;

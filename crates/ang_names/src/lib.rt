@@ -1,11 +1,10 @@
-//! The names of a build: what scripts declare, over what their module sees of the host.
+//! Makes the names of a build: what scripts declare, over what their module sees of the host.
 //!
-//! `declare` goes over all declarations in phases, in the order of sections and text (docs/LANGUAGE.md, "Names of a build"); the
-//! first phase that refuses some gives the errors. Else it gives families, functions, imports and globals, with what their
-//! types mean.
-//!
-//! What is refused of classes and interfaces once their names have their meanings: those that stand above themselves or
-//! reach themselves, and members that don't fit with what is inherited (docs/LANGUAGE.md, "Names of a build").
+//! `declare` goes over all declarations in phases, in the order of sections and text (docs/LANGUAGE.md,
+//! "Names of a build"); the first phase that refuses some gives the errors. Else it gives families,
+//! functions, imports and globals, with what their types mean. The last phase refuses classes and
+//! interfaces that stand above themselves or reach themselves, and members that don't fit with what is
+//! inherited.
 #![tactic(auto)]
 
 mod before;

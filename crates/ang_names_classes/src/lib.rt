@@ -1,8 +1,6 @@
-//! What the names of a build are made by: headings with what their types mean, methods by their signatures, and tables of what
-//! stands above each class or interface and of what it reaches (docs/LANGUAGE.md, "Names of a build").
-//!
-//! The names of declarations, with what their types mean: functions, imports, globals, and the classes and interfaces with
-//! what stands above each (docs/LANGUAGE.md, "Names of a build").
+//! Resolves the headings of declarations and tables the classes: what the types of functions, imports,
+//! globals and members mean, methods by their signatures, what stands above each class or interface, and
+//! what it reaches (docs/LANGUAGE.md, "Names of a build").
 #![tactic(auto)]
 
 mod counting;

@@ -1,10 +1,9 @@
-//! What names mean before any text is read: what a module sees of the host, by name and by type, and what its scripts
-//! declare.
+//! Looks names up: what a module sees of the host, by name and by type, what its scripts declare, and
+//! what a hidden entry would add.
 //!
-//! `Names` is what `ang_names` makes of the scripts: lists, which contracts see, and an index of them. All look-ups in it and in the
-//! view stand here, so that each of them has one contract (docs/LANGUAGE.md, "Names of a build").
-//!
-//! What a module sees of the host, by name and by type, and what a hidden entry would add to it.
+//! `Names` is what `ang_names` makes of the scripts: lists, which contracts see, and an index of them.
+//! All look-ups in it and in the view stand here, so that each of them has one contract
+//! (docs/LANGUAGE.md, "Names of a build").
 #![tactic(auto)]
 
 mod borrowed;

@@ -1,9 +1,7 @@
-//! The declarations of all scripts of a build as one list, with the members of classes and interfaces, and the names that
-//! are taken (docs/LANGUAGE.md, "Names of a build").
+//! Lists the declarations of all scripts of a build, with the members of classes and interfaces and the
+//! names that are taken, and says what a written type means (docs/LANGUAGE.md, "Names of a build").
 //!
-//! What is written in scripts: the text of a token, what a written type means where it stands, and how a
-//! parameter is spelled (docs/LANGUAGE.md, "Names of a build"). Nothing here looks from one
-//! declaration to another: that is `ang_names`.
+//! Nothing here looks from one declaration to another: that is `ang_names`.
 #![tactic(auto)]
 
 mod borrowed;

@@ -1,18 +1,8 @@
-//! Reading statements from the tokens of a script.
-//!
-//! Each reader is a function over slices that gives what the functional parser of `specs/` reads;
-//! `proofs/` shows that parser to be exact against the grammar of `ang_tree`.
-//!
-//! Reading variables, and what may stand where variables may, from the tokens of a script.
+//! Reads the statements, the variables and the parameters of a script from its tokens.
 //!
 //! Each reader is a function over slices that gives what the functional parser of `specs/` reads;
 //! `proofs/` shows that parser to be sound and complete against the grammar of `ang_tree`, and that it
 //! looks no further than the token at which it stops.
-//!
-//! Reading parameters from the tokens of a script.
-//!
-//! Each reader is a function over slices that gives what the functional parser of `specs/` reads;
-//! `proofs/` shows that parser to be exact against the grammar of `ang_tree`.
 #![tactic(auto)]
 
 mod build;

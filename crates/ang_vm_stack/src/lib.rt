@@ -1,17 +1,9 @@
-//! What the machine's instructions stand on: the slice that is the stack, where a run stands, why an
-//! instruction stops it, and the table of all modules' code.
+//! What the machine stands on: the slice that is the stack, where a run stands, why an instruction stops
+//! it, the table of all modules' code, and that code cut into steps.
 //!
-//! Steps: what stands at a place of a text, as far as it is done at once.
-//!
-//! A step names the instructions that stand at a place, such as a test of two locals and its jump; `sequence` in
-//! `specs/` says for each step which these are. Here is also which step an operator has with its operands, of what
-//! kinds steps are that are not done on the stack alone, and which types most numbers have. Steps are read off a text
-//! in `ang_vm_stack`, and done in `ang_vm_fused`.
-//!
-//! The steps of a text: what stands at each of its places, as far as it is done at once.
-//!
-//! What a step is stands in `ang_vm_stack`. Here steps are read off a text, as a body's code is loaded. Single
-//! instructions are done in `ang_vm_steps`, whole steps in `ang_vm_fused`.
+//! A step names the instructions that stand at a place and are done at once, such as a test of two locals
+//! and its jump; `sequence` in `specs/` says for each step which these are. Steps are read off a text as a
+//! body's code is loaded. Single instructions are done in `ang_vm_steps`, whole steps in `ang_vm_fused`.
 #![tactic(auto)]
 
 pub mod body;
