@@ -232,13 +232,15 @@ fn sign_code(sign: Sign) -> u8
     }
 }
 
-fn const_code(is_const: bool) -> u8
+/// The byte for whether `const` is written.
+pub fn const_code(is_const: bool) -> u8
     ensures exact { result ≡ spec.const_number is_const }
 {
     if is_const { 1 } else { 0 }
 }
 
-fn pass_code(pass: Pass) -> u8
+/// The byte of a way to pass an argument. No two of them share one.
+pub fn pass_code(pass: Pass) -> u8
     ensures exact { result ≡ pass_number pass }
 {
     match pass {

@@ -130,7 +130,8 @@ fn crossing(by_value: bool, ty: ArgType) -> Result<ArgType, ErrorKind>
     }
 }
 
-fn is_by_value(pass: Pass) -> bool
+/// Whether an argument passes by value.
+pub fn is_by_value(pass: Pass) -> bool
     ensures exact { result ≡ spec.is_by_value pass }
 {
     match pass {
