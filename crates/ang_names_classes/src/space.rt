@@ -3,8 +3,9 @@ ghost use Rattle.std.specs.Prelude.{◌≡◌, ◌≤◌, length, map as list_ma
 ghost use Rattle.ang_names_listed.specs.Declarations.{declaring_of, families_of, family_name};
 ghost use Rattle.ang_names_classes.specs.Resolved as spec;
 
+use ang_lex::text_of;
 use ang_names_known::{Space, Text};
-use ang_names_listed::{Declared, Part, text_at};
+use ang_names_listed::{Declared, Part};
 use ang_view::View;
 use std::alloc::{AllocError, Global};
 
@@ -13,7 +14,7 @@ fn family_name_of<'a>(declared: &Declared<'a>) -> Option<Text<'a>>
     ensures exact { result ≡ option_map family_name (declaring_of declared.now) }
 {
     match &declared.part {
-        Part::Family(_) => Some(Text::new(text_at(declared.text.bytes(), &declared.name))),
+        Part::Family(_) => Some(Text::new(text_of(declared.text.bytes(), &declared.name))),
         Part::Function(_, _) => None,
         Part::Import(_, _) => None,
         Part::Global(_) => None,
