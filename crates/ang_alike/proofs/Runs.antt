@@ -7,7 +7,7 @@ use Rattle.ang_typed.specs.Typed as t
 use Rattle.ang_meaning.specs.declared.slot.Slot.{Slot}
 use Rattle.ang_meaning.specs.declared.routine.Passing.{Passing}
 use Rattle.ang_meaning.specs.World.{World, give_all}
-use Rattle.ang_meaning.specs.Setting.{Setting}
+use Rattle.ang_meaning.specs.Environment.{Environment}
 use Rattle.ang_meaning.specs.Results.{Reply, Yields, Raises}
 use Rattle.ang_meaning.specs.Counting.{IsCounted}
 use Rattle.ang_meaning.specs.Alike.{Renaming, renamed, renamed_all}
@@ -36,7 +36,7 @@ tree_at (x ∷ xs) zero = refl
 tree_at (x ∷ xs) (suc m) = tree_at xs m
 
 module _ (ms : List Module) (are : AreSoundModules ms) (nesting : ℕ) where
-  abbrev z : Setting
+  abbrev z : Environment
   z = setting_for ms nesting
 
   has_program : (m : ℕ) → HasProgram z m (module_at ms m).tree
@@ -75,7 +75,7 @@ none_at [] k lt = absurd (let x : ⊥ = omega (arith, lt) in x)
 none_at (c ∷ cs) zero lt = refl
 none_at (c ∷ cs) (suc k) lt = none_at cs k (omega (arith, lt))
 
-take_none : (z : Setting) (m n : ℕ) (cs : List Code) → ((k : ℕ) → k < length cs → z.params (routine m (n + k)) ≡ Some []) → TakeNothing z (routines_from m n cs)
+take_none : (z : Environment) (m n : ℕ) (cs : List Code) → ((k : ℕ) → k < length cs → z.params (routine m (n + k)) ≡ Some []) → TakeNothing z (routines_from m n cs)
 take_none z m n [] h = tt
 take_none z m n (c ∷ cs) h =
     let first : n + 0 ≡ n = omega arith in (

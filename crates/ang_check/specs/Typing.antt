@@ -10,8 +10,8 @@ use Rattle.ang_tree.specs.Stmt.{Init, Body, Stmts}
 use Rattle.ang_tree.specs.Declarations.{SuperTree}
 use Rattle.ang_types.specs.declared.arg_type.ArgType.{ArgType}
 use Rattle.ang_types.specs.declared.arg_type.ArgType.TheVariants as type
-use Rattle.ang_typed.specs.declared.expression.Callee.TheVariants as callee
-use Rattle.ang_typed.specs.declared.program.Parameter.{Parameter}
+use Rattle.ang_typed.specs.declared.expression.TypedCallee.TheVariants as callee
+use Rattle.ang_typed.specs.declared.program.TypedParameter.{TypedParameter}
 use Rattle.ang_typed.specs.Typed as t
 use Rattle.ang_names_known.specs.declared.names.Default.{Default}
 use Rattle.ang_names_known.specs.declared.names.Default.TheVariants as default
@@ -45,17 +45,17 @@ use Rattle.ang_check_uses.specs.Uses.{best_of_those, makers_of, why}
 abbrev pub parameter_local : ScriptParameter → LocalVariable
 parameter_local p = record { name = p.name; ty = p.written.ty; read_only = is_read_only p.written }
 
-abbrev pub typed_parameter : ScriptParameter → Parameter
+abbrev pub typed_parameter : ScriptParameter → TypedParameter
 typed_parameter p = record { ty = p.written.ty; pass = p.pass }
 
-abbrev pub typed_parameters : ScriptFunction → List Parameter
+abbrev pub typed_parameters : ScriptFunction → List TypedParameter
 typed_parameters f = map typed_parameter f.params
 
 -- `this` has no name of its own, and is an object that can't be another one
 abbrev pub this_local : Within → LocalVariable
 this_local w = record { name = []; ty = own_type w; read_only = true }
 
-abbrev pub this_parameter : Within → Parameter
+abbrev pub this_parameter : Within → TypedParameter
 this_parameter w = record { ty = own_type w; pass = pass.RefInOut }
 
 -- ---- functions and methods
@@ -69,7 +69,7 @@ is_void (type.Object n c) = false
 is_void (type.Handle n c) = false
 
 -- Every path through a function with a result has to end.
-abbrev pub ending : ArgType → Token → Bool → List Parameter → t.Stmts → Typing t.Function
+abbrev pub ending : ArgType → Token → Bool → List TypedParameter → t.Stmts → Typing t.Function
 ending ty x ends ps ss = if ends || is_void ty then Ok (record { parameters = ps; result = ty; body = ss }) else Err (refused kind.NoReturn x)
 
 abbrev pub frame_of : BodyContext → ArgType → List LocalVariable → Frame

@@ -13,7 +13,7 @@ use Rattle.ang_types.specs.declared.asks.Asks.{Asks}
 use Rattle.ang_types.specs.Ranks.{Ancestors}
 use Rattle.ang_typed.specs.Typed as t
 use Rattle.ang_lex.specs.Text.{text_of}
-use Rattle.ang_check_operators.specs.declared.refusal.Refusal.{Refusal}
+use Rattle.ang_check_operators.specs.declared.refusal.TypingRefusal.{TypingRefusal}
 use Rattle.ang_check_operators.specs.Operands.{Operand, truth}
 use Rattle.ang_check_operators.specs.Refusals.{Typing, ◌>>=◌}
 use Rattle.ang_check_context.specs.declared.scope.LocalVariable.{LocalVariable}
@@ -33,13 +33,13 @@ use Rattle.ang_check_asked.proofs.Variables.{local_type_uses, initializer_uses}
 
 module _ (s : BodyContext) where
   -- the refusal of a use, wherever it stands in the body
-  abbrev pub IsBodyUse : Refusal → Type 0
+  abbrev pub IsBodyUse : TypingRefusal → Type 0
   IsBodyUse r = IfSome r.asks (λ (a : Asks). (ps : List LocalVariable) × IsRefusedUse s ps r a)
 
   abbrev pub BodyUses : {A : Type 0} → Typing A → Type 0
   BodyUses x = IfErr x IsBodyUse
 
-  wider : (ps : List LocalVariable) (r : Refusal) (o : Option Asks) → IfSome o (IsRefusedUse s ps r)
+  wider : (ps : List LocalVariable) (r : TypingRefusal) (o : Option Asks) → IfSome o (IsRefusedUse s ps r)
       → IfSome o (λ (a : Asks). (qs : List LocalVariable) × IsRefusedUse s qs r a)
   wider ps r None h = tt
   wider ps r (Some a) h = (ps, h)
@@ -49,7 +49,7 @@ module _ (s : BodyContext) where
   here ps (Err r) h = wider ps r r.asks h
 
   pub none_here : {A : Type 0} (x : Typing A) → Silent x → BodyUses x
-  none_here x h = unasked (λ (r : Refusal) (a : Asks). (ps : List LocalVariable) × IsRefusedUse s ps r a) x h
+  none_here x h = unasked (λ (r : TypingRefusal) (a : Asks). (ps : List LocalVariable) × IsRefusedUse s ps r a) x h
 
   pub then_here : {A B : Type 0} (x : Typing A) (f : A → Typing B) → BodyUses x → ((a : A) → BodyUses (f a)) → BodyUses (x >>= f)
   then_here x f h g = refused_in IsBodyUse x f h g

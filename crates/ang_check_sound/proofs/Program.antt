@@ -12,11 +12,11 @@ use Rattle.ang_tree.specs.Declarations.{SuperTree}
 use Rattle.ang_tree.specs.Stmt.{Init, Body, Stmts, Every}
 use Rattle.ang_types.specs.declared.arg_type.ArgType.{ArgType}
 use Rattle.ang_types.specs.declared.asks.Refused.{Refused}
-use Rattle.ang_typed.specs.declared.program.Parameter.{Parameter}
+use Rattle.ang_typed.specs.declared.program.TypedParameter.{TypedParameter}
 use Rattle.ang_typed.specs.Typed as t
-use Rattle.ang_names_known.specs.declared.names.Constructor.{Constructor}
+use Rattle.ang_names_known.specs.declared.names.ScriptConstructor.{ScriptConstructor}
 use Rattle.ang_names_known.specs.declared.names.Family.{Family}
-use Rattle.ang_names_known.specs.declared.names.Method.{Method}
+use Rattle.ang_names_known.specs.declared.names.ScriptMethod.{ScriptMethod}
 use Rattle.ang_names_known.specs.declared.names.Names.{Names}
 use Rattle.ang_names_known.specs.declared.names.ScriptFunction.{ScriptFunction}
 use Rattle.ang_names_known.specs.declared.names.ScriptGlobal.{ScriptGlobal}
@@ -148,13 +148,13 @@ module _ (V : RegistrationList) (names : Names) where
       (global_declared (context_in V names text None) h y init) clean r
 
   -- what a number of a family has
-  family_method : (c m : ℕ) (o : Option Family) (y : Method) → slice_get names.families c ≡ o
+  family_method : (c m : ℕ) (o : Option Family) (y : ScriptMethod) → slice_get names.families c ≡ o
       → option_and_then (λ (f : Family). slice_get f.methods m) o ≡ Some y
       → (f : Family) × (slice_get names.families c ≡ Some f) × (slice_get f.methods m ≡ Some y)
   family_method c m None y is e = cc
   family_method c m (Some f) y is e = (f, is, e)
 
-  family_constructor : (c m : ℕ) (o : Option Family) (y : Constructor) → slice_get names.families c ≡ o
+  family_constructor : (c m : ℕ) (o : Option Family) (y : ScriptConstructor) → slice_get names.families c ≡ o
       → option_and_then (λ (f : Family). slice_get f.constructors m) o ≡ Some y
       → (f : Family) × (slice_get names.families c ≡ Some f) × (slice_get f.constructors m ≡ Some y)
   family_constructor c m None y is e = cc
@@ -172,7 +172,7 @@ module _ (V : RegistrationList) (names : Names) where
       let there = family_constructor c m (slice_get names.families c) h.constructor refl h.there in
       constructor_numbered names (number_of V names j) c m there.0 h.constructor there.1 there.2 h.body
 
-  by_method : (total i g j c : ℕ) (text : List ℕ) (x : Token) (b : Body) (o : Option Method) (y : Method) (js : List Judgement) → o ≡ Some y
+  by_method : (total i g j c : ℕ) (text : List ℕ) (x : Token) (b : Body) (o : Option ScriptMethod) (y : ScriptMethod) (js : List Judgement) → o ≡ Some y
       → list_any (has_number (number_of V names j)) (bodies_of names) ≡ true → Clean (judged_method V names c text x b o ++ js)
       → Given total i g (j + 1) js → Given total i g j (judged_method V names c text x b o ++ js)
   by_method total i g j c text x b None y js e listed clean r = cc
@@ -180,7 +180,7 @@ module _ (V : RegistrationList) (names : Names) where
       let w = within_of V names c z.read_only in
       member_more total i g j text (method_body_typing (context_in V names text (Some w)) w z.function x b) js listed clean r
 
-  by_constructor : (total i g j c : ℕ) (text : List ℕ) (x base : Token) (bn : Option ℕ) (u : Option SuperTree) (ss : Stmts) (o : Option Constructor) (y : Constructor)
+  by_constructor : (total i g j c : ℕ) (text : List ℕ) (x base : Token) (bn : Option ℕ) (u : Option SuperTree) (ss : Stmts) (o : Option ScriptConstructor) (y : ScriptConstructor)
       (js : List Judgement) → o ≡ Some y → list_any (has_number (number_of V names j)) (bodies_of names) ≡ true
       → Clean (judged_constructor V names c text x base bn u ss o ++ js)
       → Given total i g (j + 1) js → Given total i g j (judged_constructor V names c text x base bn u ss o ++ js)
@@ -226,11 +226,11 @@ module _ (V : RegistrationList) (names : Names) where
     Sits (a_function n text x b) = Unit {0}
     Sits (a_global n text y i) = Unit {0}
     Sits (a_method c m text x b) =
-        (y : Method) × (h : t.Function) × (k : ℕ) × (method_at V names c m ≡ Some y)
+        (y : ScriptMethod) × (h : t.Function) × (k : ℕ) × (method_at V names c m ≡ Some y)
         × (method_body_typing (context_in V names text (Some (within_of V names c y.read_only))) (within_of V names c y.read_only) y.function x b ≡ Ok h)
         × (y.body ≡ Some k) × (slice_get (functions ++ members) k ≡ Some h)
     Sits (a_constructor c m text x own bases u ss) =
-        (y : Constructor) × (h : t.Function) × (constructor_at V names c m ≡ Some y)
+        (y : ScriptConstructor) × (h : t.Function) × (constructor_at V names c m ≡ Some y)
         × (constructor_typing (context_in V names text (Some (within_of V names c false))) (within_of V names c false) y.function x
         (base_name V names c text own bases) (base_of V names c) u ss ≡ Ok h)
         × (slice_get (functions ++ members) y.body ≡ Some h)
@@ -278,7 +278,7 @@ module _ (V : RegistrationList) (names : Names) where
         let w = within_of V names c y.read_only in
         let typing = method_body_typing (context_in V names text (Some w)) w y.function x code in
         let js : List Judgement = of_member text typing ∷ J ps in
-        let same : J (a_method c m text x code ∷ ps) ≡ js = ap (λ (o : Option Method). judged_method V names c text x code o ++ J ps) h.0.there in
+        let same : J (a_method c m text x code ∷ ps) ≡ js = ap (λ (o : Option ScriptMethod). judged_method V names c text x code o ++ J ps) h.0.there in
         let next = next_member j text typing (J ps) (subst Clean same clean)
         (subst (λ (l : List Judgement). Behind t.Function j members (filter_map member_given l)) same b) in (
           (y, next.0, number_of V names j, h.0.there, next.1, h.0.body, next.2),
@@ -291,7 +291,7 @@ module _ (V : RegistrationList) (names : Names) where
         let typing = constructor_typing (context_in V names text (Some w)) w y.function x base (base_of V names c) u ss in
         let js : List Judgement = of_member text typing ∷ J ps in
         let same : J (a_constructor c m text x own bases u ss ∷ ps) ≡ js =
-        ap (λ (o : Option Constructor). judged_constructor V names c text x base (base_of V names c) u ss o ++ J ps) h.0.there in
+        ap (λ (o : Option ScriptConstructor). judged_constructor V names c text x base (base_of V names c) u ss o ++ J ps) h.0.there in
         let next = next_member j text typing (J ps) (subst Clean same clean)
         (subst (λ (l : List Judgement). Behind t.Function j members (filter_map member_given l)) same b) in (
           (y, next.0, h.0.there, next.1, subst (λ k. slice_get (functions ++ members) k ≡ Some next.0) (sym h.0.body) next.2),
@@ -323,7 +323,7 @@ each_at_place : {A : Type 0} (P : ℕ → A → Type 0) (all : List A) (n : ℕ)
 each_at_place P all n [] b go = tt
 each_at_place P all n (x ∷ xs) b go = (go n x (next_item n all x xs b), each_at_place P all (n + 1) xs (next_left n all x xs b) go)
 
-ranged : (B : ℕ → List Parameter) (first j : ℕ) (xs : List t.Function) → EachFrom (λ k (h : t.Function). B (first + k) ≡ h.parameters) j xs
+ranged : (B : ℕ → List TypedParameter) (first j : ℕ) (xs : List t.Function) → EachFrom (λ k (h : t.Function). B (first + k) ≡ h.parameters) j xs
     → map (λ (h : t.Function). h.parameters) xs ≡ map B (range_with_len (first + j) (length xs))
 ranged B first j [] h = refl
 ranged B first j (x ∷ xs) h =
@@ -344,25 +344,25 @@ module _ (V : RegistrationList) (names : Names) (sources : List Source) (p : t.P
   at_tree : (k : ℕ) (h : t.Function) → slice_get (functions ++ members) k ≡ Some h → slice_get p.functions k ≡ Some h
   at_tree k h e = ap (λ fs. slice_get fs k) tree ∙ e
 
-  method_is : (c m k : ℕ) (x : Method) → method_at V names c m ≡ Some x → x.body ≡ Some k → HasMethodBody V names sources p c m k x
+  method_is : (c m k : ℕ) (x : ScriptMethod) → method_at V names c m ≡ Some x → x.body ≡ Some k → HasMethodBody V names sources p c m k x
   method_is c m k x e body =
       let family = family_method V names c m (slice_get names.families c) x refl e in
       let written = at_number (IsFamilyWritten (parts_of sources)) c names.families family.0 has.written family.1 in
       let part = at_number (IsMethodWritten (parts_of sources) c) m family.0.methods x written.methods family.2 k body in
       let s = each_has (Sits V names functions members count) (parts_of sources) (a_method c m part.text part.name part.tree) sit part.written in
       let same : s.0 ≡ x = same_Some s.0 x (sym s.3 ∙ e) in
-      let number : s.2 ≡ k = same_Some s.2 k (sym s.5 ∙ ap (λ (y : Method). y.body) same ∙ body) in
+      let number : s.2 ≡ k = same_Some s.2 k (sym s.5 ∙ ap (λ (y : ScriptMethod). y.body) same ∙ body) in
       record {
         text = part.text;
         name = part.name;
         tree = part.tree;
         written = part.written;
-        typed = subst (λ (y : Method). (h : t.Function)
+        typed = subst (λ (y : ScriptMethod). (h : t.Function)
             × (method_body_typing (context_in V names part.text (Some (within_of V names c y.read_only))) (within_of V names c y.read_only) y.function part.name part.tree ≡ Ok h)
             × (slice_get p.functions k ≡ Some h)) same (s.1, s.4, subst (λ n. slice_get p.functions n ≡ Some s.1) number (at_tree s.2 s.1 s.6));
       }
 
-  constructor_is : (c m : ℕ) (x : Constructor) → constructor_at V names c m ≡ Some x → HasConstructorBody V names sources p c m x
+  constructor_is : (c m : ℕ) (x : ScriptConstructor) → constructor_at V names c m ≡ Some x → HasConstructorBody V names sources p c m x
   constructor_is c m x e =
       let family = family_constructor V names c m (slice_get names.families c) x refl e in
       let written = at_number (IsFamilyWritten (parts_of sources)) c names.families family.0 has.written family.1 in
@@ -378,7 +378,7 @@ module _ (V : RegistrationList) (names : Names) (sources : List Source) (p : t.P
         super = part.super;
         tree = part.tree;
         written = part.written;
-        typed = subst (λ (y : Constructor). (h : t.Function)
+        typed = subst (λ (y : ScriptConstructor). (h : t.Function)
             × (constructor_typing (context_in V names part.text (Some (within_of V names c false))) (within_of V names c false) y.function part.name
             (base_name V names c part.text part.own part.bases) (base_of V names c) part.super part.tree ≡ Ok h)
             × (slice_get p.functions y.body ≡ Some h)) same (s.1, s.3, at_tree s.0.body s.1 s.4);
@@ -391,10 +391,10 @@ module _ (V : RegistrationList) (names : Names) (sources : List Source) (p : t.P
   abbrev HasParameters : NumberedBody → Type 0
   HasParameters b = (h : t.Function) × (slice_get (functions ++ members) b.0 ≡ Some h) × (h.parameters ≡ b.1)
 
-  typed_as : (ps : List Parameter) (x : Typing t.Function) (h : t.Function) → x ≡ Ok h → IfOk x (λ g. g.parameters ≡ ps) → h.parameters ≡ ps
+  typed_as : (ps : List TypedParameter) (x : Typing t.Function) (h : t.Function) → x ≡ Ok h → IfOk x (λ g. g.parameters ≡ ps) → h.parameters ≡ ps
   typed_as ps x h e is = subst (λ y. IfOk y (λ (g : t.Function). g.parameters ≡ ps)) e is
 
-  only_parameters : (ps : List Parameter) (ty : ArgType) (x : Typing t.Function) → IfOk x (IsOf ps ty) → IfOk x (λ g. g.parameters ≡ ps)
+  only_parameters : (ps : List TypedParameter) (ty : ArgType) (x : Typing t.Function) → IfOk x (IsOf ps ty) → IfOk x (λ g. g.parameters ≡ ps)
   only_parameters ps ty (Ok h) is = is.parameters
   only_parameters ps ty (Err why) is = tt
 

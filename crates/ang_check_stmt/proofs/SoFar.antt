@@ -9,10 +9,10 @@ use Rattle.ang_tree.specs.declared.type_name.TypeName.{TypeName}
 use Rattle.ang_types.specs.declared.arg_type.ArgType.{ArgType}
 use Rattle.ang_typed.specs.Typed as t
 use Rattle.ang_check_context.specs.declared.scope.LocalVariable.{LocalVariable}
-use Rattle.ang_check_operators.specs.declared.refusal.Refusal.{Refusal}
+use Rattle.ang_check_operators.specs.declared.refusal.TypingRefusal.{TypingRefusal}
 use Rattle.ang_check_operators.specs.Refusals.{Typing, ◌>>=◌}
 use Rattle.ang_typed.specs.View.{view_stmt}
-use Rattle.ang_typed.specs.declared.statement.Statement as typed
+use Rattle.ang_typed.specs.declared.statement.TypedStatement as typed
 use Rattle.ang_check_stmt.specs.declared.halt.Halt.{Halt}
 use Rattle.ang_check_stmt.specs.declared.halt.Halt.TheVariants as halt
 use Rattle.ang_check_stmt.specs.Halts.{GivesOrHalts}
@@ -46,7 +46,7 @@ pub ruleset keeps = (keeps_same, keeps_pushed, keeps_on)
 -- ---- statements
 
 -- a statement after which the same locals are alive
-pub gives_same : (ps : List LocalVariable) (r : Result typed.Statement Halt) (j : Typing t.Stmt) → GivesOrHalts view_stmt r j
+pub gives_same : (ps : List LocalVariable) (r : Result typed.TypedStatement Halt) (j : Typing t.Stmt) → GivesOrHalts view_stmt r j
     → GivesOrHalts (λ x. (ps, view_stmt x)) r (with_same ps j)
 gives_same ps (Ok x) j h = ap (λ k. with_same ps k) h
 gives_same ps (Err halt.Memory) j h = tt
@@ -90,7 +90,7 @@ statements_turn f loop start ps qs all xs x ws i w h lt is e =
 
 -- a statement that was refused
 pub statements_refused : (f : Frame) (loop : Bool) (start : ℕ) (ps : List LocalVariable) (all : Typing t.Stmts) (xs : List t.Stmt)
-    (ws : List Statement) (i : ℕ) (w : Statement) (r : Refusal)
+    (ws : List Statement) (i : ℕ) (w : Statement) (r : TypingRefusal)
     → all ≡ stmts_behind xs (stmts_typing f loop start ps (trees.view_stmts (drop i ws)))
     → i < length ws → w ≡ get_or ws i w
     → stmt_typing f loop start ps (trees.view_stmt w) ≡ Err r
@@ -131,7 +131,7 @@ locals_turn f start ps qs y ty all ls l vs i v h lt is e =
 
 -- a local that was refused
 pub locals_refused : (f : Frame) (start : ℕ) (ps : List LocalVariable) (y : TypeName) (ty : ArgType) (all : Typing (List LocalVariable × List t.Local))
-    (ls : List t.Local) (vs : List Variable) (i : ℕ) (v : Variable) (r : Refusal)
+    (ls : List t.Local) (vs : List Variable) (i : ℕ) (v : Variable) (r : TypingRefusal)
     → all ≡ locals_behind ls (each_local f start ps y ty (list_map trees.view_var (drop i vs)))
     → i < length vs → v ≡ get_or vs i v
     → local_typing f start ps y ty (trees.view_var v) ≡ Err r

@@ -12,12 +12,12 @@ use Rattle.ang_tree.specs.declared.type_name.TypeName.{TypeName}
 use Rattle.ang_tree.specs.Tree.{Tree, Trees}
 use Rattle.ang_tree.specs.Stmt.{Init, absent, value, constructor, Var, Vars, Start, with_variables, with_expression, Stmt, Body, Stmts, block, variables, expression, break, continue, return, when, either, while, do_while, for, body, end}
 use Rattle.ang_tree.specs.Stmt as written
-use Rattle.ang_typed.specs.declared.expression.Variable.TheVariants as variable
+use Rattle.ang_typed.specs.declared.expression.TypedVariable.TheVariants as variable
 use Rattle.ang_typed.specs.Typed as t
 use Rattle.ang_check_stmt.specs.declared.frame.Returns.{Returns}
 use Rattle.ang_check_stmt.specs.declared.frame.Returns.TheVariants as returns
 use Rattle.ang_check_context.specs.declared.scope.LocalVariable.{LocalVariable}
-use Rattle.ang_names_listed.specs.declared.role.Role.TheVariants as role
+use Rattle.ang_names_listed.specs.declared.role.TypePosition.TheVariants as role
 use Rattle.ang_names_known.specs.Lookup.{is_read_only}
 use Rattle.ang_check_operators.specs.Operands.{Operand, fit, truth}
 use Rattle.ang_check_operators.specs.Refusals.{Typing, ◌>>=◌, fault, refused}

@@ -6,7 +6,7 @@ ghost use Rattle.ang_names.specs.Refusals.{clashes_with_member};
 
 use ang_index::Index;
 use ang_lex::text_of;
-use ang_names_listed::Member;
+use ang_names_listed::ListedMember;
 use std::alloc::{AllocError, Global};
 use std::marker::Model;
 
@@ -17,7 +17,7 @@ const MEMBERS: u64 = 0;
 #[derive(Drop)]
 pub struct Before<'t, 'm, 'a> {
     text: &'t [u8],
-    items: &'m [Member<'a>],
+    items: &'m [ListedMember<'a>],
     places: Index<usize>,
 }
 
@@ -54,14 +54,14 @@ impl<'t, 'm, 'a> Before<'t, 'm, 'a> {
     }
 
     /// The members.
-    pub fn items(&self) -> &'m [Member<'a>]
+    pub fn items(&self) -> &'m [ListedMember<'a>]
         ensures same { result.now ≡ self.now.items }
     {
         self.items
     }
 
     /// The numbers of those that have this one's name. It takes no memory.
-    pub fn row(&self, member: &Member<'_>) -> &[usize]
+    pub fn row(&self, member: &ListedMember<'_>) -> &[usize]
         ensures all { list_any (spec.clashes_at self.now member.now) result.now
             ≡ list_any (clashes_with_member self.now.text member.now) self.now.items }
     {
@@ -74,8 +74,8 @@ impl<'t, 'm, 'a> Before<'t, 'm, 'a> {
     pub fn grow(
         &mut self,
         alloc: Global,
-        items: &'m [Member<'a>],
-        member: &Member<'a>,
+        items: &'m [ListedMember<'a>],
+        member: &ListedMember<'a>,
     ) -> Result<(), AllocError>
         requires one_more { items.now ≡ self.old.items ++ member.now ∷ [] }
         ensures text { OnOk result (self.new.text ≡ self.old.text) }
