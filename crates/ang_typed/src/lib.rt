@@ -17,8 +17,8 @@ mod program;
 mod statement;
 
 pub use expression::{
-    Argument, Callee, Comparison, Expression, HostEntity, Member, Operator, Site, StepKind,
-    Variable,
+    Comparison, HostEntity, Operator, Site, StepKind, TypedArgument, TypedCallee, TypedExpression,
+    TypedMember, TypedVariable,
 };
-pub use program::{Class, Function, Global, Heading, Parameter, Typed};
-pub use statement::{Block, Choice, For, Local, Loop, Statement};
+pub use program::{Global, Heading, Typed, TypedClass, TypedFunction, TypedParameter};
+pub use statement::{Choice, For, Local, Loop, TypedBlock, TypedStatement};
