@@ -12,7 +12,7 @@
 # Prints a line for each edit, with the verdict. The status is 0 where the prover refused each.
 set -eu
 cd "$(dirname "$0")/.."
-[ $# -gt 0 ] || { sed -n 's/^# \{0,1\}//p' "$0" | sed -n 1,13p; exit 2; }
+[ $# -gt 0 ] || { sed -n '2,14s/^# \{0,1\}//p' "$0"; exit 2; }
 how=${TRY:-$(if rt help 2>&1 | grep -q '^  rt ci NAME'; then echo ci; else echo must-fail; fi)}
 folder=$(mktemp -d)
 trap 'rm -rf "$folder"' EXIT
