@@ -213,7 +213,7 @@ chosen_fits ms good i p decl args n f slots here e =
     let has : HasNamesOf p.view a.sections (record { names = p.names; tree = p.tree }) = program-named p.view a.sections (record { names = p.names; tree = p.tree }) a.built in
     let ps : List TypedParameter = typed_parameters f in
     let named : slice_get (module_in p.view p.names).parameters n ≡ Some ps = get-front (map typed_parameters p.names.functions) _ n ps (get-map typed_parameters p.names.functions n f one.at) in
-    let found = map-get (λ (g : t.Function). g.parameters) p.tree.functions n ps (ap (λ xs. slice_get xs n) has.names.parameters ∙ named) in
+    let found = map-get (λ (g : t.TypedFunction). g.parameters) p.tree.functions n ps (ap (λ xs. slice_get xs n) has.names.parameters ∙ named) in
     record {
       takes = record {
         function = found.item;

@@ -59,16 +59,16 @@ module _ (ms : List Module) (are : AreSoundModules ms) (nesting : ℕ) where
 
 -- ---- how a module's bodies take their arguments
 
-function_at : (fs : List t.Function) (qs : List (List Passing)) (n : ℕ) (f : t.Function) → slice_get fs n ≡ Some f → slice_get (map (λ (h : t.Function). passings_of h.parameters) fs ++ qs) n ≡ Some (passings_of f.parameters)
+function_at : (fs : List t.TypedFunction) (qs : List (List Passing)) (n : ℕ) (f : t.TypedFunction) → slice_get fs n ≡ Some f → slice_get (map (λ (h : t.TypedFunction). passings_of h.parameters) fs ++ qs) n ≡ Some (passings_of f.parameters)
 function_at [] qs n f at = absurd (let x : ⊥ = cc in x)
-function_at (g ∷ fs) qs zero f at = let same : g ≡ f = cc in ap (λ (h : t.Function). Some (passings_of h.parameters)) same
+function_at (g ∷ fs) qs zero f at = let same : g ≡ f = cc in ap (λ (h : t.TypedFunction). Some (passings_of h.parameters)) same
 function_at (g ∷ fs) qs (suc n) f at = function_at fs qs n f at
 
-behind_at : (fs : List t.Function) (qs : List (List Passing)) (k : ℕ) → slice_get (map (λ (h : t.Function). passings_of h.parameters) fs ++ qs) (length fs + k) ≡ slice_get qs k
+behind_at : (fs : List t.TypedFunction) (qs : List (List Passing)) (k : ℕ) → slice_get (map (λ (h : t.TypedFunction). passings_of h.parameters) fs ++ qs) (length fs + k) ≡ slice_get qs k
 behind_at [] qs k = ap (slice_get qs) (let e : 0 + k ≡ k = omega arith in e)
 behind_at (f ∷ fs) qs k =
     let e : suc (length fs) + k ≡ suc (length fs + k) = omega arith in
-    ap (slice_get (map (λ (h : t.Function). passings_of h.parameters) (f ∷ fs) ++ qs)) e ∙ behind_at fs qs k
+    ap (slice_get (map (λ (h : t.TypedFunction). passings_of h.parameters) (f ∷ fs) ++ qs)) e ∙ behind_at fs qs k
 
 none_at : (cs : List Code) (k : ℕ) → k < length cs → ◌≡◌ {A = Option (List Passing)} (slice_get (map (λ c. []) cs) k) (Some [])
 none_at [] k lt = absurd (let x : ⊥ = omega (arith, lt) in x)

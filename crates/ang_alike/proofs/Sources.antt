@@ -51,7 +51,7 @@ AllSound M [] (x ∷ xs) = ⊥
 AllSound M (ps ∷ pss) [] = ⊥
 AllSound M (ps ∷ pss) (x ∷ xs) = SoundCode M (length ps) x × AllSound M pss xs
 
-functions_sound : (M : Module) (fs : List tree.Function) (pss : List (List Passing)) (xs : List Code) → SoundFunctions M fs → AllSound M pss xs
+functions_sound : (M : Module) (fs : List tree.TypedFunction) (pss : List (List Passing)) (xs : List Code) → SoundFunctions M fs → AllSound M pss xs
     → AllSound M (map (λ f. passings_of f.parameters) fs ++ pss) (map (λ f. of_function f.body) fs ++ xs)
 functions_sound M [] pss xs h k = k
 functions_sound M (f ∷ fs) pss xs h k =

@@ -116,9 +116,9 @@ base_token text (Some f) own bases = option_map_or (λ (x : BaseName). x.name) (
 
 -- what one of them gives, with the bytes of its section
 pub data Judgement : Type 0 where
-  of_function : List ℕ → Typing t.Function → Judgement
+  of_function : List ℕ → Typing t.TypedFunction → Judgement
   of_global : List ℕ → Typing t.Global → Judgement
-  of_member : List ℕ → Typing t.Function → Judgement
+  of_member : List ℕ → Typing t.TypedFunction → Judgement
   of_default : List ℕ → Typing Base → Judgement
 
 -- Over a view and the names that the scripts declare:
@@ -194,13 +194,13 @@ abbrev pub given : {A : Type 0} → Typing A → Option A
 given (Ok a) = Some a
 given (Err r) = None
 
-abbrev pub function_given : Judgement → Option t.Function
+abbrev pub function_given : Judgement → Option t.TypedFunction
 function_given (of_function text f) = given f
 function_given (of_global text g) = None
 function_given (of_member text f) = None
 function_given (of_default text b) = None
 
-abbrev pub member_given : Judgement → Option t.Function
+abbrev pub member_given : Judgement → Option t.TypedFunction
 member_given (of_function text f) = None
 member_given (of_global text g) = None
 member_given (of_member text f) = given f
@@ -270,8 +270,8 @@ program_of V names sources =
 -- Over a view and names, in a resolved tree:
 module _ (V : RegistrationList) (names : Names) (sources : List Source) (p : t.Program) where
   -- body k of the tree is a function that was typed so
-  abbrev pub IsBody : ℕ → Typing t.Function → Type 0
-  IsBody k typing = (f : t.Function) × (typing ≡ Ok f) × (slice_get p.functions k ≡ Some f)
+  abbrev pub IsBody : ℕ → Typing t.TypedFunction → Type 0
+  IsBody k typing = (f : t.TypedFunction) × (typing ≡ Ok f) × (slice_get p.functions k ≡ Some f)
 
   -- ScriptMethod m of class c is written in some section, and its body k is what was typed there.
   pub record HasMethodBody (c m k : ℕ) (x : ScriptMethod) : Type 0 where

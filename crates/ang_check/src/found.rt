@@ -71,7 +71,7 @@ pub fn note_function(
     found: &mut Found,
     typed: Result<TypedFunction, TypingError>,
 ) -> Result<(), AllocError>
-    ensures noted { OnOk result ((typing : Typing tree.Function) → Gives view_function typed typing
+    ensures noted { OnOk result ((typing : Typing tree.TypedFunction) → Gives view_function typed typing
         → spec.Noted found.old found.new (bodies.of_function text.now typing)) }
 {
     match typed {
@@ -98,7 +98,7 @@ pub fn note_member(
     found: &mut Found,
     typed: Result<TypedFunction, TypingError>,
 ) -> Result<(), AllocError>
-    ensures noted { OnOk result ((typing : Typing tree.Function) → Gives view_function typed typing
+    ensures noted { OnOk result ((typing : Typing tree.TypedFunction) → Gives view_function typed typing
         → spec.Noted found.old found.new (bodies.of_member text.now typing)) }
 {
     match typed {

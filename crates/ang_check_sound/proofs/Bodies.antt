@@ -49,7 +49,7 @@ use Rattle.ang_check_sound.proofs.Statements.{CanReturn, initializer_sound, bloc
 -- ---- what was declared
 
 -- a function's parameters and result are these
-pub record IsOf (ps : List TypedParameter) (ty : ArgType) (g : t.Function) : Type 0 where
+pub record IsOf (ps : List TypedParameter) (ty : ArgType) (g : t.TypedFunction) : Type 0 where
   pub parameters : g.parameters ≡ ps
   pub result : g.result ≡ ty
 
@@ -81,8 +81,8 @@ pub constructor_declared : (s : BodyContext) (w : Within) (f : ScriptFunction) (
 unfolding constructor_typing
 constructor_declared s w f x base b u ss =
     let ps = this_local w ∷ map parameter_local f.params in
-    holds (λ (first : Base). Unit {0}) (λ (g : t.Function). g.parameters ≡ with_this w f) (base_typing s ps x base b u) _ (any _)
-    (λ first h. holds (λ (xs : t.Stmts). Unit {0}) (λ (g : t.Function). g.parameters ≡ with_this w f)
+    holds (λ (first : Base). Unit {0}) (λ (g : t.TypedFunction). g.parameters ≡ with_this w f) (base_typing s ps x base b u) _ (any _)
+    (λ first h. holds (λ (xs : t.Stmts). Unit {0}) (λ (g : t.TypedFunction). g.parameters ≡ with_this w f)
     (stmts_typing (maker_frame s w ps) false (length ps) ps ss) _ (any _) (λ xs k. refl))
 
 pub global_declared : (s : BodyContext) (g : ScriptGlobal) (y : TypeName) (i : Init) → IfOk (global_typing s g y i) (IsGlobal g)

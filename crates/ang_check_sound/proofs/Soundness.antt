@@ -49,7 +49,7 @@ module _ (V : RegistrationList) (names : Names) (built : (text : List ℕ) (with
     members : SoundFunctions M (filter_map member_given js)
     globals : SoundGlobals M (filter_map global_given js)
 
-  function_then : (text : List ℕ) (x : Typing t.Function) (js : List Judgement) → IfOk x (SoundFunction M) → Clean (of_function text x ∷ js) → AreSound js
+  function_then : (text : List ℕ) (x : Typing t.TypedFunction) (js : List Judgement) → IfOk x (SoundFunction M) → Clean (of_function text x ∷ js) → AreSound js
       → AreSound (of_function text x ∷ js)
   function_then text (Ok h) js s e r = record { functions = (s, r.functions); members = r.members; globals = r.globals }
   function_then text (Err why) js s e r = cc
@@ -59,7 +59,7 @@ module _ (V : RegistrationList) (names : Names) (built : (text : List ℕ) (with
   global_then text (Ok g) js s e r = record { functions = r.functions; members = r.members; globals = (s, r.globals) }
   global_then text (Err why) js s e r = cc
 
-  member_then : (text : List ℕ) (x : Typing t.Function) (js : List Judgement) → IfOk x (SoundFunction M) → Clean (of_member text x ∷ js) → AreSound js
+  member_then : (text : List ℕ) (x : Typing t.TypedFunction) (js : List Judgement) → IfOk x (SoundFunction M) → Clean (of_member text x ∷ js) → AreSound js
       → AreSound (of_member text x ∷ js)
   member_then text (Ok h) js s e r = record { functions = r.functions; members = (s, r.members); globals = r.globals }
   member_then text (Err why) js s e r = cc
@@ -133,12 +133,12 @@ same_module V names sources h =
     let methods = map (λ (g : Heading). g.parameters) (method_headings names.families) in
     let imports = map typed_parameters names.imports in
     ap (λ ps. module_with V ps methods imports (length names.globals) (length names.families)) (sym h.parameters)
-    ∙ ap (λ is. module_with V (map (λ (f : t.Function). f.parameters) p.functions) methods is (length names.globals) (length names.families)) (imports_same names.imports)
-    ∙ ap (λ n. module_with V (map (λ (f : t.Function). f.parameters) p.functions) methods (map (λ (g : Heading). g.parameters) p.imports) n (length names.families)) globals
-    ∙ ap (λ n. module_with V (map (λ (f : t.Function). f.parameters) p.functions) methods (map (λ (g : Heading). g.parameters) p.imports) (length p.globals) n)
+    ∙ ap (λ is. module_with V (map (λ (f : t.TypedFunction). f.parameters) p.functions) methods is (length names.globals) (length names.families)) (imports_same names.imports)
+    ∙ ap (λ n. module_with V (map (λ (f : t.TypedFunction). f.parameters) p.functions) methods (map (λ (g : Heading). g.parameters) p.imports) n (length names.families)) globals
+    ∙ ap (λ n. module_with V (map (λ (f : t.TypedFunction). f.parameters) p.functions) methods (map (λ (g : Heading). g.parameters) p.imports) (length p.globals) n)
     (classes_counted names.families [] names.families)
 
-sound_joined : (M : Module) (xs ys : List t.Function) → SoundFunctions M xs → SoundFunctions M ys → SoundFunctions M (xs ++ ys)
+sound_joined : (M : Module) (xs ys : List t.TypedFunction) → SoundFunctions M xs → SoundFunctions M ys → SoundFunctions M (xs ++ ys)
 sound_joined M [] ys h k = k
 sound_joined M (x ∷ xs) ys h k = (h.0, sound_joined M xs ys h.1 k)
 

@@ -26,7 +26,7 @@ pub struct FunctionContext<'a> {
 impl<'a> Model for FunctionContext<'a> {
     ghost use Rattle.ang_check_stmt.specs.Typing as spec;
 
-    ghost Value = { spec.Frame };
+    ghost Value = { spec.FunctionContext };
 
     ghost view = { λ f. record {
       context = f.context;

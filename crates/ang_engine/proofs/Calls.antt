@@ -178,7 +178,7 @@ pub takes-named : (V : RegistrationList) (names : Names) (ss : List Source) (ms 
 takes-named V names ss ms m n f slots has one =
     let ps : List TypedParameter = typed_parameters f in
     let named : slice_get (module_in V names).parameters n ≡ Some ps = get-front (map typed_parameters names.functions) _ n ps (get-map typed_parameters names.functions n f one.at) in
-    let here = map-get (λ (g : t.Function). g.parameters) (module_at ms m).tree.functions n ps (ap (λ xs. slice_get xs n) has.parameters ∙ named) in
+    let here = map-get (λ (g : t.TypedFunction). g.parameters) (module_at ms m).tree.functions n ps (ap (λ xs. slice_get xs n) has.parameters ∙ named) in
     record {
       function = here.item;
       at = here.at;
@@ -204,10 +204,10 @@ pub typed-named : (V : RegistrationList) (names : Names) (ss : List Source) (ms 
     → HasNames V names ss (module_at ms m).tree → slice_get names.functions n ≡ Some f → IsTyped ms names m n
 typed-named V names ss ms m n f has at =
     let named : slice_get (map (λ (h : ScriptFunction). h.result.ty) names.functions) n ≡ Some f.result.ty = get-map (λ (h : ScriptFunction). h.result.ty) names.functions n f at in
-    let front : slice_get (take (length names.functions) (map (λ (g : t.Function). g.result) (module_at ms m).tree.functions)) n ≡ Some f.result.ty =
+    let front : slice_get (take (length names.functions) (map (λ (g : t.TypedFunction). g.result) (module_at ms m).tree.functions)) n ≡ Some f.result.ty =
     ap (λ xs. slice_get xs n) has.results ∙ named in
-    let here = map-get (λ (g : t.Function). g.result) (module_at ms m).tree.functions n f.result.ty
-    (taken-at (length names.functions) n (map (λ (g : t.Function). g.result) (module_at ms m).tree.functions) f.result.ty front) in
+    let here = map-get (λ (g : t.TypedFunction). g.result) (module_at ms m).tree.functions n f.result.ty
+    (taken-at (length names.functions) n (map (λ (g : t.TypedFunction). g.result) (module_at ms m).tree.functions) f.result.ty front) in
     record {
       function = f;
       at = at;

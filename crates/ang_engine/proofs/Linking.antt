@@ -115,10 +115,10 @@ module _ (xs : List (Option LoadedModule)) (m i j n : ℕ) (p q : LoadedModule) 
       let ps : List TypedParameter = typed_parameters g.function in
       let tree : t.Program = view_typed q.tree in
       let named : slice_get (module_in q.view q.names).parameters n ≡ Some ps = get-front (map typed_parameters q.names.functions) _ n ps (get-map typed_parameters q.names.functions n g.function g.at) in
-      let here = map-get (λ (f : t.Function). f.parameters) tree.functions n ps (ap (λ l. slice_get l n) has.parameters ∙ named) in
+      let here = map-get (λ (f : t.TypedFunction). f.parameters) tree.functions n ps (ap (λ l. slice_get l n) has.parameters ∙ named) in
       ap (λ x. slice_get (passings_in x.tree) n) (module_loaded xs j ∙ ap module_of exporter)
-      ∙ get-front (map (λ (f : t.Function). passings_of f.parameters) tree.functions) (map (λ c. []) (initializers_from 0 tree.globals)) n (passings_of here.item.parameters)
-      (get-map (λ (f : t.Function). passings_of f.parameters) tree.functions n here.item here.at)
+      ∙ get-front (map (λ (f : t.TypedFunction). passings_of f.parameters) tree.functions) (map (λ c. []) (initializers_from 0 tree.globals)) n (passings_of here.item.parameters)
+      (get-map (λ (f : t.TypedFunction). passings_of f.parameters) tree.functions n here.item here.at)
       ∙ ap (λ l. Some (passings_of l)) here.same
       ∙ ap (λ l. Some l) (sym (takes_alike import g.function g.same))
 

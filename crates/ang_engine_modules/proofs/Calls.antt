@@ -35,7 +35,7 @@ use Rattle.ang_engine_modules.proofs.Asking.{asks_more, gives_more}
 use Rattle.ang_engine_modules.proofs.Bodies.{takes_as}
 
 -- the arguments are as many as the function's parameters
-counted : (f : tree.Function) (args : List Slot) → length f.parameters ≡ length args → length (passings_of f.parameters) ≡ length (reverse args)
+counted : (f : tree.TypedFunction) (args : List Slot) → length f.parameters ≡ length args → length (passings_of f.parameters) ≡ length (reverse args)
 counted f args e = passings_count f.parameters ∙ e ∙ sym (length-reverse args)
 
 module _ (t : Table) (ms : List Module) (is : IsTableOf t ms) (budget m n : ℕ) (args : List Slot) (takes : TakesSoMany ms m n (length args)) (before : World) where

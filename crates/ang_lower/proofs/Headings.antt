@@ -12,7 +12,7 @@ use Rattle.ang_source.specs.Meaning.{passings_of, initializers_from, heading_amo
 use Rattle.ang_source.specs.Sound.{module_of}
 use Rattle.ang_lower.specs.Same.{HasCallees, HasProgram}
 
-passings_at : (fs : List tree.Function) (rest : List (List Passing)) (f : ℕ) (ps : List TypedParameter) → slice_get (map (λ x. x.parameters) fs) f ≡ Some ps
+passings_at : (fs : List tree.TypedFunction) (rest : List (List Passing)) (f : ℕ) (ps : List TypedParameter) → slice_get (map (λ x. x.parameters) fs) f ≡ Some ps
     → slice_get (map (λ x. passings_of x.parameters) fs ++ rest) f ≡ Some (passings_of ps)
 passings_at [] rest f ps e = absurd (cc)
 passings_at (x ∷ fs) rest zero ps e = let same : x.parameters ≡ ps = cc in ap (λ qs. Some (passings_of qs)) same

@@ -31,7 +31,7 @@ AllFit M (ps ∷ pss) [] bs = ⊥
 AllFit M (ps ∷ pss) (x ∷ xs) [] = ⊥
 AllFit M (ps ∷ pss) (x ∷ xs) (b ∷ bs) = (b.statement ≡ lowered_code (length ps) x) × SoundCode M (length ps) x × AllFit M pss xs bs
 
-functions_fit : (M : Module) (fs : List tree.Function) (pss : List (List Passing)) (xs : List Code) (bs : List stmt.Whole) → SoundFunctions M fs → AllFit M pss xs bs
+functions_fit : (M : Module) (fs : List tree.TypedFunction) (pss : List (List Passing)) (xs : List Code) (bs : List stmt.Whole) → SoundFunctions M fs → AllFit M pss xs bs
     → AllFit M (map (λ f. passings_of f.parameters) fs ++ pss) (map (λ f. of_function f.body) fs ++ xs) (map lowered_function fs ++ bs)
 functions_fit M [] pss xs bs h k = k
 functions_fit M (f ∷ fs) pss xs bs h k =
@@ -144,7 +144,7 @@ globals_take_none : (gs : List tree.Global) (g : ℕ) → map (λ b. b.params) (
 globals_take_none [] g = refl
 globals_take_none (x ∷ gs) g = one_takes_none g x.initializer (lowered_globals (suc g) gs) (initializers_from (suc g) gs) (globals_take_none gs (suc g))
 
-functions_take : (fs : List tree.Function) (bs : List stmt.Whole) (rest : List (List Passing)) → map (λ b. b.params) bs ≡ rest
+functions_take : (fs : List tree.TypedFunction) (bs : List stmt.Whole) (rest : List (List Passing)) → map (λ b. b.params) bs ≡ rest
     → map (λ b. b.params) (map lowered_function fs ++ bs) ≡ map (λ f. passings_of f.parameters) fs ++ rest
 functions_take [] bs rest e = e
 functions_take (f ∷ fs) bs rest e = ap (λ l. passings_of f.parameters ∷ l) (functions_take fs bs rest e)
@@ -170,7 +170,7 @@ globals_give_none : (gs : List tree.Global) (g : ℕ) → map (λ b. b.result) (
 globals_give_none [] g = refl
 globals_give_none (x ∷ gs) g = one_gives_none g x.initializer (lowered_globals (suc g) gs) (initializers_from (suc g) gs) (globals_give_none gs (suc g))
 
-functions_give : (fs : List tree.Function) (bs : List stmt.Whole) (rest : List (Option Primitive)) → map (λ b. b.result) bs ≡ rest
+functions_give : (fs : List tree.TypedFunction) (bs : List stmt.Whole) (rest : List (Option Primitive)) → map (λ b. b.result) bs ≡ rest
     → map (λ b. b.result) (map lowered_function fs ++ bs) ≡ map (λ f. primitive_of f.result) fs ++ rest
 functions_give [] bs rest e = e
 functions_give (f ∷ fs) bs rest e = ap (λ l. primitive_of f.result ∷ l) (functions_give fs bs rest e)

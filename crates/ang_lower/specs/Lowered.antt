@@ -77,7 +77,7 @@ lowered_code n (of_global g e) = stmt.evaluate (stored n (variable.Global g) (lo
 pub record IsLowered (n : ℕ) (k : Code) (s : CoreStatement) : Type 0 where
   pub same : plain_stmt s ≡ lowered_code n k
 
-abbrev pub lowered_function : t.Function → stmt.Whole
+abbrev pub lowered_function : t.TypedFunction → stmt.Whole
 lowered_function f =
     record { params = passings_of f.parameters; result = primitive_of f.result; statement = lowered_code (length f.parameters) (of_function f.body) }
 

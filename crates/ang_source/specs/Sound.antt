@@ -224,10 +224,10 @@ module _ (M : Module) where
 
   -- ---- modules
 
-  abbrev pub SoundFunction : t.Function → Type 0
+  abbrev pub SoundFunction : t.TypedFunction → Type 0
   SoundFunction f = SoundStatements false (length f.parameters) f.body
 
-  abbrev pub SoundFunctions : List t.Function → Type 0
+  abbrev pub SoundFunctions : List t.TypedFunction → Type 0
   SoundFunctions [] = Unit {0}
   SoundFunctions (f ∷ fs) = SoundFunction f × SoundFunctions fs
 

@@ -87,7 +87,7 @@ stmts (s ∷ ss) = then s (stmts ss)
 
 -- ---- modules
 
-pub record Function : Type 0 where
+pub record TypedFunction : Type 0 where
   pub parameters : List TypedParameter
   pub result : ArgType
   pub body : Stmts
@@ -99,7 +99,7 @@ pub record Global : Type 0 where
 -- Functions, with the bodies of families after them, globals, families, the headings of methods, and those of imports, each in the
 -- order of their declarations.
 pub record Program : Type 0 where
-  pub functions : List Function
+  pub functions : List TypedFunction
   pub globals : List Global
   pub classes : List TypedClass
   pub methods : List Heading

@@ -124,7 +124,7 @@ view_stmts ss = t.stmts (map view_stmt ss)
 
 -- ---- modules
 
-abbrev pub view_function : functions.TypedFunction → t.Function
+abbrev pub view_function : functions.TypedFunction → t.TypedFunction
 view_function f = record { parameters = f.parameters; result = f.result; body = view_block f.body }
 
 abbrev pub view_global : globals.Global → t.Global

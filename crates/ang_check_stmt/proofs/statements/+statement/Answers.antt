@@ -18,7 +18,7 @@ use Rattle.ang_check_operators.specs.Refusals.{Typing}
 use Rattle.ang_check_context.specs.declared.scope.LocalVariable.{LocalVariable}
 use Rattle.ang_check_stmt.specs.declared.halt.Halt.{Halt}
 use Rattle.ang_check_stmt.specs.Halts.{GivesOrHalts}
-use Rattle.ang_check_stmt.specs.Typing.{Frame, with_same, jump, stmt_typing, stmts_typing}
+use Rattle.ang_check_stmt.specs.Typing.{FunctionContext, with_same, jump, stmt_typing, stmts_typing}
 use Rattle.ang_check_stmt.proofs.SoFar.{gives_same, keeps_same, keeps_on, stmts_behind, statements_turn, statements_end}
 use Rattle.ang_check_stmt.proofs.statements.+statement.Goals as goal
 
@@ -49,7 +49,7 @@ typed_continue =
     typed.statement_step typed.block_step typed.choice_step typed.for_step typed.loop_step open_tree.TypedStatement-F.Continue
 
 -- `break` or `continue`, of which the statement is one
-jumped : (f : Frame) (loop : Bool) (start : ℕ) (ps : List LocalVariable) (w : Statement) (word : Token) (x : statements.TypedStatement) (s : written.Stmt) (y : tree.Stmt)
+jumped : (f : FunctionContext) (loop : Bool) (start : ℕ) (ps : List LocalVariable) (w : Statement) (word : Token) (x : statements.TypedStatement) (s : written.Stmt) (y : tree.Stmt)
     (r : Result statements.TypedStatement Halt)
     → trees.view_stmt w ≡ s → typed.view_stmt x ≡ y → stmt_typing f loop start ps s ≡ with_same ps (jump loop word y)
     → GivesOrHalts typed.view_stmt r (jump loop word (typed.view_stmt x))
