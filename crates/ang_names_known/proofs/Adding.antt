@@ -9,6 +9,7 @@ use Rattle.ang_kinds.specs.declared.types.TypeRef.TheVariants as ref
 use Rattle.ang_view.specs.declared.entry.Entry.{Entry}
 use Rattle.ang_view.specs.declared.entry.EntryKind.{EntryKind}
 use Rattle.ang_view.specs.declared.entry.EntryKind.TheVariants as entry
+use Rattle.ang_view.specs.Named.{is_factory}
 use Rattle.ang_view.specs.Registration.{RegistrationList, entry_at, is_host_type, is_type, is_function, mentions, is_spelled_with, is_number, is_named_by, is_seen, seen_entry, seen}
 use Rattle.ang_view.specs.Types.{enumeration_named, is_enumeration, is_enumeration_named, is_type_named, type_named}
 use Rattle.ang_view.proofs.Lists.{and_gives}
@@ -20,7 +21,7 @@ use Rattle.ang_names_known.specs.declared.host.SeenFunction.{SeenFunction}
 use Rattle.ang_names_known.specs.declared.host.Wanted.{Wanted}
 use Rattle.ang_names_known.specs.declared.host.Wanted.TheVariants as wanted
 use Rattle.ang_names_known.specs.Added.{put_in, added}
-use Rattle.ang_names_known.specs.Host.{object_with, host_type, in_front, host_parameters, host_function, function_of_entry, is_factory, is_method, is_wanted, found, scan, host_where}
+use Rattle.ang_names_known.specs.Host.{object_with, host_type, in_front, host_parameters, host_function, function_of_entry, is_method, is_wanted, found, scan, host_where}
 
 -- ---- the entries of the view
 

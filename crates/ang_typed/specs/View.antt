@@ -4,9 +4,9 @@ use Rattle.std.specs.declared.boxed.Box.{Box}
 use Rattle.std.specs.declared.alloc.Global.{Global}
 use Rattle.ang_typed.specs.declared.expression.TypedExpression.{TypedExpression}
 use Rattle.ang_typed.specs.declared.expression.TypedArgument.{TypedArgument}
-use Rattle.ang_typed.specs.declared.expression.Site.{Site}
-use Rattle.ang_typed.specs.declared.expression.TypedArgument.TheOpen.{TypedExpression-F, TypedArgument-F, Site-F}
-use Rattle.ang_typed.specs.declared.expression.TypedArgument.TheFolds.{fold-TypedExpression, fold-TypedArgument, fold-Site}
+use Rattle.ang_typed.specs.declared.expression.TypedSite.{TypedSite}
+use Rattle.ang_typed.specs.declared.expression.TypedArgument.TheOpen.{TypedExpression-F, TypedArgument-F, TypedSite-F}
+use Rattle.ang_typed.specs.declared.expression.TypedArgument.TheFolds.{fold-TypedExpression, fold-TypedArgument, fold-TypedSite}
 use Rattle.ang_typed.specs.declared.statement.TypedStatement.{TypedStatement}
 use Rattle.ang_typed.specs.declared.statement.TypedBlock.{TypedBlock}
 use Rattle.ang_typed.specs.declared.statement.Choice.{Choice}
@@ -49,9 +49,9 @@ abbrev pub argument_step : TypedArgument-F t.Arg t.Expr t.Site → t.Arg
 argument_step (TypedArgument-F.Value ty e) = t.by_value ty e
 argument_step (TypedArgument-F.Out x from to) = t.out x from to
 
-abbrev pub site_step : Site-F t.Arg t.Expr t.Site → t.Site
-site_step (Site-F.Named x) = t.named x
-site_step (Site-F.Of e m) = t.member_of e.value m
+abbrev pub site_step : TypedSite-F t.Arg t.Expr t.Site → t.Site
+site_step (TypedSite-F.Named x) = t.named x
+site_step (TypedSite-F.Of e m) = t.member_of e.value m
 
 abbrev pub view_expr : TypedExpression → t.Expr
 view_expr = fold-TypedExpression t.Arg t.Expr t.Site argument_step expression_step site_step
@@ -59,8 +59,8 @@ view_expr = fold-TypedExpression t.Arg t.Expr t.Site argument_step expression_st
 abbrev pub view_arg : TypedArgument → t.Arg
 view_arg = fold-TypedArgument t.Arg t.Expr t.Site argument_step expression_step site_step
 
-abbrev pub view_site : Site → t.Site
-view_site = fold-Site t.Arg t.Expr t.Site argument_step expression_step site_step
+abbrev pub view_site : TypedSite → t.Site
+view_site = fold-TypedSite t.Arg t.Expr t.Site argument_step expression_step site_step
 
 abbrev pub view_args : List TypedArgument → t.Args
 view_args es = t.args (map view_arg es)

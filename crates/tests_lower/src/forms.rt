@@ -2,9 +2,9 @@
 //! a tree down has nothing to drop before its end.
 use ang_kinds::{List, Pass, Prim};
 use ang_typed::{
-    Choice, Comparison, For, Global as GlobalVariable, Local, Loop, Operator, Site, StepKind,
-    Typed, TypedArgument, TypedBlock, TypedCallee, TypedExpression, TypedFunction, TypedMember,
-    TypedParameter, TypedStatement, TypedVariable,
+    Choice, Comparison, For, Global as GlobalVariable, Local, Loop, Operator, StepKind, Typed,
+    TypedArgument, TypedBlock, TypedCallee, TypedExpression, TypedFunction, TypedMember,
+    TypedParameter, TypedSite, TypedStatement, TypedVariable,
 };
 use ang_types::ArgType;
 use std::alloc::{AllocError, Global};
@@ -13,7 +13,7 @@ pub const INT: ArgType = ArgType::Plain(Prim::I32);
 
 pub type Tree = Result<Box<TypedExpression>, AllocError>;
 
-pub type Place = Result<Site, AllocError>;
+pub type Place = Result<TypedSite, AllocError>;
 
 pub type Arguments = Result<Vec<TypedArgument>, AllocError>;
 
@@ -41,13 +41,13 @@ pub fn null(alloc: Global) -> Tree {
 }
 
 pub fn named(variable: TypedVariable) -> Place {
-    Ok(Site::Named(variable))
+    Ok(TypedSite::Named(variable))
 }
 
 /// A member of an object.
 pub fn member_of(object: Tree, member: TypedMember) -> Place {
     let object = object?;
-    Ok(Site::Of { object, member })
+    Ok(TypedSite::Of { object, member })
 }
 
 pub fn read_at(alloc: Global, site: Place) -> Tree {
