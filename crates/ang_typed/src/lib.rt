@@ -21,4 +21,4 @@ pub use expression::{
     TypedMember, TypedSite, TypedVariable,
 };
 pub use program::{Global, Heading, Typed, TypedClass, TypedFunction, TypedParameter};
-pub use statement::{Choice, For, Local, Loop, TypedBlock, TypedStatement};
+pub use statement::{Local, TypedBlock, TypedChoice, TypedFor, TypedLoop, TypedStatement};
