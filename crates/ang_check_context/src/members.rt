@@ -16,7 +16,7 @@ use ang_check_uses::{Resolution, entity_of};
 use ang_kinds::ErrorKind;
 use ang_lex::Token;
 use ang_names_known::{FoundField, family_of_type, is_read_only};
-use ang_typed::{Site, TypedMember};
+use ang_typed::{TypedMember, TypedSite};
 use ang_types::{ArgType, Asks};
 use std::alloc::{AllocError, Global};
 
@@ -37,7 +37,7 @@ fn member_at(
         bare: false,
         name: *name,
     };
-    let site = Site::Of {
+    let site = TypedSite::Of {
         object: object.tree,
         member,
     };

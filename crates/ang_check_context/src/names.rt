@@ -14,7 +14,7 @@ use ang_check_uses::Resolution;
 use ang_kinds::ErrorKind;
 use ang_lex::Token;
 use ang_names_known::{FoundField, is_read_only};
-use ang_typed::{Site, TypedVariable};
+use ang_typed::{TypedSite, TypedVariable};
 use ang_types::{ArgType, Asks};
 use std::alloc::{AllocError, Global};
 
@@ -33,7 +33,7 @@ fn variable_at(
         bare: true,
         name: *name,
     };
-    reading(alloc, name.place, Site::Named(variable), ty, target)
+    reading(alloc, name.place, TypedSite::Named(variable), ty, target)
 }
 
 /// The refusal of a use of the name as a value. Only then are the locals gone through once more.

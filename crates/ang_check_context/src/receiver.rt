@@ -11,7 +11,7 @@ use ang_check_operators::{Operand, TypingError, boxed, plain_operand, refused};
 use ang_kinds::{ErrorKind, Place};
 use ang_lex::Token;
 use ang_names_known::family_type;
-use ang_typed::{Site, TypedExpression, TypedVariable};
+use ang_typed::{TypedExpression, TypedSite, TypedVariable};
 use ang_types::ArgType;
 use std::alloc::{AllocError, Global};
 
@@ -56,7 +56,7 @@ pub fn this_operand(alloc: Global, place: Place, within: Within) -> Result<Opera
     ensures exact { IfOk result (λ a. view_operand a ≡ names.this_operand place within) }
 {
     let ty = own_type(within);
-    let site = Site::Named(TypedVariable::Local(0));
+    let site = TypedSite::Named(TypedVariable::Local(0));
     let tree = boxed(alloc, TypedExpression::Read { site, ty })?;
     Ok(plain_operand(place, ty, tree))
 }

@@ -12,7 +12,7 @@ use crate::{
 };
 use ang_kinds::{ErrorKind, Place, Prim};
 use ang_lex::Token;
-use ang_typed::{Operator, Site};
+use ang_typed::{Operator, TypedSite};
 use ang_types::{ArgType, Lineage, common};
 use std::alloc::Global;
 
@@ -22,7 +22,7 @@ fn assign_in(
     lineage: &Lineage,
     at: Place,
     place: Place,
-    site: Site,
+    site: TypedSite,
     value: Operand,
     ty: ArgType,
 ) -> Result<Operand, TypingError>
@@ -101,7 +101,7 @@ fn compound_in(
     lineage: &Lineage,
     operator: Operator,
     place: Place,
-    site: Site,
+    site: TypedSite,
     ty: Prim,
     operating: Prim,
     value: Operand,

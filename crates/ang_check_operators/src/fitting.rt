@@ -10,7 +10,7 @@ ghost use Rattle.ang_check_operators.specs.View.{view_operand};
 use crate::operand::{HandleSite, Operand, SiteUse, boxed};
 use crate::refusal::{TypingError, fault, refused};
 use ang_kinds::{ErrorKind, Place, Prim};
-use ang_typed::{Site, TypedExpression};
+use ang_typed::{TypedExpression, TypedSite};
 use ang_types::{ArgType, Lineage, rank};
 use std::alloc::{AllocError, Global};
 
@@ -157,7 +157,7 @@ pub fn identity(operand: Operand) -> Result<Box<TypedExpression>, TypingError>
 }
 
 /// The site that a tree reads. It takes no memory.
-pub fn site_in(tree: Box<TypedExpression>) -> Option<Site>
+pub fn site_in(tree: Box<TypedExpression>) -> Option<TypedSite>
     ensures exact { option_map view_site result ≡ spec.site_in (view_tree tree) }
 {
     match Box::into_inner(tree) {
@@ -166,7 +166,7 @@ pub fn site_in(tree: Box<TypedExpression>) -> Option<Site>
     }
 }
 
-fn site_or(place: Place, site: Option<Site>) -> Result<Site, TypingError>
+fn site_or(place: Place, site: Option<TypedSite>) -> Result<TypedSite, TypingError>
     ensures exact { Gives view_site result (spec.site_or place (option_map view_site site)) }
 {
     match site {
@@ -179,7 +179,7 @@ fn target_by(
     place: Place,
     target: Option<SiteUse>,
     tree: Box<TypedExpression>,
-) -> Result<Site, TypingError>
+) -> Result<TypedSite, TypingError>
     ensures exact { Gives view_site result (spec.target_by place target (view_tree tree)) }
 {
     match target {
@@ -196,7 +196,7 @@ fn target_by(
 /// `Const` at the name of one that can't be, and `BadConversion` at the first token of any other expression. It
 /// takes no memory.
 #[tactic(auto, unfolding(crate::specs::Operands::target))]
-pub fn target(written: Operand) -> Result<Site, TypingError>
+pub fn target(written: Operand) -> Result<TypedSite, TypingError>
     ensures exact { Gives view_site result (spec.target (view_operand written)) }
 {
     target_by(written.place, written.target, written.tree)
@@ -206,7 +206,7 @@ fn seat_by(
     place: Place,
     seat: Option<HandleSite>,
     tree: Box<TypedExpression>,
-) -> Result<Site, TypingError>
+) -> Result<TypedSite, TypingError>
     ensures exact { Gives view_site result (spec.seat_by place seat (view_tree tree)) }
 {
     match seat {
@@ -222,7 +222,7 @@ fn seat_by(
 ///
 /// As of `target`, and `Const` also at the name of a variable that is an object. It takes no memory.
 #[tactic(auto, unfolding(crate::specs::Operands::seat))]
-pub fn seat(written: Operand) -> Result<Site, TypingError>
+pub fn seat(written: Operand) -> Result<TypedSite, TypingError>
     ensures exact { Gives view_site result (spec.seat (view_operand written)) }
 {
     seat_by(written.place, written.seat, written.tree)

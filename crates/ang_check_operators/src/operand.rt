@@ -6,7 +6,7 @@ ghost use Rattle.ang_typed.specs.View.{view_expr, view_site, view_tree};
 
 use ang_kinds::Place;
 use ang_lex::Token;
-use ang_typed::{Site, TypedExpression};
+use ang_typed::{TypedExpression, TypedSite};
 use ang_types::ArgType;
 use std::alloc::{AllocError, Global};
 
@@ -78,7 +78,7 @@ pub fn plain_operand(place: Place, ty: ArgType, tree: Box<TypedExpression>) -> O
 pub fn reading(
     alloc: Global,
     place: Place,
-    site: Site,
+    site: TypedSite,
     ty: ArgType,
     target: SiteUse,
 ) -> Result<Operand, AllocError>

@@ -5,7 +5,7 @@ ghost use Rattle.ang_typed.specs.View.{view_site, view_tree};
 
 use crate::boxed;
 use ang_kinds::Prim;
-use ang_typed::{Comparison, Operator, Site, StepKind, TypedExpression};
+use ang_typed::{Comparison, Operator, StepKind, TypedExpression, TypedSite};
 use ang_types::ArgType;
 use std::alloc::{AllocError, Global};
 
@@ -37,7 +37,7 @@ pub(crate) fn null_tree(alloc: Global) -> Result<Box<TypedExpression>, AllocErro
 /// `++` or `--` of what stands at a site of the integer type `ty`.
 pub(crate) fn step_of(
     alloc: Global,
-    site: Site,
+    site: TypedSite,
     ty: Prim,
     step: StepKind,
 ) -> Result<Box<TypedExpression>, AllocError>
@@ -178,7 +178,7 @@ pub(crate) fn not(
 /// `=`: a value of type `ty` stored at a site of that type.
 pub(crate) fn assign(
     alloc: Global,
-    site: Site,
+    site: TypedSite,
     ty: ArgType,
     value: Box<TypedExpression>,
 ) -> Result<Box<TypedExpression>, AllocError>
@@ -192,7 +192,7 @@ pub(crate) fn assign(
 /// `operating`, of which the value is.
 pub(crate) fn compound(
     alloc: Global,
-    site: Site,
+    site: TypedSite,
     ty: Prim,
     operator: Operator,
     operating: Prim,

@@ -16,7 +16,7 @@ use ang_check_context::Locals;
 use ang_check_operators::TypingError;
 use ang_tree as written;
 use ang_tree::{Argument, ForStart};
-use ang_typed::{For, TypedBlock, TypedExpression, TypedStatement};
+use ang_typed::{TypedBlock, TypedExpression, TypedFor, TypedStatement};
 use std::alloc::{AllocError, Global};
 
 /// What stands in the parentheses of a `for`.
@@ -123,7 +123,7 @@ pub fn for_of(alloc: Global, head: Box<ForHead>, body: TypedBlock) -> Result<Typ
     let first = list_of_one(alloc, Box::into_inner(start))?;
     let found = Box::new(
         alloc,
-        For {
+        TypedFor {
             start: first,
             condition,
             steps,

@@ -22,7 +22,7 @@ use ang_check_context::Locals;
 use ang_check_operators::TypingError;
 use ang_tree as written;
 use ang_tree::{Argument, ForStart, Statement as Written};
-use ang_typed::{Choice, Loop, TypedBlock, TypedExpression, TypedStatement};
+use ang_typed::{TypedBlock, TypedChoice, TypedExpression, TypedLoop, TypedStatement};
 use std::alloc::{AllocError, Global};
 
 /// A block of one statement.
@@ -91,7 +91,7 @@ fn either_of(
     let Tested { condition, then } = Box::into_inner(tested);
     let found = Box::new(
         alloc,
-        Choice {
+        TypedChoice {
             condition,
             then,
             otherwise,
@@ -119,7 +119,7 @@ fn while_of(
     ensures exact { GivesOrHalts view_stmt result
         (Ok (tree.while (view_tree condition) (view_block body))) }
 {
-    let found = Box::new(alloc, Loop { condition, body })?;
+    let found = Box::new(alloc, TypedLoop { condition, body })?;
     Ok(TypedStatement::While(found))
 }
 
@@ -136,7 +136,7 @@ fn do_while_of(
         (spec.condition_typing frame.now.context locals.now (trees.view_expr test.now))) }
 {
     let condition = condition_or_halt(alloc, frame, locals, test)?;
-    let found = Box::new(alloc, Loop { condition, body })?;
+    let found = Box::new(alloc, TypedLoop { condition, body })?;
     Ok(TypedStatement::DoWhile(found))
 }
 

@@ -14,7 +14,7 @@ use ang_kinds::ErrorKind;
 use ang_lex::Token;
 use ang_tree as written;
 use ang_tree::Argument;
-use ang_typed::{Site, TypedExpression, TypedStatement, TypedVariable};
+use ang_typed::{TypedExpression, TypedSite, TypedStatement, TypedVariable};
 use ang_types::{ArgType, Lineage};
 use std::alloc::{AllocError, Global};
 
@@ -166,7 +166,7 @@ pub fn own_object(alloc: Global, ty: ArgType) -> Result<Box<TypedExpression>, Al
     boxed(
         alloc,
         TypedExpression::Read {
-            site: Site::Named(TypedVariable::Local(0)),
+            site: TypedSite::Named(TypedVariable::Local(0)),
             ty,
         },
     )

@@ -8,7 +8,7 @@ ghost use Rattle.ang_typed.specs.View.{view_arg, view_site, view_tree};
 
 use ang_check_operators::{Operand, TypingError, fault, fit, site_in};
 use ang_kinds::{ErrorKind, List, Pass, Place};
-use ang_typed::{Site, TypedArgument, TypedExpression, TypedVariable};
+use ang_typed::{TypedArgument, TypedExpression, TypedSite, TypedVariable};
 use ang_types::{ArgType, Lineage};
 use std::alloc::Global;
 
@@ -21,18 +21,18 @@ fn is_out_variable(variable: TypedVariable) -> bool
     }
 }
 
-fn out_variable(site: Site) -> Option<TypedVariable>
+fn out_variable(site: TypedSite) -> Option<TypedVariable>
     ensures exact { result ≡ spec.out_variable (view_site site) }
 {
     match site {
-        Site::Named(variable) => {
+        TypedSite::Named(variable) => {
             if is_out_variable(variable) {
                 Some(variable)
             } else {
                 None
             }
         }
-        Site::Of { .. } => None,
+        TypedSite::Of { .. } => None,
     }
 }
 

@@ -11,7 +11,7 @@ use Rattle.ang_meaning.specs.Environment.{Environment, params_of}
 use Rattle.ang_meaning.specs.Perform.{perform}
 use Rattle.ang_meaning.specs.Results.{Evaluated, Gave, Gathered, Ready, Ran, Went, Returned, Halted, Broken, Continued, Reply, Yields, Raises, Calls, local_at, on_test, ticked, loaded, applied, assigned, altered, chosen, then_rest, called, leave, with_value, then_run, caught, finished, enter}
 use Rattle.ang_core.specs.declared.tree.CoreExpression.{CoreExpression, Row_of-CoreExpression, end_of-CoreExpression, more_of-CoreExpression}
-use Rattle.ang_core.specs.declared.tree.CoreExpression.TheVariants.{Number, Null as Nothing, Local, Assign', Change', Apply', Call', Choose'}
+use Rattle.ang_core.specs.declared.tree.CoreExpression.TheVariants.{Number, Null as Nothing, Local, Assign', Update', Apply', Call', Choose'}
 use Rattle.ang_core.specs.declared.tree.CoreStatement.{CoreStatement, Row_of-CoreStatement, end_of-CoreStatement, more_of-CoreStatement}
 use Rattle.ang_core.specs.declared.tree.CoreStatement.TheVariants.{Skip, Evaluate, Declare, Block', If', While', DoWhile', Return, Break, Continue}
 
@@ -30,7 +30,7 @@ abbrev mutual
   eval z m c Nothing ls t w = Gave (Script None) ls t w
   eval z m c (Local i) ls t w = loaded (local_at ls i) ls t w
   eval z m c (Assign' i p e) ls t w = assigned i (eval z m c e ls t w)
-  eval z m c (Change' i by p e) ls t w = altered i by (eval z m c e ls t w)
+  eval z m c (Update' i by p e) ls t w = altered i by (eval z m c e ls t w)
   eval z m c (Apply' o shape args) ls t w = applied (perform z m o) (eval_args z m c args [] ls t w)
   eval z m c (Call' f shape args outs) ls t w = called m (c f) outs.items (eval_args z m c args [] ls t w)
   eval z m c (Choose' p a q b s d) ls t w = chosen (eval z m c a ls t w) (eval z m c b) (eval z m c d)

@@ -11,7 +11,7 @@ use Rattle.ang_meaning.specs.declared.routine.Target.{Target}
 use Rattle.ang_meaning.specs.Environment.{Environment, is_fit}
 use Rattle.ang_meaning.specs.Perform.{operands}
 use Rattle.ang_core.specs.declared.tree.CoreExpression.{CoreExpression, Row_of-CoreExpression, end_of-CoreExpression, more_of-CoreExpression}
-use Rattle.ang_core.specs.declared.tree.CoreExpression.TheVariants.{Number, Null as Nothing, Local, Assign', Change', Apply', Call', Choose'}
+use Rattle.ang_core.specs.declared.tree.CoreExpression.TheVariants.{Number, Null as Nothing, Local, Assign', Update', Apply', Call', Choose'}
 use Rattle.ang_core.specs.declared.tree.CoreStatement.{CoreStatement, Row_of-CoreStatement, end_of-CoreStatement, more_of-CoreStatement}
 use Rattle.ang_core.specs.declared.tree.CoreStatement.TheVariants.{Skip, Evaluate, Declare, Block', If', While', DoWhile', Return, Break, Continue}
 use Rattle.ang_core.specs.Meaning.{Bodies}
@@ -63,7 +63,7 @@ abbrev mutual
   Sound z m n Nothing = Unit {0}
   Sound z m n (Local i) = i < n
   Sound z m n (Assign' i p e) = (i < n) × Sound z m n e
-  Sound z m n (Change' i by p e) = (i < n) × Sound z m n e
+  Sound z m n (Update' i by p e) = (i < n) × Sound z m n e
   Sound z m n (Apply' o shape args) = (row_count args ≡ operands z m o) × (is_fit z m o ≡ true) × SoundArgs z m n args
   Sound z m n (Call' f shape args outs) = Fits z m f (row_count args) (length outs.items) × AreSpots n outs.items × SoundArgs z m n args
   Sound z m n (Choose' p a q b s c) = Sound z m n a × Sound z m n b × Sound z m n c

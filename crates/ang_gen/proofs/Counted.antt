@@ -10,7 +10,7 @@ use Rattle.ang_meaning.specs.declared.operation.Operation.{Operation}
 use Rattle.ang_meaning.specs.declared.routine.Callee.{Callee}
 use Rattle.ang_meaning.specs.declared.routine.Target.{Target}
 use Rattle.ang_core.specs.declared.tree.CoreExpression.{CoreExpression, Row_of-CoreExpression, end_of-CoreExpression, more_of-CoreExpression}
-use Rattle.ang_core.specs.declared.tree.CoreExpression.TheVariants.{Number, Null as Nothing, Local, Assign', Change', Apply', Apply, Call', Call, Choose'}
+use Rattle.ang_core.specs.declared.tree.CoreExpression.TheVariants.{Number, Null as Nothing, Local, Assign', Update', Apply', Apply, Call', Call, Choose'}
 use Rattle.ang_core.specs.declared.tree.CoreStatement.{CoreStatement}
 use Rattle.ang_core.specs.declared.tree.CoreStatement.TheVariants.{Skip, Evaluate, Declare, Block', Block, If', While', DoWhile', Return, Break, Continue}
 use Rattle.ang_core.specs.Sound.{declared}
@@ -32,7 +32,7 @@ beneath h d (Number n) b = b
 beneath h d Nothing b = b
 beneath h d (Local i) b = b
 beneath h d (Assign' i p e) b = beneath h d e b
-beneath h d (Change' i by p e) b = beneath h d e b
+beneath h d (Update' i by p e) b = beneath h d e b
 beneath h d (Apply' o shape args) b = b.0
 beneath h d (Call' f shape args outs) b = omega (arith, b.0)
 beneath h d (Choose' p a q x s c) b = beneath h d a b.0
@@ -43,7 +43,7 @@ tall d (Number n) = omega arith
 tall d Nothing = omega arith
 tall d (Local i) = omega arith
 tall d (Assign' i p e) = tall d e
-tall d (Change' i by p e) = tall d e
+tall d (Update' i by p e) = tall d e
 tall d (Apply' o shape args) = omega arith
 tall d (Call' f shape args outs) = omega arith
 tall d (Choose' p a q b s c) = omega (arith, tall d a)
@@ -55,7 +55,7 @@ mutual
   rises d b Nothing le = omega arith
   rises d b (Local i) le = omega arith
   rises d b (Assign' i p e) le = rises d b e le
-  rises d b (Change' i by p e) le = rises d b e le
+  rises d b (Update' i by p e) le = rises d b e le
   rises d b (Apply' o shape args) le = omega (arith, rises_args d b args le)
   rises d b (Call' f shape args outs) le = omega (arith, rises_args d b args le)
   rises d b (Choose' p a q x s c) le = omega (arith, rises d b a le, rises d b x le, rises d b c le)

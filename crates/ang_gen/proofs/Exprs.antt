@@ -17,7 +17,7 @@ use Rattle.ang_meaning.specs.Hosts.{Done, Fine, Fails}
 use Rattle.ang_meaning.specs.Perform.{perform, operands, change_of}
 use Rattle.ang_meaning.specs.Results.{Evaluated, Gave, Failed, Gathered, Ready, Broke, Reply, Yields, Raises, Calls, local_at, local_set, drop_some, at_zero, on_test, ticked, performed, applied, assigned, altered_by, altered, chosen, then_rest, settled, with_outs, replied, called, may_nest, found_entered, enter}
 use Rattle.ang_core.specs.declared.tree.CoreExpression.{CoreExpression, Row_of-CoreExpression, end_of-CoreExpression, more_of-CoreExpression}
-use Rattle.ang_core.specs.declared.tree.CoreExpression.TheVariants.{Number, Null as Nothing, Local, Assign', Change', Apply', Call', Choose'}
+use Rattle.ang_core.specs.declared.tree.CoreExpression.TheVariants.{Number, Null as Nothing, Local, Assign', Update', Apply', Call', Choose'}
 use Rattle.ang_core.specs.Meaning.{eval, eval_args}
 use Rattle.ang_core.specs.Sound.{row_count, out_count, Takes, Fits, LinksFit, AreSpots, Sound, SoundArgs}
 use Rattle.ang_code.specs.declared.instruction.Frame.{Frame}
@@ -222,7 +222,7 @@ module _ (z : Environment) (code : Texts) (r : Running) where
             eval_ends _ _ _ s (length ls) t _ len
             (assign_goes _ (pc + length ce) i d s (length ls) t (eval z r.of.home calls e ls t w) (has_back (code.text r.of) pc ce _ has).0 ok.0 d_is
             (eval_runs e pc s ls t w (has_front (code.text r.of) pc ce _ has) ok.1 low le))
-        eval_runs (Change' i by p e) pc s ls t w has ok low le =
+        eval_runs (Update' i by p e) pc s ls t w has ok low le =
             let ce = expr_code (length s) e in
             let d = place_above (length s) i in
             let d_is : d ≡ length s + i = placed (length s) i (omega (arith, ok.0, beneath h (length s + length ls) e low, counted)) in

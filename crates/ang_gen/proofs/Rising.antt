@@ -2,7 +2,7 @@
 use Rattle.std.proofs.Common.{◌≡◌, ℕ, suc, ◌+◌, ◌-◌, ◌≤◌, arith}
 use Rattle.ang_core.specs.declared.tree.CoreBody.{CoreBody}
 use Rattle.ang_core.specs.declared.tree.CoreExpression.{CoreExpression, Row_of-CoreExpression, end_of-CoreExpression, more_of-CoreExpression}
-use Rattle.ang_core.specs.declared.tree.CoreExpression.TheVariants.{Number, Null as Nothing, Local, Assign', Change', Apply', Call', Choose'}
+use Rattle.ang_core.specs.declared.tree.CoreExpression.TheVariants.{Number, Null as Nothing, Local, Assign', Update', Apply', Call', Choose'}
 use Rattle.ang_core.specs.declared.tree.CoreStatement.{CoreStatement, Row_of-CoreStatement, end_of-CoreStatement, more_of-CoreStatement}
 use Rattle.ang_core.specs.declared.tree.CoreStatement.TheVariants.{Skip, Evaluate, Declare, Block', If', While', DoWhile', Return, Break, Continue}
 use Rattle.ang_core.specs.Sound.{declared}
@@ -16,7 +16,7 @@ mutual
   below h d Nothing le = omega arith
   below h d (Local i) le = omega arith
   below h d (Assign' i p e) le = below h d e le
-  below h d (Change' i by p e) le = below h d e le
+  below h d (Update' i by p e) le = below h d e le
   below h d (Apply' o shape args) le = (omega arith, below_args h d args (omega arith))
   below h d (Call' f shape args outs) le = (omega arith, below_args h d args (omega arith))
   below h d (Choose' p a q b s c) le = (below h d a (omega arith), below h d b (omega arith), below h d c (omega arith))
@@ -31,7 +31,7 @@ mutual
   peaks h d Nothing b = omega arith
   peaks h d (Local i) b = omega arith
   peaks h d (Assign' i p e) b = peaks h d e b
-  peaks h d (Change' i by p e) b = peaks h d e b
+  peaks h d (Update' i by p e) b = peaks h d e b
   peaks h d (Apply' o shape args) b = omega (arith, b.0, peaks_args h d args b.1)
   peaks h d (Call' f shape args outs) b = omega (arith, b.0, peaks_args h d args b.1)
   peaks h d (Choose' p a q x s c) b = omega (arith, peaks h d a b.0, peaks h d x b.1, peaks h d c b.2)

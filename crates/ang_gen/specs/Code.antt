@@ -5,7 +5,7 @@ use Rattle.ang_meaning.specs.declared.routine.Spot.{Spot}
 use Rattle.ang_meaning.specs.declared.routine.Spot.TheVariants as spot
 use Rattle.ang_meaning.specs.declared.routine.Target.{Target}
 use Rattle.ang_core.specs.declared.tree.CoreExpression.{CoreExpression, Row_of-CoreExpression, end_of-CoreExpression, more_of-CoreExpression}
-use Rattle.ang_core.specs.declared.tree.CoreExpression.TheVariants.{Number, Null as Nothing, Local, Assign', Change', Apply', Call', Choose'}
+use Rattle.ang_core.specs.declared.tree.CoreExpression.TheVariants.{Number, Null as Nothing, Local, Assign', Update', Apply', Call', Choose'}
 use Rattle.ang_core.specs.declared.tree.CoreStatement.{CoreStatement, Row_of-CoreStatement, end_of-CoreStatement, more_of-CoreStatement}
 use Rattle.ang_core.specs.declared.tree.CoreStatement.TheVariants.{Skip, Evaluate, Declare, Block', If', While', DoWhile', Return as ReturnOf, Break, Continue}
 use Rattle.ang_core.specs.Sound.{declared, row_declared}
@@ -57,7 +57,7 @@ abbrev mutual
   expr_code d Nothing = PushNull ∷ []
   expr_code d (Local i) = Load (place_above d i) ∷ []
   expr_code d (Assign' i p e) = expr_code d e ++ Store (place_above d i) ∷ []
-  expr_code d (Change' i by p e) = expr_code d e ++ Update by (place_above d i) ∷ []
+  expr_code d (Update' i by p e) = expr_code d e ++ Update by (place_above d i) ∷ []
   expr_code d (Apply' o shape args) = args_code d args ++ Apply o ∷ []
   expr_code d (Call' f shape args outs) = args_code d args ++ (Enter f ∷ outs_code d outs.items)
   expr_code d (Choose' p a q b s c) = if_code (expr_code d a) (expr_code d b) (expr_code d c)

@@ -1,7 +1,7 @@
 -- How many values a body has on the stack at once.
 use Rattle.std.specs.Prelude.{ℕ, suc, ◌+◌, ◌<◌, length}
 use Rattle.ang_core.specs.declared.tree.CoreExpression.{CoreExpression, Row_of-CoreExpression, end_of-CoreExpression, more_of-CoreExpression}
-use Rattle.ang_core.specs.declared.tree.CoreExpression.TheVariants.{Number, Null as Nothing, Local, Assign', Change', Apply', Call', Choose'}
+use Rattle.ang_core.specs.declared.tree.CoreExpression.TheVariants.{Number, Null as Nothing, Local, Assign', Update', Apply', Call', Choose'}
 use Rattle.ang_core.specs.declared.tree.CoreStatement.{CoreStatement, Row_of-CoreStatement, end_of-CoreStatement, more_of-CoreStatement}
 use Rattle.ang_core.specs.declared.tree.CoreStatement.TheVariants.{Skip, Evaluate, Declare, Block', If', While', DoWhile', Return, Break, Continue}
 use Rattle.ang_core.specs.Sound.{declared}
@@ -13,7 +13,7 @@ abbrev mutual
   Below h d Nothing = d < h
   Below h d (Local i) = d < h
   Below h d (Assign' i p e) = Below h d e
-  Below h d (Change' i by p e) = Below h d e
+  Below h d (Update' i by p e) = Below h d e
   Below h d (Apply' o shape args) = (d < h) × BelowArgs h d args
   Below h d (Call' f shape args outs) = (length outs.items + d < h) × BelowArgs h d args
   Below h d (Choose' p a q b s c) = Below h d a × Below h d b × Below h d c

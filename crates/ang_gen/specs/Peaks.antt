@@ -1,7 +1,7 @@
 -- The greatest number of values in a body's frame.
 use Rattle.std.specs.Prelude.{ℕ, suc, ◌+◌, max, List, [], ◌∷◌, length}
 use Rattle.ang_core.specs.declared.tree.CoreExpression.{CoreExpression, Row_of-CoreExpression, end_of-CoreExpression, more_of-CoreExpression}
-use Rattle.ang_core.specs.declared.tree.CoreExpression.TheVariants.{Number, Null as Nothing, Local, Assign', Change', Apply', Call', Choose'}
+use Rattle.ang_core.specs.declared.tree.CoreExpression.TheVariants.{Number, Null as Nothing, Local, Assign', Update', Apply', Call', Choose'}
 use Rattle.ang_core.specs.declared.tree.CoreStatement.{CoreStatement, Row_of-CoreStatement, end_of-CoreStatement, more_of-CoreStatement}
 use Rattle.ang_core.specs.declared.tree.CoreStatement.TheVariants.{Skip, Evaluate, Declare, Block', If', While', DoWhile', Return, Break, Continue}
 use Rattle.ang_core.specs.Sound.{declared}
@@ -13,7 +13,7 @@ abbrev mutual
   peak d Nothing = d + 1
   peak d (Local i) = d + 1
   peak d (Assign' i p e) = peak d e
-  peak d (Change' i by p e) = peak d e
+  peak d (Update' i by p e) = peak d e
   peak d (Apply' o shape args) = max (d + 1) (args_peak d args)
   peak d (Call' f shape args outs) = max (length outs.items + d + 1) (args_peak d args)
   peak d (Choose' p a q b s c) = max (peak d a) (max (peak d b) (peak d c))

@@ -9,7 +9,7 @@ use Rattle.ang_meaning.specs.Environment.{Environment, params_of}
 use Rattle.ang_meaning.specs.Perform.{perform}
 use Rattle.ang_meaning.specs.Results.{Evaluated, Gave, Gathered, Ready, Ran, Went, Returned, Halted, Broken, Continued, Raises, Calls, local_at, on_test, ticked, loaded, applied, assigned, altered, chosen, then_rest, called, leave, with_value, then_run, finished, enter}
 use Rattle.ang_core.specs.declared.tree.CoreExpression.{CoreExpression, Row_of-CoreExpression, end_of-CoreExpression, more_of-CoreExpression}
-use Rattle.ang_core.specs.declared.tree.CoreExpression.TheVariants.{Number, Null as Nothing, Local, Assign', Change', Apply', Call', Choose'}
+use Rattle.ang_core.specs.declared.tree.CoreExpression.TheVariants.{Number, Null as Nothing, Local, Assign', Update', Apply', Call', Choose'}
 use Rattle.ang_core.specs.declared.tree.CoreStatement.{CoreStatement, Row_of-CoreStatement, end_of-CoreStatement, more_of-CoreStatement}
 use Rattle.ang_core.specs.declared.tree.CoreStatement.TheVariants.{Skip, Evaluate, Declare, Block', If', While', DoWhile', Return, Break, Continue}
 use Rattle.ang_core.specs.Meaning.{Callees, Bodies, turned}
@@ -84,7 +84,7 @@ mutual
   eval_is z m k Nothing ls t w = refl
   eval_is z m k (Local i) ls t w = refl
   eval_is z m k (Assign' i p e) ls t w = λ j. assigned i (eval_is z m k e ls t w j)
-  eval_is z m k (Change' i by p e) ls t w = λ j. altered i by (eval_is z m k e ls t w j)
+  eval_is z m k (Update' i by p e) ls t w = λ j. altered i by (eval_is z m k e ls t w j)
   eval_is z m k (Apply' o shape args) ls t w = λ j. applied (perform z m o) (eval_args_is z m k args [] ls t w j)
   eval_is z m k (Call' f shape args outs) ls t w = λ j. called m (k f) outs.items (eval_args_is z m k args [] ls t w j)
   eval_is z m k (Choose' p a q b s d) ls t w =

@@ -4,7 +4,7 @@ use Rattle.std.specs.Prelude.{Bool, true, false, IsTrue}
 use Rattle.ang_meaning.specs.Environment.{Environment, is_fit}
 use Rattle.ang_meaning.specs.Perform.{operands}
 use Rattle.ang_core.specs.declared.tree.CoreExpression.{CoreExpression, Row_of-CoreExpression, end_of-CoreExpression, more_of-CoreExpression}
-use Rattle.ang_core.specs.declared.tree.CoreExpression.TheVariants.{Number, Null as Nothing, Local, Assign', Change', Apply', Call', Choose'}
+use Rattle.ang_core.specs.declared.tree.CoreExpression.TheVariants.{Number, Null as Nothing, Local, Assign', Update', Apply', Call', Choose'}
 use Rattle.ang_core.specs.declared.tree.CoreStatement.{CoreStatement, Row_of-CoreStatement, end_of-CoreStatement, more_of-CoreStatement}
 use Rattle.ang_core.specs.declared.tree.CoreStatement.TheVariants.{Skip, Evaluate, Declare, Block', If', While', DoWhile', Return, Break, Continue}
 use Rattle.ang_core.specs.Sound.{row_count, Fits, AreSpots, Sound, SoundArgs, declared, SoundStatement, SoundRow}
@@ -78,7 +78,7 @@ module _ (z : Environment) (m : ℕ) where
     sound_is n Nothing h = tt
     sound_is n (Local i) h = h
     sound_is n (Assign' i p e) h = (h.0, sound_is n e h.1)
-    sound_is n (Change' i by p e) h = (h.0, sound_is n e h.1)
+    sound_is n (Update' i by p e) h = (h.0, sound_is n e h.1)
     sound_is n (Apply' o shape args) h = (sym (count_is args) ∙ h.0, h.1, args_are n args h.2)
     sound_is n (Call' f shape args outs) h = (subst (λ i. Fits z m f i (length outs.items)) (count_is args) h.0, h.1, args_are n args h.2)
     sound_is n (Choose' p a q b s d) h = (sound_is n a h.0, sound_is n b h.1, sound_is n d h.2)

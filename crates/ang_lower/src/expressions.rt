@@ -13,7 +13,7 @@ use crate::variables::{altering, change, read, reading, store, targets, writing}
 use ang_core::CoreExpression;
 use ang_meaning::{Callee, Operation, Update};
 use ang_typed as typed;
-use ang_typed::{Local, Site, TypedArgument};
+use ang_typed::{Local, TypedArgument, TypedSite};
 use ang_types::ArgType;
 use std::alloc::{AllocError, Global};
 
@@ -56,12 +56,12 @@ pub fn lower_expression(
 
 /// What stands at a site.
 #[cycle(expression)]
-fn lower_read(alloc: Global, alive: usize, site: &Site) -> Result<CoreExpression, AllocError>
+fn lower_read(alloc: Global, alive: usize, site: &TypedSite) -> Result<CoreExpression, AllocError>
     ensures exact { IfOk result (λ x. plain_expr x ≡ spec.lowered_read alive (view_site site.now)) }
 {
     match site {
-        Site::Named(variable) => read(alloc, alive, variable),
-        Site::Of { object, member } => {
+        TypedSite::Named(variable) => read(alloc, alive, variable),
+        TypedSite::Of { object, member } => {
             let operation = reading(member);
             let object = lower_expression(alloc, alive, object)?;
             unary(alloc, operation, object)
@@ -227,15 +227,15 @@ fn lower_change(
 fn store_at(
     alloc: Global,
     alive: usize,
-    site: &Site,
+    site: &TypedSite,
     value: CoreExpression,
 ) -> Result<CoreExpression, AllocError>
     ensures exact { IfOk result (λ x. plain_expr x
         ≡ spec.lowered_store alive (view_site site.now) (plain_expr value)) }
 {
     match site {
-        Site::Named(variable) => store(alloc, alive, variable, value),
-        Site::Of { object, member } => {
+        TypedSite::Named(variable) => store(alloc, alive, variable, value),
+        TypedSite::Of { object, member } => {
             let operation = writing(member);
             let right = lower_expression(alloc, alive, object)?;
             let left = value;
@@ -249,7 +249,7 @@ fn store_at(
 fn change_at(
     alloc: Global,
     alive: usize,
-    site: &Site,
+    site: &TypedSite,
     by: Update,
     value: CoreExpression,
 ) -> Result<CoreExpression, AllocError>
@@ -257,8 +257,8 @@ fn change_at(
         ≡ spec.lowered_change alive (view_site site.now) by (plain_expr value)) }
 {
     match site {
-        Site::Named(variable) => change(alloc, alive, variable, by, value),
-        Site::Of { object, member } => {
+        TypedSite::Named(variable) => change(alloc, alive, variable, by, value),
+        TypedSite::Of { object, member } => {
             let operation = altering(member, by);
             let right = lower_expression(alloc, alive, object)?;
             let left = value;

@@ -16,7 +16,7 @@ use crate::build::{
 use crate::{lower_begin, lower_boxed, lower_or};
 use ang_core::CoreStatement;
 use ang_typed as typed;
-use ang_typed::{Choice, For, Local, Loop, TypedBlock, TypedExpression};
+use ang_typed::{Local, TypedBlock, TypedChoice, TypedExpression, TypedFor, TypedLoop};
 use std::alloc::{AllocError, Global};
 
 /// One more local that is alive. Each has a byte, so that there is room for their number.
@@ -230,7 +230,7 @@ fn lower_tested(
 fn lower_if(
     alloc: Global,
     alive: &mut Vec<u8>,
-    written: &Choice,
+    written: &TypedChoice,
 ) -> Result<CoreStatement, AllocError>
     ensures exact { IfOk result (λ s. plain_stmt s ∷ []
         ≡ spec.lowered_stmt (length alive.old.items) (view_choice written.now)) }
@@ -275,7 +275,7 @@ fn lower_loop(
 fn lower_while(
     alloc: Global,
     alive: &mut Vec<u8>,
-    written: &Loop,
+    written: &TypedLoop,
 ) -> Result<CoreStatement, AllocError>
     ensures exact { IfOk result (λ s. plain_stmt s
         ≡ spec.lowered_while (length alive.old.items) (view_loop written.now)) }
@@ -291,7 +291,7 @@ fn lower_while(
 fn lower_late_loop(
     alloc: Global,
     alive: &mut Vec<u8>,
-    written: &Loop,
+    written: &TypedLoop,
 ) -> Result<CoreStatement, AllocError>
     ensures exact { IfOk result (λ s. plain_stmt s
         ≡ spec.lowered_do_while (length alive.old.items) (view_loop written.now)) }
@@ -310,7 +310,11 @@ fn lower_late_loop(
 /// A `for`, with what it starts from in a block around it.
 #[cycle(statement)]
 #[inline(never)]
-fn lower_for(alloc: Global, alive: &mut Vec<u8>, written: &For) -> Result<CoreStatement, AllocError>
+fn lower_for(
+    alloc: Global,
+    alive: &mut Vec<u8>,
+    written: &TypedFor,
+) -> Result<CoreStatement, AllocError>
     ensures exact { IfOk result (λ s. plain_stmt s ∷ []
         ≡ spec.lowered_stmt (length alive.old.items) (view_for written.now)) }
     ensures count { OnOk result (length alive.new.items ≡ length alive.old.items) }

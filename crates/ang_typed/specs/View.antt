@@ -4,16 +4,16 @@ use Rattle.std.specs.declared.boxed.Box.{Box}
 use Rattle.std.specs.declared.alloc.Global.{Global}
 use Rattle.ang_typed.specs.declared.expression.TypedExpression.{TypedExpression}
 use Rattle.ang_typed.specs.declared.expression.TypedArgument.{TypedArgument}
-use Rattle.ang_typed.specs.declared.expression.Site.{Site}
-use Rattle.ang_typed.specs.declared.expression.TypedArgument.TheOpen.{TypedExpression-F, TypedArgument-F, Site-F}
-use Rattle.ang_typed.specs.declared.expression.TypedArgument.TheFolds.{fold-TypedExpression, fold-TypedArgument, fold-Site}
+use Rattle.ang_typed.specs.declared.expression.TypedSite.{TypedSite}
+use Rattle.ang_typed.specs.declared.expression.TypedArgument.TheOpen.{TypedExpression-F, TypedArgument-F, TypedSite-F}
+use Rattle.ang_typed.specs.declared.expression.TypedArgument.TheFolds.{fold-TypedExpression, fold-TypedArgument, fold-TypedSite}
 use Rattle.ang_typed.specs.declared.statement.TypedStatement.{TypedStatement}
 use Rattle.ang_typed.specs.declared.statement.TypedBlock.{TypedBlock}
-use Rattle.ang_typed.specs.declared.statement.Choice.{Choice}
-use Rattle.ang_typed.specs.declared.statement.For.{For}
-use Rattle.ang_typed.specs.declared.statement.Loop.{Loop}
-use Rattle.ang_typed.specs.declared.statement.TypedStatement.TheOpen.{TypedStatement-F, TypedBlock-F, Choice-F, For-F, Loop-F}
-use Rattle.ang_typed.specs.declared.statement.TypedStatement.TheFolds.{fold-TypedStatement, fold-TypedBlock, fold-Choice, fold-For, fold-Loop}
+use Rattle.ang_typed.specs.declared.statement.TypedChoice.{TypedChoice}
+use Rattle.ang_typed.specs.declared.statement.TypedFor.{TypedFor}
+use Rattle.ang_typed.specs.declared.statement.TypedLoop.{TypedLoop}
+use Rattle.ang_typed.specs.declared.statement.TypedStatement.TheOpen.{TypedStatement-F, TypedBlock-F, TypedChoice-F, TypedFor-F, TypedLoop-F}
+use Rattle.ang_typed.specs.declared.statement.TypedStatement.TheFolds.{fold-TypedStatement, fold-TypedBlock, fold-TypedChoice, fold-TypedFor, fold-TypedLoop}
 use Rattle.ang_typed.specs.declared.statement.Local as locals
 use Rattle.ang_typed.specs.declared.program.TypedFunction as functions
 use Rattle.ang_typed.specs.declared.program.Global as globals
@@ -49,9 +49,9 @@ abbrev pub argument_step : TypedArgument-F t.Arg t.Expr t.Site → t.Arg
 argument_step (TypedArgument-F.Value ty e) = t.by_value ty e
 argument_step (TypedArgument-F.Out x from to) = t.out x from to
 
-abbrev pub site_step : Site-F t.Arg t.Expr t.Site → t.Site
-site_step (Site-F.Named x) = t.named x
-site_step (Site-F.Of e m) = t.member_of e.value m
+abbrev pub site_step : TypedSite-F t.Arg t.Expr t.Site → t.Site
+site_step (TypedSite-F.Named x) = t.named x
+site_step (TypedSite-F.Of e m) = t.member_of e.value m
 
 abbrev pub view_expr : TypedExpression → t.Expr
 view_expr = fold-TypedExpression t.Arg t.Expr t.Site argument_step expression_step site_step
@@ -59,8 +59,8 @@ view_expr = fold-TypedExpression t.Arg t.Expr t.Site argument_step expression_st
 abbrev pub view_arg : TypedArgument → t.Arg
 view_arg = fold-TypedArgument t.Arg t.Expr t.Site argument_step expression_step site_step
 
-abbrev pub view_site : Site → t.Site
-view_site = fold-Site t.Arg t.Expr t.Site argument_step expression_step site_step
+abbrev pub view_site : TypedSite → t.Site
+view_site = fold-TypedSite t.Arg t.Expr t.Site argument_step expression_step site_step
 
 abbrev pub view_args : List TypedArgument → t.Args
 view_args es = t.args (map view_arg es)
@@ -95,13 +95,13 @@ statement_step (TypedStatement-F.For f) = f.value
 abbrev pub block_step : TypedBlock-F t.Stmt t.Stmts t.Stmt t.Stmt Repeated → t.Stmts
 block_step b = t.stmts b.statements.items
 
-abbrev pub choice_step : Choice-F t.Stmt t.Stmts t.Stmt t.Stmt Repeated → t.Stmt
+abbrev pub choice_step : TypedChoice-F t.Stmt t.Stmts t.Stmt t.Stmt Repeated → t.Stmt
 choice_step c = t.either (view_tree c.condition) c.then c.otherwise
 
-abbrev pub for_step : For-F t.Stmt t.Stmts t.Stmt t.Stmt Repeated → t.Stmt
+abbrev pub for_step : TypedFor-F t.Stmt t.Stmts t.Stmt t.Stmt Repeated → t.Stmt
 for_step f = t.for (t.stmts f.start.items) (view_option f.condition) (map view_expr f.steps.items) f.body
 
-abbrev pub loop_step : Loop-F t.Stmt t.Stmts t.Stmt t.Stmt Repeated → Repeated
+abbrev pub loop_step : TypedLoop-F t.Stmt t.Stmts t.Stmt t.Stmt Repeated → Repeated
 loop_step l = (view_tree l.condition, l.body)
 
 abbrev pub view_stmt : TypedStatement → t.Stmt
@@ -110,14 +110,14 @@ view_stmt = fold-TypedStatement t.Stmt t.Stmts t.Stmt t.Stmt Repeated statement_
 abbrev pub view_block : TypedBlock → t.Stmts
 view_block = fold-TypedBlock t.Stmt t.Stmts t.Stmt t.Stmt Repeated statement_step block_step choice_step for_step loop_step
 
-abbrev pub view_choice : Choice → t.Stmt
-view_choice = fold-Choice t.Stmt t.Stmts t.Stmt t.Stmt Repeated statement_step block_step choice_step for_step loop_step
+abbrev pub view_choice : TypedChoice → t.Stmt
+view_choice = fold-TypedChoice t.Stmt t.Stmts t.Stmt t.Stmt Repeated statement_step block_step choice_step for_step loop_step
 
-abbrev pub view_for : For → t.Stmt
-view_for = fold-For t.Stmt t.Stmts t.Stmt t.Stmt Repeated statement_step block_step choice_step for_step loop_step
+abbrev pub view_for : TypedFor → t.Stmt
+view_for = fold-TypedFor t.Stmt t.Stmts t.Stmt t.Stmt Repeated statement_step block_step choice_step for_step loop_step
 
-abbrev pub view_loop : Loop → Repeated
-view_loop = fold-Loop t.Stmt t.Stmts t.Stmt t.Stmt Repeated statement_step block_step choice_step for_step loop_step
+abbrev pub view_loop : TypedLoop → Repeated
+view_loop = fold-TypedLoop t.Stmt t.Stmts t.Stmt t.Stmt Repeated statement_step block_step choice_step for_step loop_step
 
 abbrev pub view_stmts : List TypedStatement → t.Stmts
 view_stmts ss = t.stmts (map view_stmt ss)

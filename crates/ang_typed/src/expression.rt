@@ -52,7 +52,7 @@ pub enum TypedCallee {
 /// What can be read and written.
 #[cycle(expression)]
 #[derive(Drop)]
-pub enum Site {
+pub enum TypedSite {
     /// A variable by its bare name.
     Named(TypedVariable),
     /// A member of an object, which is evaluated once. Where the site is written it is evaluated after the value;
@@ -143,7 +143,7 @@ pub enum TypedExpression {
     /// The value of what stands at a site of type `ty`.
     Read {
         /// Where it stands.
-        site: Site,
+        site: TypedSite,
         /// The site's type.
         ty: ArgType,
     },
@@ -253,7 +253,7 @@ pub enum TypedExpression {
     /// of the whole is what was stored.
     Assign {
         /// What is written.
-        site: Site,
+        site: TypedSite,
         /// The type of the site and of the value.
         ty: ArgType,
         /// What is stored.
@@ -264,7 +264,7 @@ pub enum TypedExpression {
     /// is converted back to `ty` and stored, and is the value of the whole.
     Compound {
         /// What is read and then written.
-        site: Site,
+        site: TypedSite,
         /// The site's type, an integer type.
         ty: Prim,
         /// What is done with what stands there and `value`.
@@ -277,7 +277,7 @@ pub enum TypedExpression {
     /// `++` or `--` of what stands at a site of the integer type `ty`, in that type, where it wraps.
     Step {
         /// What is changed by one.
-        site: Site,
+        site: TypedSite,
         /// The site's type, an integer type.
         ty: Prim,
         /// Whether it is one more or one less, and which value is given.

@@ -21,20 +21,20 @@ pub enum TypedStatement {
     /// its object.
     Return(Option<Box<TypedExpression>>),
     /// One of two blocks, by a condition.
-    If(Box<Choice>),
+    If(Box<TypedChoice>),
     /// A loop that goes on as long as its condition is true. A tick is taken before each test.
-    While(Box<Loop>),
+    While(Box<TypedLoop>),
     /// As `While`, but the body runs before the first test. A tick is taken before each test, after the body.
-    DoWhile(Box<Loop>),
+    DoWhile(Box<TypedLoop>),
     /// A block of its own: `start`, one `Locals` or `TypedExpression`, runs once in it; then as `While`, with the
     /// steps after the body of each pass. A condition that is not written is true.
-    For(Box<For>),
+    For(Box<TypedFor>),
 }
 
 /// A condition and the two blocks of which it picks one.
 #[cycle(statement)]
 #[derive(Drop)]
-pub struct Choice {
+pub struct TypedChoice {
     /// The truth value that decides.
     pub condition: Box<TypedExpression>,
     /// What runs where the condition is true.
@@ -46,7 +46,7 @@ pub struct Choice {
 /// A loop that has a condition alone, as `while` and `do` are written.
 #[cycle(statement)]
 #[derive(Drop)]
-pub struct Loop {
+pub struct TypedLoop {
     /// The truth value that is tested: of a `While` before each pass, of a `DoWhile` after it.
     pub condition: Box<TypedExpression>,
     /// What runs in each pass.
@@ -56,7 +56,7 @@ pub struct Loop {
 /// A loop with a start and steps of its own, as `for` is written.
 #[cycle(statement)]
 #[derive(Drop)]
-pub struct For {
+pub struct TypedFor {
     /// What runs once before the first test: no statement, or one.
     pub start: Vec<TypedStatement>,
     /// The truth value that is tested before each pass. Without one each test is passed.

@@ -6,7 +6,7 @@ use ang_check_operators::{
 };
 use ang_kinds::{ErrorKind, Place, Prim};
 use ang_lex::{Span, Token, TokenKind};
-use ang_typed::{Site, TypedExpression, TypedVariable};
+use ang_typed::{TypedExpression, TypedSite, TypedVariable};
 use ang_types::{ArgType, Lineage};
 use std::alloc::Global;
 
@@ -44,7 +44,7 @@ fn variable(
         bare: true,
         name: token(TokenKind::Name, column),
     };
-    let site = Site::Named(TypedVariable::Local(0));
+    let site = TypedSite::Named(TypedVariable::Local(0));
     Ok(reading(alloc, at(column), site, ty, target)?)
 }
 

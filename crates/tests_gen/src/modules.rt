@@ -5,8 +5,8 @@ use ang_kinds::{List, Pass, Prim};
 use ang_lower::lower;
 use ang_meaning::{Arithmetic, Callee, Comparison as Test, Operation, Passing, Update};
 use ang_typed::{
-    Comparison, Global as GlobalVariable, Loop, Site, StepKind, Typed, TypedBlock, TypedExpression,
-    TypedFunction, TypedParameter, TypedStatement, TypedVariable,
+    Comparison, Global as GlobalVariable, StepKind, Typed, TypedBlock, TypedExpression,
+    TypedFunction, TypedLoop, TypedParameter, TypedSite, TypedStatement, TypedVariable,
 };
 use ang_types::ArgType;
 use std::alloc::{AllocError, Global};
@@ -23,7 +23,7 @@ fn number(alloc: Global, value: u64) -> Result<Box<TypedExpression>, AllocError>
 }
 
 /// The parameter n, which is local 0.
-const N: Site = Site::Named(TypedVariable::Local(0));
+const N: TypedSite = TypedSite::Named(TypedVariable::Local(0));
 
 /// `n > 0`
 fn positive(alloc: Global) -> Result<Box<TypedExpression>, AllocError> {
@@ -49,11 +49,11 @@ fn less(alloc: Global) -> Result<TypedStatement, AllocError> {
 }
 
 /// `while (n > 0) { --n; }`
-fn repeated(alloc: Global) -> Result<Box<Loop>, AllocError> {
+fn repeated(alloc: Global) -> Result<Box<TypedLoop>, AllocError> {
     let statements = vec![in alloc; less(alloc)?]?;
     let condition = positive(alloc)?;
     let body = TypedBlock { statements };
-    Ok(Box::new(alloc, Loop { condition, body })?)
+    Ok(Box::new(alloc, TypedLoop { condition, body })?)
 }
 
 /// `void f(int n) { while (n > 0) { --n; } }`

@@ -2,9 +2,9 @@
 //! a tree down has nothing to drop before its end.
 use ang_kinds::{List, Pass, Prim};
 use ang_typed::{
-    Choice, Comparison, For, Global as GlobalVariable, Local, Loop, Operator, Site, StepKind,
-    Typed, TypedArgument, TypedBlock, TypedCallee, TypedExpression, TypedFunction, TypedMember,
-    TypedParameter, TypedStatement, TypedVariable,
+    Comparison, Global as GlobalVariable, Local, Operator, StepKind, Typed, TypedArgument,
+    TypedBlock, TypedCallee, TypedChoice, TypedExpression, TypedFor, TypedFunction, TypedLoop,
+    TypedMember, TypedParameter, TypedSite, TypedStatement, TypedVariable,
 };
 use ang_types::ArgType;
 use std::alloc::{AllocError, Global};
@@ -13,7 +13,7 @@ pub const INT: ArgType = ArgType::Plain(Prim::I32);
 
 pub type Tree = Result<Box<TypedExpression>, AllocError>;
 
-pub type Place = Result<Site, AllocError>;
+pub type Place = Result<TypedSite, AllocError>;
 
 pub type Arguments = Result<Vec<TypedArgument>, AllocError>;
 
@@ -41,13 +41,13 @@ pub fn null(alloc: Global) -> Tree {
 }
 
 pub fn named(variable: TypedVariable) -> Place {
-    Ok(Site::Named(variable))
+    Ok(TypedSite::Named(variable))
 }
 
 /// A member of an object.
 pub fn member_of(object: Tree, member: TypedMember) -> Place {
     let object = object?;
-    Ok(Site::Of { object, member })
+    Ok(TypedSite::Of { object, member })
 }
 
 pub fn read_at(alloc: Global, site: Place) -> Tree {
@@ -323,7 +323,7 @@ pub fn choice(alloc: Global, condition: Tree, then: Rows, otherwise: Rows) -> Ro
         alloc,
         TypedStatement::If(Box::new(
             alloc,
-            Choice {
+            TypedChoice {
                 condition,
                 then: TypedBlock { statements: then },
                 otherwise: TypedBlock {
@@ -334,11 +334,11 @@ pub fn choice(alloc: Global, condition: Tree, then: Rows, otherwise: Rows) -> Ro
     )
 }
 
-fn loop_of(alloc: Global, condition: Tree, statements: Rows) -> Result<Box<Loop>, AllocError> {
+fn loop_of(alloc: Global, condition: Tree, statements: Rows) -> Result<Box<TypedLoop>, AllocError> {
     let condition = condition?;
     let statements = statements?;
     let body = TypedBlock { statements };
-    Ok(Box::new(alloc, Loop { condition, body })?)
+    Ok(Box::new(alloc, TypedLoop { condition, body })?)
 }
 
 pub fn while_loop(alloc: Global, condition: Tree, statements: Rows) -> Row {
@@ -365,7 +365,7 @@ pub fn for_loop(alloc: Global, start: Rows, condition: Tree, step: Tree, body: R
         alloc,
         TypedStatement::For(Box::new(
             alloc,
-            For {
+            TypedFor {
                 start,
                 condition: Some(condition),
                 steps,

@@ -10,8 +10,8 @@ use ang_core::CoreBody;
 use ang_kinds::{EntityNo, Pass, Prim};
 use ang_lower::lower;
 use ang_typed::{
-    Comparison, Global as GlobalVariable, HostEntity, Operator, Site, StepKind, Typed, TypedCallee,
-    TypedExpression, TypedVariable,
+    Comparison, Global as GlobalVariable, HostEntity, Operator, StepKind, Typed, TypedCallee,
+    TypedExpression, TypedSite, TypedVariable,
 };
 use ang_types::ArgType;
 use std::alloc::{AllocError, Global};
@@ -192,7 +192,7 @@ fn changed(alloc: Global, value: Tree) -> Tree {
     leaf(
         alloc,
         TypedExpression::Compound {
-            site: Site::Named(TypedVariable::Global(2)),
+            site: TypedSite::Named(TypedVariable::Global(2)),
             ty: Prim::U8,
             operator: Operator::BitXor,
             operating: Prim::I64,
