@@ -21,8 +21,8 @@ mod rings;
 pub use ang_kinds::Unbuilt;
 pub use ang_names_classes::heading_of;
 pub use ang_names_known::{
-    Access, Constructor, Family, Field, Method, Names, Origin, ScriptFunction, ScriptGlobal,
-    ScriptParameter, Written,
+    Access, Family, Field, Names, Origin, ScriptConstructor, ScriptFunction, ScriptGlobal,
+    ScriptMethod, ScriptParameter, Written,
 };
 pub use declaring::{declare, names_over, phase_refusals, unbuilt};
 pub use headings::heading_refusal;
