@@ -115,9 +115,9 @@ fn run_rows(rt: &HostRuntime, path: &str) -> io::Result<bool> {
     while !left.is_empty() {
         let (row, after) = rows::until_row(left);
         if run_row(rt, path, row, of_all)? {
-            as_stored += 1;
+            as_stored = as_stored.saturating_add(1);
         }
-        count += 1;
+        count = count.saturating_add(1);
         left = after;
     }
     println!(rt; "{path}: {as_stored} of {count} rows as stored")?;
