@@ -28,7 +28,8 @@ use Rattle.ang_check_context.specs.declared.scope.Within.{Within}
 use Rattle.ang_names_known.specs.Items.{each_after}
 use Rattle.ang_names_known.specs.Lookup.{Numbered, kin_of}
 use Rattle.ang_names_known.specs.Spaces.{ancestors_of}
-use Rattle.ang_names_listed.specs.Sources.{Source, text_of, name_of}
+use Rattle.ang_lex.specs.Text.{text_of}
+use Rattle.ang_names_listed.specs.Sources.{Source, name_of}
 use Rattle.ang_check_operators.specs.Refusals.{Typing}
 use Rattle.ang_check_context.specs.Scope.{BodyContext}
 use Rattle.ang_check.specs.Typing.{Base, this_parameter, typed_parameters, function_typing, method_body_typing, constructor_typing, global_typing, implicit_super}

@@ -14,9 +14,8 @@ use crate::found::{Found, note_default, note_member};
 use crate::parts::Build;
 use crate::{constructor_typing, implicit_super, method_typing};
 use ang_check_context::{BodyContext, Within};
-use ang_lex::Token;
+use ang_lex::{Token, text_of};
 use ang_names_known::{Family, ScriptConstructor, ScriptMethod};
-use ang_names_listed::text_at;
 use ang_tree as written;
 use ang_tree::{BaseName, Member};
 use std::alloc::{AllocError, Global};
@@ -225,7 +224,7 @@ fn name_among(text: &[u8], family: &Family, own: &Token, bases: &[BaseName]) -> 
         (find (bodies.names_family text.now family.now) bases.now) own.now }
 {
     for base in bases {
-        if family.name.as_slice() == text_at(text, &base.name) {
+        if family.name.as_slice() == text_of(text, &base.name) {
             return base.name;
         }
     }

@@ -13,7 +13,7 @@ use Rattle.ang_types.specs.Ranks.{Ancestors}
 use Rattle.ang_typed.specs.declared.expression.TypedVariable.{TypedVariable}
 use Rattle.ang_names_known.specs.Lookup.{FoundMethod, may_use}
 use Rattle.ang_names_known.specs.Spaces.{family_type, family_of_type}
-use Rattle.ang_names_listed.specs.Sources.{text_of}
+use Rattle.ang_lex.specs.Text.{text_of}
 use Rattle.ang_check_operators.specs.Operands.{Operand, fit, integer, object_of, site_in}
 use Rattle.ang_check_operators.specs.Refusals.{Typing, fault}
 use Rattle.ang_check_context.specs.declared.scope.LocalVariable.{LocalVariable}

@@ -29,7 +29,8 @@ use Rattle.ang_names_classes.specs.Headings.{parameter_role}
 use Rattle.ang_names_classes.specs.Resolved.{families_in, space_of_declared}
 use Rattle.ang_names_listed.specs.declared.role.TypePosition.{TypePosition}
 use Rattle.ang_names_listed.specs.declared.role.TypePosition.TheVariants as role
-use Rattle.ang_names_listed.specs.Sources.{Source, text_of}
+use Rattle.ang_lex.specs.Text.{text_of}
+use Rattle.ang_names_listed.specs.Sources.{Source}
 use Rattle.ang_names_listed.specs.Types.{TypeOrError, type_in}
 use Rattle.ang_names.specs.Heirs.{at_name, ancestor_refusal, of_interfaces, missing_among, missing_by, missing_method, inherits, field_refusal, overridden, is_bad_override, method_refusal, first_refused, is_before, earlier, class_refusal, heir_refusal, cycle_refusal}
 use Rattle.ang_names.specs.Refusals.{refusal_if, why_refused, most_parameters, parameter_limit, type_refusal_of, parameters_refusal, parameter_list_refusal, result_role, heading_refusal, clashes_with_member, duplicate, member_refusal, members_refusal, most_members, shape_named, names_class, is_bad_base, bases_refusal, member_limit, family_refusal, part_refusal, type_refusal}

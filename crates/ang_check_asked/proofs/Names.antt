@@ -17,7 +17,7 @@ use Rattle.ang_names_known.specs.Lookup.{field_named, may_use}
 use Rattle.ang_names_known.specs.Spaces.{family_of_type, type_of_name}
 use Rattle.ang_names_listed.specs.declared.role.TypePosition.{TypePosition}
 use Rattle.ang_names_listed.specs.declared.role.TypePosition.TheVariants as role
-use Rattle.ang_names_listed.specs.Sources.{text_of}
+use Rattle.ang_lex.specs.Text.{text_of}
 use Rattle.ang_names_listed.specs.Types.{TypeOrError, type_in}
 use Rattle.ang_check_operators.specs.Operands.{Operand, object_of}
 use Rattle.ang_check_operators.specs.Refusals.{Typing, use_refused}

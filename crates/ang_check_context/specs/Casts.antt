@@ -14,7 +14,7 @@ use Rattle.ang_names_known.specs.Spaces.{family_of_type}
 use Rattle.ang_check_operators.specs.Operands.{Operand, operand, object_of}
 use Rattle.ang_check_operators.specs.Refusals.{Typing, fault, refused, use_refused}
 use Rattle.ang_check_context.specs.Scope.{BodyContext, space_of, is_there}
-use Rattle.ang_names_listed.specs.Sources.{text_of}
+use Rattle.ang_lex.specs.Text.{text_of}
 use Rattle.ang_names_listed.specs.Types.{TypeOrError, type_in, is_unknown_type}
 
 -- a type that is refused at its name: an unknown name is a use of it

@@ -16,7 +16,7 @@ use Rattle.ang_check_operators.specs.Refusals.{Typing, refused, use_refused}
 use Rattle.ang_check_context.specs.Access.{if_reached}
 use Rattle.ang_check_context.specs.Scope.{BodyContext, scope_of}
 use Rattle.ang_check_uses.specs.Uses.{resolution_of, entity_of, why}
-use Rattle.ang_names_listed.specs.Sources.{text_of}
+use Rattle.ang_lex.specs.Text.{text_of}
 
 abbrev pub member_at : Operand → Token → t.Site → ArgType → Bool → Operand
 member_at a x site ty read_only = reading a.place site ty (record { read_only = read_only; bare = false; name = x })

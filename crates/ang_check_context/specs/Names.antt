@@ -25,7 +25,7 @@ use Rattle.ang_check_operators.specs.Refusals.{Typing, refused, use_refused}
 use Rattle.ang_check_context.specs.Access.{if_reached}
 use Rattle.ang_check_context.specs.Scope.{BodyContext, scope_of, last_named, is_there}
 use Rattle.ang_check_uses.specs.Uses.{resolution_of, value_of, why}
-use Rattle.ang_names_listed.specs.Sources.{text_of}
+use Rattle.ang_lex.specs.Text.{text_of}
 
 -- ---- `this`
 

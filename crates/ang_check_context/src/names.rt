@@ -4,7 +4,7 @@ ghost use Rattle.ang_check_operators.specs.Refusals.{Gives, use_refused as refus
 ghost use Rattle.ang_check_operators.specs.View.{view_operand};
 ghost use Rattle.ang_check_context.specs.Names as spec;
 ghost use Rattle.ang_check_context.specs.Scope as scopes;
-ghost use Rattle.ang_names_listed.specs.Sources as sources;
+ghost use Rattle.ang_lex.specs.Text.{text_of};
 
 use crate::context::{BodyContext, access_error, is_there, may_reach, resolved};
 use crate::scope::{Locals, Within};
@@ -44,7 +44,7 @@ fn value_refused(
     name: &Token,
 ) -> TypingError
     ensures exact { result ≡ TypingError.Refused (refusal_of kind name.now Asks.Value
-        (scopes.is_there context.now locals.now (sources.text_of context.now.text name.now))) }
+        (scopes.is_there context.now locals.now (text_of context.now.text name.now))) }
 {
     let is_there = is_there(context, locals, context.text_of(name));
     use_refused(kind, name, Asks::Value, is_there)
@@ -58,7 +58,7 @@ fn value_use(
     resolution: Resolution,
 ) -> Result<Operand, TypingError>
     ensures exact { Gives view_operand result (spec.value_use context.now name.now
-        (scopes.is_there context.now locals.now (sources.text_of context.now.text name.now))
+        (scopes.is_there context.now locals.now (text_of context.now.text name.now))
         resolution) }
 {
     match resolution {
@@ -115,7 +115,7 @@ fn field_or_global(
     found: Option<(Within, FoundField)>,
 ) -> Result<Operand, TypingError>
     ensures exact { Gives view_operand result (spec.field_or_global context.now name.now
-        (scopes.is_there context.now locals.now (sources.text_of context.now.text name.now))
+        (scopes.is_there context.now locals.now (text_of context.now.text name.now))
         found) }
 {
     match found {

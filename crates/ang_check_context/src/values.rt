@@ -4,7 +4,7 @@ ghost use Rattle.ang_check_operators.specs.Refusals.{Gives, use_refused as refus
 ghost use Rattle.ang_check_operators.specs.View.{view_operand};
 ghost use Rattle.ang_check_context.specs.Names as spec;
 ghost use Rattle.ang_check_context.specs.Scope as scopes;
-ghost use Rattle.ang_names_listed.specs.Sources as sources;
+ghost use Rattle.ang_lex.specs.Text.{text_of};
 
 use crate::context::{BodyContext, is_there, resolved};
 use crate::scope::Locals;
@@ -69,7 +69,7 @@ fn enumeration_refused(
     name: &Token,
 ) -> TypingError
     ensures exact { result ≡ TypingError.Refused (refusal_of kind name.now Asks.Enumeration
-        (scopes.is_there context.now locals.now (sources.text_of context.now.text name.now))) }
+        (scopes.is_there context.now locals.now (text_of context.now.text name.now))) }
 {
     let is_there = is_there(context, locals, context.text_of(name));
     use_refused(kind, name, Asks::Enumeration, is_there)
@@ -86,7 +86,7 @@ fn scoped_name_use(
     ensures exact { Gives view_operand result
         (spec.scoped_name_use context.now enumeration.now name.now
         (scopes.is_there context.now locals.now
-        (sources.text_of context.now.text enumeration.now)) resolution) }
+        (text_of context.now.text enumeration.now)) resolution) }
 {
     match resolution {
         Resolution::Enumeration(number) => {

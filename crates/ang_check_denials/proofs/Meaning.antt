@@ -17,7 +17,7 @@ use Rattle.ang_types.specs.Ranks.{Ancestors}
 use Rattle.ang_view.specs.declared.entry.Entry.{Entry}
 use Rattle.ang_view.specs.Hidden.{seen_with}
 use Rattle.ang_view.specs.Registration.{RegistrationList, entry_at, is_function_named, is_number, seen}
-use Rattle.ang_view.specs.Named.{values_named}
+use Rattle.ang_view.specs.Named.{values_named, is_factory}
 use Rattle.ang_view.specs.Types.{is_enumeration_named, is_type_named}
 use Rattle.ang_names_known.specs.declared.host.SeenFunction.{SeenFunction}
 use Rattle.ang_names_known.specs.declared.host.SeenProperty.{SeenProperty}
@@ -33,7 +33,7 @@ use Rattle.ang_names_known.specs.declared.names.ScriptGlobal.{ScriptGlobal}
 use Rattle.ang_names_known.specs.declared.space.Named.{Named}
 use Rattle.ang_names_known.specs.declared.space.Named.TheVariants as named
 use Rattle.ang_names_known.specs.Added.{added_property}
-use Rattle.ang_names_known.specs.Host.{found, function_of_entry, host_where, is_factory, is_wanted, property_found, property_where}
+use Rattle.ang_names_known.specs.Host.{found, function_of_entry, host_where, is_wanted, property_found, property_where}
 use Rattle.ang_names_known.specs.Items.{is_empty}
 use Rattle.ang_names_known.specs.Lookup.{default_of, functions_named, global_named}
 use Rattle.ang_names_known.specs.Spaces.{family_of_type}

@@ -24,7 +24,7 @@ use Rattle.ang_names_known.specs.declared.names.FoundField.{FoundField}
 use Rattle.ang_names_known.specs.Items.{is_empty}
 use Rattle.ang_names_known.specs.Lookup.{FoundMethod, field_named, methods_named, parameters_of, is_under, may_use}
 use Rattle.ang_names_known.specs.Spaces.{family_type}
-use Rattle.ang_names_listed.specs.Sources.{text_of}
+use Rattle.ang_lex.specs.Text.{text_of}
 use Rattle.ang_check_operators.specs.declared.operand.SiteUse.{SiteUse}
 use Rattle.ang_check_operators.specs.Refusals.{Typing, fault}
 use Rattle.ang_check_operators.specs.Operands.{Operand, fit, integer, site_in}

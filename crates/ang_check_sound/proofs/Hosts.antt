@@ -8,6 +8,7 @@ use Rattle.ang_kinds.specs.declared.types.Pass.TheVariants.{RefOut}
 use Rattle.ang_view.specs.declared.entry.Entry.{Entry}
 use Rattle.ang_view.specs.declared.entry.EntryKind.{EntryKind}
 use Rattle.ang_view.specs.declared.entry.EntryKind.TheVariants as entry
+use Rattle.ang_view.specs.Named.{is_factory}
 use Rattle.ang_view.specs.Registration.{RegistrationList, entry_at, is_function, is_number}
 use Rattle.ang_view.specs.Values.{AreValues, EntryTakesValues, TakesValues}
 use Rattle.ang_types.specs.declared.arg_type.ArgType.{ArgType}
@@ -18,7 +19,7 @@ use Rattle.ang_names_known.specs.declared.host.Wanted.{Wanted}
 use Rattle.ang_names_known.specs.declared.host.Wanted.TheVariants as wanted
 use Rattle.ang_names_known.specs.declared.host.WantedProperty.{WantedProperty}
 use Rattle.ang_names_known.specs.declared.host.WantedProperty.TheVariants as property
-use Rattle.ang_names_known.specs.Host.{host_type, in_front, host_parameters, host_function, function_of_entry, is_factory, is_method, is_wanted, found, scan, host_where, is_global, is_property, is_wanted_property, property_with, property_found, first_found, property_where}
+use Rattle.ang_names_known.specs.Host.{host_type, in_front, host_parameters, host_function, function_of_entry, is_method, is_wanted, found, scan, host_where, is_global, is_property, is_wanted_property, property_with, property_found, first_found, property_where}
 use Rattle.ang_tree.specs.Stmt.{Every}
 use Rattle.ang_source.specs.Sound.{IsEntity, IsWritable}
 use Rattle.ang_check_sound.proofs.Items.{every_joined, every_option, tested, first_true}

@@ -16,7 +16,7 @@ use Rattle.ang_names_known.specs.declared.names.FoundField.{FoundField}
 use Rattle.ang_names_known.specs.Lookup.{field_named, may_use}
 use Rattle.ang_names_known.specs.Spaces.{family_of_type}
 use Rattle.ang_names_listed.specs.declared.role.TypePosition.TheVariants as role
-use Rattle.ang_names_listed.specs.Sources.{text_of}
+use Rattle.ang_lex.specs.Text.{text_of}
 use Rattle.ang_names_listed.specs.Types.{TypeOrError, is_unknown_type, type_in}
 use Rattle.ang_check_operators.specs.Operands.{Operand, object_of}
 use Rattle.ang_check_context.specs.declared.scope.LocalVariable.{LocalVariable}

@@ -9,7 +9,7 @@ use Rattle.ang_names_known.specs.declared.names.ScriptFunction.{ScriptFunction}
 use Rattle.ang_names_known.specs.declared.names.ScriptGlobal.{ScriptGlobal}
 use Rattle.ang_names_known.specs.Spaces.{space_of_names}
 use Rattle.ang_names_listed.specs.declared.role.TypePosition.TheVariants as role
-use Rattle.ang_names_listed.specs.Sources.{text_of}
+use Rattle.ang_lex.specs.Text.{text_of}
 use Rattle.ang_names_listed.specs.Types.{written_in}
 use Rattle.ang_check.specs.Bodies.{Part, a_function, a_global, a_method, a_constructor, a_default, method_at, constructor_at}
 

@@ -25,7 +25,7 @@ use Rattle.ang_check_context.specs.Casts.{type_or_refusal}
 use Rattle.ang_check_context.specs.Scope.{BodyContext, space_of}
 use Rattle.ang_check_typing.specs.Calls.{default_typing, made_typing}
 use Rattle.ang_check_typing.specs.Typing.{typing_of, typing_of_args, typing_of_all}
-use Rattle.ang_names_listed.specs.Sources.{text_of}
+use Rattle.ang_lex.specs.Text.{text_of}
 use Rattle.ang_names_listed.specs.Types.{type_in, is_const_handle}
 
 -- What is the same for all statements of a function: what its names are looked up in, how it returns, and how many locals it begins

@@ -38,7 +38,7 @@ use Rattle.ang_check_context.specs.Names.{this_operand}
 use Rattle.ang_check_context.specs.Operands.{types_of}
 use Rattle.ang_check_context.specs.Scope.{BodyContext, scope_of, is_there}
 use Rattle.ang_check_uses.specs.Uses.{resolution_of, best_method, best_of_those, makers_of, why}
-use Rattle.ang_names_listed.specs.Sources.{text_of}
+use Rattle.ang_lex.specs.Text.{text_of}
 
 -- ---- arguments
 

@@ -14,7 +14,7 @@ use Rattle.ang_check_context.specs.Members.{member_typing}
 use Rattle.ang_check_context.specs.Names.{name_typing, scoped_name_typing, this_typing}
 use Rattle.ang_check_context.specs.Scope.{BodyContext}
 use Rattle.ang_check_typing.specs.Calls.{call_typing, scoped_typing, method_call_typing}
-use Rattle.ang_names_listed.specs.Sources.{text_of}
+use Rattle.ang_lex.specs.Text.{text_of}
 
 -- a number, `true`, `false`, `null` or `this`
 abbrev pub word_by : BodyContext → Token → TokenKind → Typing Operand

@@ -4,7 +4,7 @@ ghost use Rattle.ang_check_operators.specs.Refusals.{Gives, use_refused as refus
 ghost use Rattle.ang_check_operators.specs.View.{view_operand, view_operands};
 ghost use Rattle.ang_check_context.specs.Scope as scopes;
 ghost use Rattle.ang_check_typing.specs.Calls as spec;
-ghost use Rattle.ang_names_listed.specs.Sources as sources;
+ghost use Rattle.ang_lex.specs.Text.{text_of};
 ghost use Rattle.ang_typed.specs.View.{view_arg, view_tree};
 
 use crate::arguments::arguments_for;
@@ -113,7 +113,7 @@ fn bare_refused(
     asks: Asks,
 ) -> TypingError
     ensures exact { result ≡ TypingError.Refused (refusal_of kind name.now asks
-        (scopes.is_there context.now locals.now (sources.text_of context.now.text name.now))) }
+        (scopes.is_there context.now locals.now (text_of context.now.text name.now))) }
 {
     let is_there = is_there(context, locals, context.text_of(name));
     use_refused(kind, name, asks, is_there)
@@ -130,7 +130,7 @@ pub fn called_bare(
     resolution: Resolution,
 ) -> Result<Operand, TypingError>
     ensures exact { Gives view_operand result (spec.called_use context.now site.place site.name
-        asks (scopes.is_there context.now locals.now (sources.text_of context.now.text site.name))
+        asks (scopes.is_there context.now locals.now (text_of context.now.text site.name))
         (view_operands operands.items) resolution) }
 {
     match resolution {

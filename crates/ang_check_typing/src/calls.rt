@@ -11,7 +11,7 @@ ghost use Rattle.ang_check_context.specs.Names.{this_operand as own_operand};
 ghost use Rattle.ang_check_context.specs.Operands.{types_of as all_types};
 ghost use Rattle.ang_check_context.specs.Scope as scopes;
 ghost use Rattle.ang_check_uses.specs.Uses as uses;
-ghost use Rattle.ang_names_listed.specs.Sources as sources;
+ghost use Rattle.ang_lex.specs.Text.{text_of};
 
 use crate::called::{CallSite, called_bare};
 use crate::enumerated::enumerated_of;
@@ -59,7 +59,7 @@ fn bare_use(
     resolution: Resolution,
 ) -> Result<Operand, TypingError>
     ensures exact { Gives view_operand result (spec.bare_use context.now name.now asks
-        (scopes.is_there context.now locals.now (sources.text_of context.now.text name.now))
+        (scopes.is_there context.now locals.now (text_of context.now.text name.now))
         (view_operands operands.items) resolution) }
 {
     match resolution {
@@ -85,10 +85,10 @@ fn function_call(
 ) -> Result<Operand, TypingError>
     ensures exact { Gives view_operand result (spec.bare_use context.now name.now
         (Asks.Call (all_types (view_operands operands.items)))
-        (scopes.is_there context.now locals.now (sources.text_of context.now.text name.now))
+        (scopes.is_there context.now locals.now (text_of context.now.text name.now))
         (view_operands operands.items)
         (uses.resolution_of (scopes.scope_of context.now)
-        (sources.text_of context.now.text name.now)
+        (text_of context.now.text name.now)
         (Asks.Call (all_types (view_operands operands.items))))) }
 {
     let types = types_of(alloc, operands.as_slice())?;
@@ -184,7 +184,7 @@ fn method_above(
     ensures exact { IfOk result (λ r. r ≡ uses.best_method context.now.ancestors
         (flat_map (spec.direct_method on.number)
         (lookup.methods_named context.now.names.families family
-        (sources.text_of context.now.text name.now)))
+        (text_of context.now.text name.now)))
         on.number on.read_only (all_types (view_operands operands.now))) }
 {
     let methods = context

@@ -30,7 +30,7 @@ use Rattle.ang_names_listed.specs.declared.spelling.Base.{Base}
 use Rattle.ang_names_listed.specs.declared.spelling.Base.TheVariants as base
 use Rattle.ang_names_listed.specs.declared.spelling.Sign.{Sign}
 use Rattle.ang_names_listed.specs.declared.spelling.Sign.TheVariants as sign
-use Rattle.ang_names_listed.specs.Sources.{text_of}
+use Rattle.ang_lex.specs.Text.{text_of}
 use Rattle.ang_names_listed.specs.Spellings.{base_by, sign_by, sign_of, sign_number, spelling_of, same_base, same_spelling, same_spellings}
 use Rattle.ang_names_listed.specs.Types.{TypeOrError, without_handle, object_type, written_type, no_void, passed, own_role, pass_of, type_in, is_const_handle, settled, ◌and_then◌}
 use Rattle.ang_names.specs.Refusals.{parameters_refusal, type_refusal_of, why_refused}

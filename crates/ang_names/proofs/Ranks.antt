@@ -24,7 +24,8 @@ use Rattle.ang_names_listed.specs.Taken.{each_refused}
 use Rattle.ang_names_classes.specs.Headings.{signatures_of}
 use Rattle.ang_names_classes.specs.Hierarchy.{field_types_at, held_by, holds, is_base, is_parent, is_place, is_under_or, names_place, place_of}
 use Rattle.ang_names_classes.specs.Resolved.{families_after, families_in, functions_in, names_of, space_of_declared}
-use Rattle.ang_names_listed.specs.Sources.{Source, text_of}
+use Rattle.ang_lex.specs.Text.{text_of}
+use Rattle.ang_names_listed.specs.Sources.{Source}
 use Rattle.ang_names.specs.Phases as phase
 use Rattle.ang_names.specs.Heirs.{ancestor_refusal, at_name, cycle_refusal}
 use Rattle.ang_names.specs.ByNumber.{refused_from}

@@ -25,7 +25,8 @@ use Rattle.ang_names_listed.specs.declared.role.TypePosition.TheVariants as role
 use Rattle.ang_names_known.specs.Spaces.{Space}
 use Rattle.ang_names_listed.specs.Declarations.{Declaring, families_of, family_name}
 use Rattle.ang_types.specs.Refusals.{plain_refusal}
-use Rattle.ang_names_listed.specs.Sources.{text_of, error_at}
+use Rattle.ang_lex.specs.Text.{text_of}
+use Rattle.ang_names_listed.specs.Sources.{error_at}
 use Rattle.ang_names_listed.specs.Spellings.{same_spellings}
 use Rattle.ang_names_listed.specs.Types.{TypeOrError, type_in, is_unknown_type}
 use Rattle.ang_names_classes.specs.Headings.{parameter_role}

@@ -5,7 +5,8 @@ ghost use Rattle.ang_names.specs.Before as spec;
 ghost use Rattle.ang_names.specs.Refusals.{clashes_with_member};
 
 use ang_index::Index;
-use ang_names_listed::{ListedMember, text_at};
+use ang_lex::text_of;
+use ang_names_listed::ListedMember;
 use std::alloc::{AllocError, Global};
 use std::marker::Model;
 
@@ -64,7 +65,7 @@ impl<'t, 'm, 'a> Before<'t, 'm, 'a> {
         ensures all { list_any (spec.clashes_at self.now member.now) result.now
             ≡ list_any (clashes_with_member self.now.text member.now) self.now.items }
     {
-        self.places.find(MEMBERS, text_at(self.text, &member.name))
+        self.places.find(MEMBERS, text_of(self.text, &member.name))
     }
 
     /// Goes on to these, which are one member more.
@@ -82,7 +83,7 @@ impl<'t, 'm, 'a> Before<'t, 'm, 'a> {
     {
         let number = self.items.len();
         self.places
-            .push(alloc, MEMBERS, text_at(self.text, &member.name), number)?;
+            .push(alloc, MEMBERS, text_of(self.text, &member.name), number)?;
         self.items = items;
         Ok(())
     }

@@ -2,7 +2,7 @@
 ghost use Rattle.std.specs.Prelude.{◌≡◌, [], true, false, not, bytes_eq, IfOk};
 ghost use Rattle.std.specs.List.{list_any};
 ghost use Rattle.std.specs.Option.{option_or};
-ghost use Rattle.ang_names_listed.specs.Sources.{text_of};
+ghost use Rattle.ang_lex.specs.Text.{text_of};
 ghost use Rattle.ang_names.specs.Before as earlier;
 ghost use Rattle.ang_names.specs.Refusals as spec;
 
@@ -10,12 +10,12 @@ use crate::before::Before;
 use crate::families::base_named;
 use crate::headings::{parameter_list_refusal, refusal_if, type_refusal_of};
 use ang_kinds::ErrorKind;
-use ang_lex::Token;
+use ang_lex::{Token, text_of};
 use ang_names_classes::Placed;
 use ang_names_known::Space;
 use ang_names_listed::{
     Attributes, ListedDeclaration, ListedFamily, ListedMember, MemberKind, TypePosition,
-    have_same_types, text_at,
+    have_same_types,
 };
 use ang_tree::Parameter;
 use ang_types::Refused;
@@ -52,7 +52,7 @@ fn excludes_member(text: &[u8], kind: &MemberKind<'_>, other: &MemberKind<'_>) -
 fn clashes(text: &[u8], member: &ListedMember<'_>, earlier: &ListedMember<'_>) -> bool
     ensures exact { result ≡ spec.clashes_with_member text.now member.now earlier.now }
 {
-    text_at(text, &member.name) == text_at(text, &earlier.name)
+    text_of(text, &member.name) == text_of(text, &earlier.name)
         && excludes_member(text, &member.kind, &earlier.kind)
 }
 
@@ -132,7 +132,7 @@ fn misnamed(
         (not (bytes_eq (text_of text.now name.now) family.now)) ErrorKind.BadType text.now
         name.now) }
 {
-    let is_refused = text_at(text, name) != family;
+    let is_refused = text_of(text, name) != family;
     refusal_if(alloc, is_refused, ErrorKind::BadType, text, name)
 }
 
@@ -203,7 +203,7 @@ fn bases_refusal(
 {
     let mut has_class = false;
     for base in bases {
-        let (is_bad, names_class) = base_named(families, is_class, has_class, text_at(text, base));
+        let (is_bad, names_class) = base_named(families, is_class, has_class, text_of(text, base));
         let refused = refusal_if(alloc, is_bad, ErrorKind::BadBase, text, base)?;
         if refused.is_some() {
             return Ok(refused);
@@ -256,6 +256,6 @@ pub fn family_refusal(
     )? {
         return Ok(Some(refused));
     }
-    let name = text_at(text, &declared.name);
+    let name = text_of(text, &declared.name);
     members_refusal(alloc, space, text, name, shape.members.as_slice())
 }

@@ -12,7 +12,8 @@ use Rattle.ang_names_known.specs.declared.names.ScriptFunction.{ScriptFunction}
 use Rattle.ang_names_known.specs.declared.names.ScriptParameter.{ScriptParameter}
 use Rattle.ang_names_known.specs.Lookup.{same_parameter, same_parameters, same_type, same_written}
 use Rattle.ang_names_classes.specs.Headings.{same_signature}
-use Rattle.ang_names_classes.specs.Keys.{const_number, method_key, object_code, parameter_code, parameters_code, type_code}
+use Rattle.ang_names_listed.specs.Spellings.{const_number}
+use Rattle.ang_names_classes.specs.Keys.{method_key, object_code, parameter_code, parameters_code, type_code}
 
 same_number : (a b : ℕ) → (a == b) ≡ true → a ≡ b
 same_number a b h = search arith

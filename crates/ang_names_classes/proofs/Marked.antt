@@ -11,7 +11,7 @@ use Rattle.ang_names_graph.proofs.Begun.{begun_next}
 use Rattle.ang_names_graph.proofs.Rings.{edge_shown}
 use Rattle.ang_names_known.specs.Spaces.{Space}
 use Rattle.ang_names_listed.specs.Declarations.{Declaring}
-use Rattle.ang_names_listed.specs.Sources.{text_of}
+use Rattle.ang_lex.specs.Text.{text_of}
 use Rattle.ang_names_classes.specs.Hierarchy.{is_base, is_class_at, is_parent, is_place, names_place, place_of}
 use Rattle.ang_names_classes.specs.Tables.{base_places, carries, class_places, held_of, held_places, holds_itself}
 

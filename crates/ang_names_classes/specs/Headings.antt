@@ -19,7 +19,8 @@ use Rattle.ang_names_listed.specs.declared.listed.MemberKind.TheVariants as memb
 use Rattle.ang_names_listed.specs.Declarations.{Declaring}
 use Rattle.ang_names_listed.specs.declared.role.TypePosition.{TypePosition}
 use Rattle.ang_names_listed.specs.declared.role.TypePosition.TheVariants as role
-use Rattle.ang_names_listed.specs.Sources.{text_of, name_of}
+use Rattle.ang_lex.specs.Text.{text_of}
+use Rattle.ang_names_listed.specs.Sources.{name_of}
 use Rattle.ang_names_listed.specs.Types.{written_in, pass_of, own_role, imported_role}
 
 -- the role of a parameter of an import, or of any other function

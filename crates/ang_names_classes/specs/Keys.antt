@@ -1,5 +1,5 @@
 -- Methods as bytes, so that those of one signature are found by them. Methods that stand for one another have the same bytes.
-use Rattle.std.specs.Prelude.{ℕ, ◌+◌, Bool, true, false, List, [], ◌∷◌, ◌++◌}
+use Rattle.std.specs.Prelude.{ℕ, ◌+◌, Bool, List, [], ◌∷◌, ◌++◌}
 use Rattle.std.specs.Int.{to_le_bytes, w32}
 use Rattle.std.specs.List.{flat_map}
 use Rattle.ang_kinds.specs.declared.types.Pass.{Pass}
@@ -9,10 +9,7 @@ use Rattle.ang_view.specs.Numbers.{pass_number, primitive_number}
 use Rattle.ang_names_known.specs.declared.names.ScriptFunction.{ScriptFunction}
 use Rattle.ang_names_known.specs.declared.names.ScriptParameter.{ScriptParameter}
 use Rattle.ang_names_known.specs.declared.names.Written.{Written}
-
-abbrev pub const_number : Bool → ℕ
-const_number true = 1
-const_number false = 0
+use Rattle.ang_names_listed.specs.Spellings.{const_number}
 
 -- the type of an object or a handle, by which of both it is
 abbrev pub object_code : ℕ → ℕ → Bool → List ℕ

@@ -26,7 +26,7 @@ use Rattle.ang_names_listed.specs.declared.role.TypePosition.TheVariants as role
 use Rattle.ang_names_known.specs.Spaces.{Space}
 use Rattle.ang_names_known.specs.Items.{each_after}
 use Rattle.ang_names_listed.specs.Declarations.{Declaring, families_of, family_name, declared_name}
-use Rattle.ang_names_listed.specs.Sources.{text_of}
+use Rattle.ang_lex.specs.Text.{text_of}
 use Rattle.ang_names_listed.specs.Types.{written_in}
 use Rattle.ang_names_classes.specs.Headings.{function_as, heading_of, maker_of, signatures_of, slot_of}
 use Rattle.ang_names_classes.specs.Hierarchy.{field_type, field_types_at, holds, is_base, is_parent}

@@ -10,7 +10,7 @@ use Rattle.ang_names_listed.specs.declared.listed.ListedMember.{ListedMember}
 use Rattle.ang_names_listed.specs.declared.listed.MemberKind.{MemberKind}
 use Rattle.ang_names_listed.specs.declared.listed.MemberKind.TheVariants as member
 use Rattle.ang_names_listed.specs.Declarations.{Declaring}
-use Rattle.ang_names_listed.specs.Sources.{text_of}
+use Rattle.ang_lex.specs.Text.{text_of}
 use Rattle.ang_names_classes.specs.declared.tables.Tables.{Tables}
 use Rattle.ang_names_classes.specs.Headings.{signatures_of}
 use Rattle.ang_names_classes.specs.Hierarchy.{place_of, is_parent, is_base, is_class_at, holds, held_by, field_type}

@@ -1,11 +1,12 @@
 //! Bytes that methods of one signature share, so that these are found by them.
 ghost use Rattle.std.specs.Int.{to_le_bytes, w32};
 ghost use Rattle.std.specs.Prelude.{◌≡◌, ◌+◌, ◌++◌, ◌∷◌, IfOk, OnOk};
-ghost use Rattle.ang_view.specs.Numbers.{pass_number, primitive_number};
+ghost use Rattle.ang_view.specs.Numbers.{primitive_number};
 ghost use Rattle.ang_names_classes.specs.Keys as spec;
 
 use ang_kinds::{Pass, Prim};
 use ang_names_known::{ScriptFunction, ScriptParameter, Written};
+use ang_names_listed::{const_code, pass_code};
 use ang_types::ArgType;
 use std::alloc::{AllocError, Global};
 
@@ -22,23 +23,6 @@ fn primitive_code(primitive: Prim) -> u8
         Prim::U32 => 8,
         Prim::U64 => 9,
         Prim::Bool => 10,
-    }
-}
-
-fn const_code(is_const: bool) -> u8
-    ensures exact { result ≡ spec.const_number is_const }
-{
-    if is_const { 1 } else { 0 }
-}
-
-fn pass_code(pass: Pass) -> u8
-    ensures exact { result ≡ pass_number pass }
-{
-    match pass {
-        Pass::Value => 0,
-        Pass::RefIn => 1,
-        Pass::RefOut => 2,
-        Pass::RefInOut => 3,
     }
 }
 

@@ -3,8 +3,9 @@ ghost use Rattle.std.specs.Prelude.{◌≡◌, ◌≤◌, length, map as list_ma
 ghost use Rattle.ang_names_listed.specs.Declarations.{declaring_of, families_of, family_name};
 ghost use Rattle.ang_names_classes.specs.Resolved as spec;
 
+use ang_lex::text_of;
 use ang_names_known::{BorrowedText, Space};
-use ang_names_listed::{ListedDeclaration, Part, text_at};
+use ang_names_listed::{ListedDeclaration, Part};
 use ang_view::View;
 use std::alloc::{AllocError, Global};
 
@@ -13,7 +14,7 @@ fn family_name_of<'a>(declared: &ListedDeclaration<'a>) -> Option<BorrowedText<'
     ensures exact { result ≡ option_map family_name (declaring_of declared.now) }
 {
     match &declared.part {
-        Part::Family(_) => Some(BorrowedText::new(text_at(declared.text.bytes(), &declared.name))),
+        Part::Family(_) => Some(BorrowedText::new(text_of(declared.text.bytes(), &declared.name))),
         Part::Function(_, _) => None,
         Part::Import(_, _) => None,
         Part::Global(_) => None,

@@ -9,9 +9,10 @@ ghost use Rattle.ang_names_classes.specs.Tables as tables;
 use crate::held::held_places;
 use crate::placed::Placed;
 use crate::slots::{Signatures, signatures_of};
+use ang_lex::text_of;
 use ang_names_graph::{closed, order_of, push_joined_row, push_row, push_spread_row};
 use ang_names_known::Space;
-use ang_names_listed::{Declaring, text_at};
+use ang_names_listed::Declaring;
 use std::alloc::{AllocError, Global};
 
 /// What the families of a build are made by: what stands above what, and what reaches what, as tables
@@ -42,7 +43,7 @@ fn base_places(
     let mut places = Vec::new(alloc);
     let bases = family.shape().bases.as_slice();
     for base in bases {
-        if let Some(place) = families.place_of(text_at(family.text(), base)) {
+        if let Some(place) = families.place_of(text_of(family.text(), base)) {
             places.push(place)?;
         }
     }

@@ -9,14 +9,14 @@ use Rattle.ang_view.specs.declared.entry.EntryKind.{EntryKind}
 use Rattle.ang_view.specs.declared.entry.EntryKind.TheVariants as entry
 use Rattle.ang_view.specs.Registration.{RegistrationList, entry_at, is_function, is_number}
 use Rattle.ang_view.specs.Hidden.{numbers_of}
-use Rattle.ang_view.specs.Named.{find, has_name, is_bare, is_maker, is_member, is_member_kind, makers, makes, owned}
+use Rattle.ang_view.specs.Named.{find, has_name, is_bare, is_member, is_member_kind, makers, makes, owned}
 use Rattle.ang_names_known.specs.declared.host.SeenFunction.{SeenFunction}
 use Rattle.ang_names_known.specs.declared.host.SeenProperty.{SeenProperty}
 use Rattle.ang_names_known.specs.declared.host.Wanted.{Wanted}
 use Rattle.ang_names_known.specs.declared.host.Wanted.TheVariants as wanted
 use Rattle.ang_names_known.specs.declared.host.WantedProperty.{WantedProperty}
 use Rattle.ang_names_known.specs.declared.host.WantedProperty.TheVariants as property
-use Rattle.ang_names_known.specs.Host.{found, function_of_entry, host_type, host_where, is_factory, is_global, is_method, is_property, is_wanted, is_wanted_property, property_found, property_where, property_with, wants_in}
+use Rattle.ang_names_known.specs.Host.{found, function_of_entry, host_type, host_where, is_global, is_method, is_property, is_wanted_property, property_found, property_where, property_with, wants_in}
 use Rattle.ang_names_known.specs.Among.{found_among, property_among}
 use Rattle.ang_names_known.proofs.Adding.{host_where-is, scan_n}
 use Rattle.ang_names_known.proofs.AddingProperties.{first_n, property_where-is}
@@ -75,16 +75,6 @@ property_is_member entry.Global e = cc
 property_is_member entry.Enumeration e = cc
 property_is_member (entry.EnumValue v) e = cc
 
-factory_makes : (k : EntryKind) → is_factory k ≡ true → is_maker k ≡ true
-factory_makes entry.HostType e = cc
-factory_makes entry.Factory e = refl
-factory_makes entry.Method e = cc
-factory_makes entry.Property e = cc
-factory_makes entry.Function e = cc
-factory_makes entry.Global e = cc
-factory_makes entry.Enumeration e = cc
-factory_makes (entry.EnumValue v) e = cc
-
 wider : (b c d : Bool) → (b ≡ true → d ≡ true) → (b && c) ≡ true → (d && c) ≡ true
 wider true c d h e = rw (h refl) e
 wider false c d h e = cc
@@ -140,7 +130,7 @@ functions_in V name es row =
 
 factory_made : (t : ℕ) (o : Option Entry) → wants_in (wanted.Factory t) o ≡ true → makes t o ≡ true
 factory_made t None e = cc
-factory_made t (Some x) e = wider (is_factory x.kind) (is_number t x.owner) (is_maker x.kind) (factory_makes x.kind) e
+factory_made t (Some x) e = e
 
 pub factories_in : (V : RegistrationList) (t : ℕ) (es : List EntityNo) → map (λ (e : EntityNo). e.0) es ≡ makers V t
     → found_among (wanted.Factory t) V es ≡ host_where (wanted.Factory t) V

@@ -13,6 +13,7 @@ use Rattle.ang_kinds.specs.declared.types.TypeRef.TheVariants as ref
 use Rattle.ang_view.specs.declared.entry.Entry.{Entry}
 use Rattle.ang_view.specs.declared.entry.EntryKind.{EntryKind}
 use Rattle.ang_view.specs.declared.entry.EntryKind.TheVariants as entry
+use Rattle.ang_view.specs.Named.{is_factory}
 use Rattle.ang_view.specs.Registration.{RegistrationList, is_function, is_number}
 use Rattle.ang_view.specs.Types.{enumeration_named, type_named}
 use Rattle.ang_types.specs.declared.arg_type.ArgType.{ArgType}
@@ -68,16 +69,6 @@ host_function n x (Some t) (Some params) = Some (record {
 -- the function of an entry
 abbrev pub function_of_entry : RegistrationList → ℕ → Entry → Option SeenFunction
 function_of_entry V n x = host_function n x (host_type V x.signature.result) (host_parameters V x.signature.params)
-
-abbrev pub is_factory : EntryKind → Bool
-is_factory entry.HostType = false
-is_factory entry.Factory = true
-is_factory entry.Method = false
-is_factory entry.Property = false
-is_factory entry.Function = false
-is_factory entry.Global = false
-is_factory entry.Enumeration = false
-is_factory (entry.EnumValue v) = false
 
 abbrev pub is_method : EntryKind → Bool
 is_method entry.HostType = false

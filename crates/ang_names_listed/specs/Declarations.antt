@@ -21,7 +21,8 @@ use Rattle.ang_names_listed.specs.declared.listed.MemberKind.TheVariants as memb
 use Rattle.ang_names_listed.specs.declared.listed.Part.{Part}
 use Rattle.ang_names_listed.specs.declared.listed.Part.TheVariants as part
 use Rattle.ang_names_listed.specs.declared.listed.ListedFamily.{ListedFamily}
-use Rattle.ang_names_listed.specs.Sources.{Source, text_of}
+use Rattle.ang_lex.specs.Text.{text_of}
+use Rattle.ang_names_listed.specs.Sources.{Source}
 
 -- ---- members
 

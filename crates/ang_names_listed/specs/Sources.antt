@@ -1,9 +1,10 @@
 -- Sections as they were read, and the errors at their tokens (docs/LANGUAGE.md, "Tokens": places; errors are this profile's own).
-use Rattle.std.specs.Prelude.{ℕ, List, [], Option, Some, None, slice_range}
+use Rattle.std.specs.Prelude.{ℕ, List, [], Option, Some, None}
 use Rattle.ang_kinds.specs.declared.error.Error.{Error}
 use Rattle.ang_kinds.specs.declared.error.ErrorKind.{ErrorKind}
 use Rattle.ang_kinds.specs.declared.place.Place.{Place}
 use Rattle.ang_lex.specs.declared.token.Token.{Token}
+use Rattle.ang_lex.specs.Text.{text_of}
 use Rattle.ang_tree.specs.declared.declaration.Script.{Script}
 use Rattle.ang_tree.specs.Declarations.{Decl}
 use Rattle.ang_tree.specs.View.{view_script}
@@ -17,11 +18,7 @@ pub record Source : Type 0 where
 abbrev pub source_of : Script → Source
 source_of s = record { text = s.source.items; declarations = view_script s }
 
--- the bytes of a token in its section's text
-abbrev pub text_of : List ℕ → Token → List ℕ
-text_of text t = slice_range text t.span.start t.span.end
-
--- the same where the token is written, or else nothing
+-- a token's text where the token is written, or else nothing
 abbrev pub name_of : List ℕ → Option Token → List ℕ
 name_of text None = []
 name_of text (Some t) = text_of text t

@@ -21,7 +21,7 @@ use Rattle.ang_names_listed.specs.declared.spelling.Base.TheVariants as base
 use Rattle.ang_names_listed.specs.declared.spelling.Sign.{Sign}
 use Rattle.ang_names_listed.specs.declared.spelling.Sign.TheVariants as sign
 use Rattle.ang_names_listed.specs.declared.spelling.Spelling.{Spelling}
-use Rattle.ang_names_listed.specs.Sources.{text_of}
+use Rattle.ang_lex.specs.Text.{text_of}
 use Rattle.ang_names_listed.specs.Types.{pass_of}
 
 -- ---- a script's

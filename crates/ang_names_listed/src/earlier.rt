@@ -4,8 +4,9 @@ ghost use Rattle.ang_names_listed.specs.Declarations as declarations;
 ghost use Rattle.ang_names_listed.specs.Earlier as spec;
 
 use crate::listed::{ListedDeclaration, Part};
-use crate::{push_spellings, text_at};
+use crate::push_spellings;
 use ang_index::Index;
+use ang_lex::text_of;
 use ang_tree::Parameter;
 use std::alloc::{AllocError, Global};
 use std::marker::Model;
@@ -55,7 +56,7 @@ impl<'l, 'a> Model for Earlier<'l, 'a> {
 pub fn declared_name<'a>(declared: &ListedDeclaration<'a>) -> &'a [u8]
     ensures exact { result.now ≡ declarations.declared_name declared.now }
 {
-    text_at(declared.text.bytes(), &declared.name)
+    text_of(declared.text.bytes(), &declared.name)
 }
 
 /// The key of a function or an import with these parameters.

@@ -3,8 +3,7 @@ ghost use Rattle.std.specs.Prelude.{◌≡◌, IfOk};
 ghost use Rattle.ang_names_listed.specs.Declarations as spec;
 
 use crate::listed::{ListedDeclaration, ListedFamily, Part};
-use crate::text_at;
-use ang_lex::Token;
+use ang_lex::{Token, text_of};
 use ang_names_known::Origin;
 use std::alloc::{AllocError, Global};
 use std::marker::Model;
@@ -59,7 +58,7 @@ impl<'l, 'a> Declaring<'l, 'a> {
     pub fn family_name(&self) -> &'a [u8]
         ensures exact { result.now ≡ spec.family_name self.now }
     {
-        text_at(self.text, &self.name)
+        text_of(self.text, &self.name)
     }
 }
 

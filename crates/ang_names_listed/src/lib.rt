@@ -22,9 +22,10 @@ pub use families::{Declaring, families_of};
 pub use listed::{Attributes, ListedDeclaration, ListedFamily, ListedMember, MemberKind, Part};
 pub use listing::declarations_of;
 pub use role::TypePosition;
-pub use sources::{copy_at, error_at, fault_at, name_at, text_at};
+pub use sources::{copy_at, error_at, fault_at, name_at};
 pub use spelling::{
-    Base, Sign, Spelling, have_same_types, have_same_types_as_host, push_spellings,
+    Base, Sign, Spelling, const_code, have_same_types, have_same_types_as_host, pass_code,
+    push_spellings,
 };
 pub use taken::{declares_function, name_refusals, push_refused};
-pub use types::{is_const_handle, pass_of, type_in, written_in};
+pub use types::{is_by_value, is_const_handle, pass_of, type_in, written_in};

@@ -1,19 +1,11 @@
-//! Texts of tokens, and errors at them.
+//! Copies of tokens' texts, and errors at tokens.
 ghost use Rattle.std.specs.Prelude.{◌≡◌, IfOk};
+ghost use Rattle.ang_lex.specs.Text.{text_of};
 ghost use Rattle.ang_names_listed.specs.Sources as spec;
 
 use ang_kinds::{Error, ErrorKind, List, Place};
-use ang_lex::Token;
+use ang_lex::{Token, text_of};
 use std::alloc::{AllocError, Global};
-
-/// The text of a token in its section's bytes: those of its span, as far as there are any.
-pub fn text_at<'a>(text: &'a [u8], token: &Token) -> &'a [u8]
-    ensures exact { result.now ≡ spec.text_of text.now token.now }
-{
-    let start = text.len().min(token.span.start as usize);
-    let end = text.len().min(token.span.end as usize).max(start);
-    &text[start..end]
-}
 
 /// A copy of a token's text, or an empty one where no token is written.
 ///
@@ -31,9 +23,9 @@ pub fn name_at(alloc: Global, text: &[u8], token: &Option<Token>) -> Result<List
 ///
 /// The only error is want of memory.
 pub fn copy_at(alloc: Global, text: &[u8], token: &Token) -> Result<List<u8>, AllocError>
-    ensures exact { IfOk result (λ name. name ≡ spec.text_of text.now token.now) }
+    ensures exact { IfOk result (λ name. name ≡ text_of text.now token.now) }
 {
-    let copy = Vec::from_slice(alloc, text_at(text, token))?;
+    let copy = Vec::from_slice(alloc, text_of(text, token))?;
     Ok(List::from_vec(copy))
 }
 

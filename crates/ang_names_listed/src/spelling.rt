@@ -3,10 +3,9 @@ ghost use Rattle.std.specs.Prelude.{◌≡◌, ◌+◌, ◌++◌, OnOk};
 ghost use Rattle.ang_view.specs.Numbers.{pass_number, primitive_number};
 ghost use Rattle.ang_names_listed.specs.Spellings as spec;
 
-use crate::sources::text_at;
 use crate::types::pass_of;
 use ang_kinds::{Param, Pass, Prim, Shape, TypeRef};
-use ang_lex::TokenKind;
+use ang_lex::{TokenKind, text_of};
 use ang_names_known::BorrowedText;
 use ang_tree::{Handle, Parameter, TypeName};
 use std::alloc::AllocError;
@@ -52,7 +51,7 @@ fn base_of<'a>(text: &'a [u8], declared: &TypeName) -> Base<'a>
     match declared.name.kind {
         TokenKind::Primitive(primitive) => Base::Primitive(primitive),
         TokenKind::Void => Base::Void,
-        _ => Base::Named(BorrowedText::new(text_at(text, &declared.name))),
+        _ => Base::Named(BorrowedText::new(text_of(text, &declared.name))),
     }
 }
 
@@ -233,13 +232,15 @@ fn sign_code(sign: Sign) -> u8
     }
 }
 
-fn const_code(is_const: bool) -> u8
+/// The byte for whether `const` is written.
+pub fn const_code(is_const: bool) -> u8
     ensures exact { result ≡ spec.const_number is_const }
 {
     if is_const { 1 } else { 0 }
 }
 
-fn pass_code(pass: Pass) -> u8
+/// The byte of a way to pass an argument. No two of them share one.
+pub fn pass_code(pass: Pass) -> u8
     ensures exact { result ≡ pass_number pass }
 {
     match pass {

@@ -3,9 +3,8 @@ ghost use Rattle.std.specs.Prelude.{◌≡◌};
 ghost use Rattle.ang_names_listed.specs.Types as spec;
 
 use crate::role::TypePosition;
-use crate::sources::text_at;
 use ang_kinds::{ErrorKind, Pass};
-use ang_lex::{Token, TokenKind};
+use ang_lex::{Token, TokenKind, text_of};
 use ang_names_known::{FIRST_FAMILY, Named, Space, Written};
 use ang_tree::{Handle, Reference, TypeName};
 use ang_types::ArgType;
@@ -43,7 +42,7 @@ fn written_type(space: &Space<'_>, text: &[u8], declared: &TypeName) -> Result<A
         }
         TokenKind::Void => without_handle(ArgType::Void, &declared.handle),
         _ => {
-            let named = space.named(text_at(text, &declared.name));
+            let named = space.named(text_of(text, &declared.name));
             object_type(named, declared.constant.is_some(), &declared.handle)
         }
     }
@@ -131,7 +130,8 @@ fn crossing(by_value: bool, ty: ArgType) -> Result<ArgType, ErrorKind>
     }
 }
 
-fn is_by_value(pass: Pass) -> bool
+/// Whether an argument passes by value.
+pub fn is_by_value(pass: Pass) -> bool
     ensures exact { result ≡ spec.is_by_value pass }
 {
     match pass {

@@ -7,23 +7,20 @@ use Rattle.ang_tree.specs.declared.type_name.TypeName.{TypeName}
 use Rattle.ang_tree.specs.declared.type_name.Handle.{Handle}
 use Rattle.ang_tree.specs.declared.declaration.Parameter.{Parameter}
 use Rattle.ang_tree.specs.declared.declaration.Reference.{Reference}
-use Rattle.ang_tree.specs.Kinds.{Is, IsA, IsComma, IfWritten, IfWrittenA, optional, direction_kind, type_kind}
+use Rattle.ang_tree.specs.Kinds.{Is, IsA, IsComma, IfWritten, optional, direction_kind, type_kind}
 use Rattle.ang_tree.specs.TypeNames.{spelled_handle, spelled_type, FitsHandle, FitsType}
 use Rattle.ang_tree.specs.Stmt.{each, Every}
 use Rattle.ang_tree.specs.Declarations.{Params, spelled_reference, spelled_param, spelled_params, FitsReference, FitsParam, IsBareVoid, FitsParams}
 use Rattle.ang_parse_read.specs.Read.{and_then, pure, ◌>>=◌, repeat}
 use Rattle.ang_parse_read.specs.Tokens.{a_token, perhaps, is_name, is_left_paren, is_right_paren, is_const}
 use Rattle.ang_parse_read.proofs.Tokens.{begins, look_is, look_at, a_token_is, perhaps_is, perhaps_not}
+use Rattle.ang_parse_read.proofs.Referred.{is_ampersand, reference_read}
 use Rattle.ang_parse_read.proofs.Loops.{repeat_stops, repeat_goes_on}
 use Rattle.ang_parse_expr.specs.ReadType.{type_of}
 use Rattle.ang_parse_expr.proofs.Stops.{is_comma}
 use Rattle.ang_parse_expr.proofs.CompleteType.{is_at, EndsType, type_named_read, type_read}
 use Rattle.ang_parse_stmt.specs.ReadParams as r
 use Rattle.ang_parse_stmt.proofs.SoundParams.{param-length}
-
-abbrev is_ampersand : TokenKind → Bool
-is_ampersand k.Ampersand = true
-is_ampersand _ = false
 
 -- what stands after a parameter without these is no part of it
 record EndsParam (ts : List Token) : Type 0 where
@@ -52,27 +49,6 @@ others_end (p ∷ ps) right ts c R = comma_ends p.comma (spelled_type p.declared
 name_read : (x : Option Token) (ts : List Token) → IfWritten k.Name x → begins is_name ts ≡ false → perhaps is_name (optional x ts) ≡ Ok (x, ts)
 name_read None ts f h = perhaps_not is_name ts h
 name_read (Some t) ts f h = perhaps_is is_name t ts (ap is_name f)
-
-direction_read : (d : Option Token) (ts : List Token) → IfWrittenA direction_kind d → begins direction_kind ts ≡ false → perhaps direction_kind (optional d ts) ≡ Ok (d, ts)
-direction_read None ts f h = perhaps_not direction_kind ts h
-direction_read (Some t) ts f h = perhaps_is direction_kind t ts f
-
-reference_stops_by : (kind : TokenKind) → is_ampersand kind ≡ false → r.reference_by kind ≡ None
-reference_stops_by k.Ampersand h = absurd cc
-reference_stops_by _ h = refl
-
-reference_stops : (ts : List Token) → begins is_ampersand ts ≡ false → r.a_reference ts ≡ Ok (None, ts)
-unfolding r.a_reference
-reference_stops [] h = refl
-reference_stops (t ∷ u) h = look_at r.reference_by (pure None) None t u (reference_stops_by t.kind h)
-
-reference_done : (sign : Token) (d : Option Token) (ts us : List Token) → Is k.Ampersand sign → perhaps direction_kind ts ≡ Ok (d, us) → r.a_reference (sign ∷ ts) ≡ Ok (Some (r.reference_of sign d), us)
-unfolding r.a_reference
-reference_done sign d ts us is h = look_is r.reference_by (pure None) k.Ampersand sign ts is ∙ ap (λ v. and_then v (λ d. pure (Some (r.reference_of sign d)))) h
-
-reference_read : (o : Option Reference) (ts : List Token) → FitsReference o → begins is_ampersand ts ≡ false → begins direction_kind ts ≡ false → r.a_reference (spelled_reference o ts) ≡ Ok (o, ts)
-reference_read None ts f h g = reference_stops ts h
-reference_read (Some a) ts f h g = reference_done a.ampersand a.direction (optional a.direction ts) ts f.0 (direction_read a.direction ts f.1 g)
 
 -- what begins with a name, or with what follows it
 name_begins : (test : TokenKind → Bool) (x : Option Token) (ts : List Token) → IfWritten k.Name x → test k.Name ≡ false → begins test ts ≡ false → begins test (optional x ts) ≡ false

@@ -7,6 +7,7 @@ use Rattle.ang_tree.specs.declared.type_name.TypeName.{TypeName}
 use Rattle.ang_tree.specs.declared.declaration.Parameter.{Parameter}
 use Rattle.ang_tree.specs.Kinds.{direction_kind}
 use Rattle.ang_parse_read.specs.Read.{Parser, pure, ◌>>=◌, Choice, look, repeat}
+use Rattle.ang_parse_read.specs.References.{reference_of, reference_by, a_reference}
 use Rattle.ang_parse_read.specs.Tokens.{a_token, perhaps, is_name, is_left_paren, is_right_paren}
 use Rattle.ang_parse_read.proofs.DependsOnPrefix.{DependsOnPrefix, Both, prefix_pure, prefix_bind, prefix_look, prefix_repeat}
 use Rattle.ang_parse_read.proofs.Tokens.{a_token_prefix, perhaps_prefix}
@@ -32,17 +33,17 @@ module _ (b z : List Token) where
 
   -- ---- a parameter
 
-  reference_by_prefix : (kind : TokenKind) → Both b z (r.reference_by kind) (r.reference_by kind)
-  reference_by_prefix k.Ampersand = λ sign. bind (perhaps direction_kind) (perhaps direction_kind) _ _ (perhaps_prefix b z direction_kind) (λ d. unit (Some (r.reference_of sign d)))
+  reference_by_prefix : (kind : TokenKind) → Both b z (reference_by kind) (reference_by kind)
+  reference_by_prefix k.Ampersand = λ sign. bind (perhaps direction_kind) (perhaps direction_kind) _ _ (perhaps_prefix b z direction_kind) (λ d. unit (Some (reference_of sign d)))
   reference_by_prefix _ = tt
 
-  a_reference_prefix : T r.a_reference r.a_reference
-  unfolding r.a_reference
-  a_reference_prefix = by_kind r.reference_by r.reference_by (pure None) (pure None) reference_by_prefix (unit None)
+  a_reference_prefix : T a_reference a_reference
+  unfolding a_reference
+  a_reference_prefix = by_kind reference_by reference_by (pure None) (pure None) reference_by_prefix (unit None)
 
   param_typed_prefix : (comma : Option Token) (y : TypeName) → T (r.param_typed comma y) (r.param_typed comma y)
   unfolding r.param_typed
-  param_typed_prefix comma y = bind r.a_reference r.a_reference _ _ a_reference_prefix (λ o. bind (perhaps is_name) (perhaps is_name) _ _ (perhaps_prefix b z is_name) (λ x. unit (r.param_of comma y o x)))
+  param_typed_prefix comma y = bind a_reference a_reference _ _ a_reference_prefix (λ o. bind (perhaps is_name) (perhaps is_name) _ _ (perhaps_prefix b z is_name) (λ x. unit (r.param_of comma y o x)))
 
   pub param_prefix : (comma : Option Token) → T (r.param comma) (r.param comma)
   unfolding r.param

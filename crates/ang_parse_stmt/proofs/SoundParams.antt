@@ -12,6 +12,7 @@ use Rattle.ang_tree.specs.TypeNames.{spelled_handle, spelled_type, FitsType}
 use Rattle.ang_tree.specs.Stmt.{each, Every, Parted, Filled}
 use Rattle.ang_tree.specs.Declarations.{Params, spelled_reference, spelled_param, spelled_params, FitsReference, FitsParam, IsBareVoid, FitsParams}
 use Rattle.ang_parse_read.specs.Read.{pure, repeat}
+use Rattle.ang_parse_read.specs.References.{reference_of, reference_by, a_reference}
 use Rattle.ang_parse_read.specs.Tokens.{a_token, perhaps, is_name, is_left_paren, is_right_paren}
 use Rattle.ang_parse_read.proofs.Outcomes.{Reads, and_reads, further, ChoiceReads, look_reads, Passes, look_or_pass_reads, Turns, repeat_reads_to, From-self, From-one, From-length}
 use Rattle.ang_parse_read.proofs.Tokens.{Always, Token_read, a_token_reads, Perhaps_read, written, absent, perhaps_reads, begins, name_is, left_paren_is, right_paren_is}
@@ -58,16 +59,16 @@ pub record Reference_read (w : List Token) (o : Option Reference) (s : List Toke
   pub text : w ≡ spelled_reference o s
   pub fits : FitsReference o
 
-reference_by_reads : (n : ℕ) → ChoiceReads n Always Reference_read r.reference_by
+reference_by_reads : (n : ℕ) → ChoiceReads n Always Reference_read reference_by
 reference_by_reads n k.Ampersand t u is z =
     further n (t ∷ u) u (Reference_read (t ∷ u)) _ _ (From-one t u) (λ y s q. q)
-    (and_reads n u (Perhaps_read direction_kind u) (Reference_read (t ∷ u)) (perhaps direction_kind u) (λ d. pure (Some (r.reference_of t d))) (perhaps_reads direction_kind n u)
+    (and_reads n u (Perhaps_read direction_kind u) (Reference_read (t ∷ u)) (perhaps direction_kind u) (λ d. pure (Some (reference_of t d))) (perhaps_reads direction_kind n u)
     (λ d s q f. (record { text = ap (λ v. t ∷ v) (perhaps_text direction_kind u s d q); fits = (is, direction_fits u s d q) }, f)))
 reference_by_reads n _ t u is z = tt
 
-a_reference_reads : (n : ℕ) (ts : List Token) → Reads n ts (Reference_read ts) (r.a_reference ts)
-unfolding r.a_reference
-a_reference_reads n ts = look_reads n Always Reference_read r.reference_by (pure None) (reference_by_reads n) (λ ts z. (record { text = refl; fits = tt }, From-self ts)) ts tt
+a_reference_reads : (n : ℕ) (ts : List Token) → Reads n ts (Reference_read ts) (a_reference ts)
+unfolding a_reference
+a_reference_reads n ts = look_reads n Always Reference_read reference_by (pure None) (reference_by_reads n) (λ ts z. (record { text = refl; fits = tt }, From-self ts)) ts tt
 
 pub record IsParam (w : List Token) (comma : Option Token) (p : Parameter) (s : List Token) : Type 0 where
   pub text : w ≡ spelled_param p s
@@ -77,7 +78,7 @@ pub record IsParam (w : List Token) (comma : Option Token) (p : Parameter) (s : 
 param_typed_reads : (n : ℕ) (comma : Option Token) (y : TypeName) (w ts : List Token) → FitsType y → w ≡ spelled_type y ts → Reads n ts (IsParam (optional comma w) comma) (r.param_typed comma y ts)
 unfolding r.param_typed
 param_typed_reads n comma y w ts Y e =
-    and_reads n ts (Reference_read ts) (IsParam (optional comma w) comma) (r.a_reference ts) _ (a_reference_reads n ts)
+    and_reads n ts (Reference_read ts) (IsParam (optional comma w) comma) (a_reference ts) _ (a_reference_reads n ts)
     (λ o s q f. further n ts s (IsParam (optional comma w) comma) _ _ f (λ y u z. z)
     (and_reads n s (Perhaps_read is_name s) (IsParam (optional comma w) comma) (perhaps is_name s) (λ x. pure (r.param_of comma y o x)) (perhaps_reads is_name n s)
     (λ x u p g. (

@@ -7,24 +7,13 @@ use Rattle.ang_lex.specs.declared.token.TokenKind.TheVariants as k
 use Rattle.ang_tree.specs.declared.type_name.TypeName.{TypeName}
 use Rattle.ang_tree.specs.declared.declaration.Parameter.{Parameter}
 use Rattle.ang_tree.specs.declared.declaration.Reference.{Reference}
-use Rattle.ang_tree.specs.Kinds.{direction_kind}
 use Rattle.ang_tree.specs.Declarations.{Params}
 use Rattle.ang_parse_read.specs.Read.{Parser, ◌>>=◌, pure, Choice, look, Turn, ready, repeat}
+use Rattle.ang_parse_read.specs.References.{a_reference}
 use Rattle.ang_parse_read.specs.Tokens.{a_token, perhaps, is_name, is_left_paren, is_right_paren}
 use Rattle.ang_parse_expr.specs.ReadType.{a_type, type_named}
 
 -- ---- a parameter
-
-abbrev pub reference_of : Token → Option Token → Reference
-reference_of sign d = record { ampersand = sign; direction = d }
-
-abbrev pub reference_by : TokenKind → Choice (Option Reference)
-reference_by k.Ampersand = Some (λ sign. do d ← perhaps direction_kind; pure (Some (reference_of sign d)))
-reference_by _ = None
-
--- [ "&" [ "in" | "out" | "inout" ] ]
-unfoldable pub a_reference : Parser (Option Reference)
-a_reference = look reference_by (pure None)
 
 abbrev pub param_of : Option Token → TypeName → Option Reference → Option Token → Parameter
 param_of comma y r x = record { comma = comma; declared_type = y; reference = r; name = x }

@@ -4,62 +4,14 @@
 ghost use Rattle.std.specs.Prelude.{◌≡◌, ◌++◌, [], ◌∷◌, IfOk, Ok};
 ghost use Rattle.ang_parse_read.specs.Gives.{Gives, NeedsNoMemory};
 ghost use Rattle.ang_parse_read.specs.Read.{repeat};
-ghost use Rattle.ang_parse_read.specs.Tokens.{is_name, perhaps};
-ghost use Rattle.ang_tree.specs.Kinds.{direction_kind};
 ghost use Rattle.ang_tree.specs.View.{view_params};
 ghost use Rattle.ang_parse_stmt.specs.ReadParams as read;
 
 use ang_lex::{Token, TokenKind};
 use ang_parse_expr::{type_name, type_named};
-use ang_parse_read::{ReadError, a_left_paren, a_right_paren};
-use ang_tree::{Parameter, Parameters, Reference, TypeName};
+use ang_parse_read::{ReadError, a_left_paren, a_right_paren, perhaps_name, perhaps_reference};
+use ang_tree::{Parameter, Parameters, TypeName};
 use std::alloc::{AllocError, Global};
-
-/// Reads `in`, `out` or `inout`, if one stands there.
-#[tactic(auto, unfolding(ang_parse_read::specs::Tokens::perhaps))]
-fn direction(tokens: &[Token]) -> (Option<Token>, &[Token])
-    ensures reads { perhaps direction_kind tokens.now ≡ Ok (result.0, result.1.now) }
-{
-    match tokens {
-        [word, rest @ ..]
-            if matches!(word.kind, TokenKind::In | TokenKind::Out | TokenKind::InOut) => {
-            (Some(*word), rest)
-        }
-        _ => (None, tokens),
-    }
-}
-
-/// Reads a name, if one stands there.
-#[tactic(auto, unfolding(ang_parse_read::specs::Tokens::perhaps))]
-fn perhaps_name(tokens: &[Token]) -> (Option<Token>, &[Token])
-    ensures reads { perhaps is_name tokens.now ≡ Ok (result.0, result.1.now) }
-{
-    match tokens {
-        [name, rest @ ..] if matches!(name.kind, TokenKind::Name) => (Some(*name), rest),
-        _ => (None, tokens),
-    }
-}
-
-/// Reads `[ "&" [ "in" | "out" | "inout" ] ]`.
-#[tactic(auto, unfolding(crate::specs::ReadParams::a_reference))]
-fn reference(tokens: &[Token]) -> (Option<Reference>, &[Token])
-    ensures reads { read.a_reference tokens.now ≡ Ok (result.0, result.1.now) }
-{
-    match tokens {
-        [sign, rest @ ..] if matches!(sign.kind, TokenKind::Ampersand) => {
-            let (direction, rest) = direction(rest);
-            let ampersand = *sign;
-            (
-                Some(Reference {
-                    ampersand,
-                    direction,
-                }),
-                rest,
-            )
-        }
-        _ => (None, tokens),
-    }
-}
 
 /// Reads what stands after a parameter's type.
 #[tactic(auto, unfolding(crate::specs::ReadParams::param_typed))]
@@ -70,7 +22,7 @@ fn parameter_typed(
 ) -> (Parameter, &[Token])
     ensures reads { read.param_typed comma declared_type tokens.now ≡ Ok (result.0, result.1.now) }
 {
-    let (reference, rest) = reference(tokens);
+    let (reference, rest) = perhaps_reference(tokens);
     let (name, rest) = perhaps_name(rest);
     (
         Parameter {

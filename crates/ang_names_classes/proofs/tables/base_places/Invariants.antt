@@ -1,7 +1,7 @@
 use Rattle.std.proofs.Common.{◌≡◌, ◌++◌, drop}
 use Rattle.std.specs.List.{filter_map}
 use Rattle.ang_lex.specs.declared.token.Token.{Token}
-use Rattle.ang_names_listed.specs.Sources.{text_of}
+use Rattle.ang_lex.specs.Text.{text_of}
 use Rattle.ang_names_classes.specs.Hierarchy.{place_of}
 use Rattle.ang_names_classes.proofs.tables.base_places.Given as goal
 
