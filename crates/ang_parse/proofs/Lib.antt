@@ -11,7 +11,6 @@ pub mod CompleteMembers
 pub mod CompleteClass
 pub mod PrefixClass
 pub mod Columns
-pub mod Rests
 pub mod SoundScript
 pub mod CompleteScript
 pub mod PrefixScript

@@ -1,6 +1,5 @@
 //! Errors of the grammar: their places and names.
-ghost use Rattle.std.specs.Prelude.{◌≡◌, ◌+◌, ◌^◌, ◌<◌, ◌≤◌, [], ◌∷◌, length, All, IfOk};
-ghost use Rattle.ang_lex.specs.Tokens.{IsWithin};
+ghost use Rattle.std.specs.Prelude.{◌≡◌, ◌+◌, ◌^◌, ◌<◌, ◌≤◌, [], ◌∷◌, All, IfOk};
 ghost use Rattle.ang_lex.specs.Text.{text_of};
 ghost use Rattle.ang_parse.specs.Faults.{place_past, place_at, name_at, HasColumns};
 
@@ -34,7 +33,6 @@ pub(crate) fn syntax_error(
     tokens: &[Token],
     rest: &[Token],
 ) -> Result<ParseError, AllocError>
-    requires within { All (IsWithin (length text.now)) rest.now }
     requires columns { All HasColumns tokens.now }
     ensures exact { IfOk result (λ f. f ≡ ParseError.Syntax (place_at tokens.now rest.now)
         (name_at text.now rest.now)) }
