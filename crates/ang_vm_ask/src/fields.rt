@@ -1,7 +1,4 @@
 //! Operations on script objects: one is made, its fields are read, stored and changed, and handles are cast.
-//!
-//! Here they are done on the store, without a stack. `fields.rt` of `ang_vm_steps` does the same as single instructions,
-//! with their operands on the stack, and that of `ang_vm_fields` does several of these instructions at once.
 ghost use Rattle.std.specs.Prelude.{◌≡◌, ℕ, ◌∷◌, nat_eq, List, []};
 ghost use Rattle.std.specs.List.{list_any};
 ghost use Rattle.ang_host.specs.declared.event.HostEvent.{HostEvent};

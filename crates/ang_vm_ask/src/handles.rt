@@ -1,7 +1,4 @@
 //! Handles: which are null, and which name one object.
-//!
-//! Here two values are compared, without a stack. `handles.rt` of `ang_vm_steps` has the instruction, with its operands
-//! on the stack; that of `ang_vm_fields` has steps that move and give up handles.
 ghost use Rattle.std.specs.Prelude.{◌≡◌, ℕ, ◌∷◌, List, []};
 ghost use Rattle.ang_meaning.specs.declared.slot.Slot.TheVariants.{Bits as Number};
 ghost use Rattle.ang_meaning.specs.declared.operation.Operation.TheVariants.{Same};
