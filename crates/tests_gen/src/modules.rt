@@ -154,8 +154,7 @@ const CODES: [Code; 2] = [LOOPING, INITIALIZER];
 fn is_same_operation(one: Operation, other: Operation) -> bool {
     match (one, other) {
         (Operation::Binary(one, at), Operation::Binary(other, its)) => one == other && at == its,
-        (Operation::Compare(Test::Less, one), Operation::Compare(Test::Less, other))
-        | (Operation::Compare(Test::Greater, one), Operation::Compare(Test::Greater, other)) => {
+        (Operation::Compare(Test::Greater, one), Operation::Compare(Test::Greater, other)) => {
             one == other
         }
         (Operation::GlobalSet(one), Operation::GlobalSet(other)) => one == other,
