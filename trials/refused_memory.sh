@@ -14,7 +14,8 @@
 #   - its status and what it wrote are those of a run where nothing is refused (the C library did without that memory), or
 #   - its status is 3, it wrote a front of that, whole lines, and `asrun: no memory`, or `asremote: no memory`, on standard
 #     error, or
-#   - its status is 1, and the first line that it wrote otherwise is an answer of want of memory.
+#   - its status is 1, and the first line that it wrote otherwise is an answer of want of memory, before which there may be
+#     the ends of objects that this answer gave up.
 # Prints a line for each way to end with the number of runs, each run that did not end well, and the number of those.
 set -eu
 cd "$(dirname "$0")/.."
@@ -88,7 +89,7 @@ ended_well() {
     3) head -n "$lines" "$folder/whole" | cmp -s - "$folder/out" && grep -qx "$name: no memory" "$folder/err" && return 0 ;;
     esac
     [ "$1" = 1 ] || return 1
-    diff "$folder/whole" "$folder/out" | sed -n 's/^> //p' | head -n 1 | grep -Eqi 'memory$'
+    diff "$folder/whole" "$folder/out" | sed -n 's/^> //p' | grep -v '^end ' | head -n 1 | grep -Eqi 'memory$'
 }
 
 at=1
