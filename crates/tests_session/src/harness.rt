@@ -10,27 +10,6 @@ use std::io::{Error, ErrorKind, Read, Write};
 
 pub const PROFILE: &str = "mask 00000001\nfunction 0 0 void print(int)\n";
 
-/// Types, factories, methods, properties, functions and global properties of all three drivers.
-pub const ALL_KINDS: &str = "mask 00000001
-type Counter 1
-factory Counter 0 Counter@ f()
-factory Counter 1 Counter@ f(int)
-method Counter 0 void bump()
-method Counter 1 int value() const
-property Counter 0 int step
-type Cell 2
-factory Cell 0 Cell@ f(int)
-factory Cell 1 Cell@ f(Cell@+, int)
-method Cell 0 int get() const
-method Cell 1 void set(int)
-function 2 2 Cell@+ pick(Cell@+)
-function 0 0 void print(int64)
-function 0 1 int64 sum(int64, int64)
-function 0 2 void fail(uint)
-global 0 0 int64 reg
-global 0 0 const int64 limit
-";
-
 pub const SESSION: &str =
     "module a 00000001\nsection a 1\nvoid main(){ print(1+2); }\nbuild a\ncall a () void main()\n";
 
@@ -138,46 +117,4 @@ pub fn run<P: Read, S: Read>(
     } else {
         Ok(Err(IoFault::Read))
     }
-}
-
-/// Whether a session over a profile writes this, and has this status.
-pub fn writes(
-    alloc: Global,
-    profile: &str,
-    session_text: &str,
-    output: &str,
-    status: Status,
-) -> Result<bool, AllocError> {
-    let mut out = Sink::new(alloc, 4096, 0, false);
-    let mut profile = Pieces::new(profile, 4096, 0);
-    let mut session_text = Pieces::new(session_text, 4096, 0);
-    let outcome = run(alloc, &mut profile, &mut session_text, &mut out)?;
-    Ok(outcome == Ok(status) && out.kept.as_slice() == output.as_bytes())
-}
-
-/// Whether a run over all kinds that builds a section and does the lines after its build prints this from the build on,
-/// and has this status. The rows have these four in this order.
-pub fn prints(
-    alloc: Global,
-    section: &str,
-    lines: &str,
-    printed: &str,
-    status: Status,
-) -> Result<bool, AllocError> {
-    let text = format!(in alloc; "module a 00000001\nsection a 1\n{section}\nbuild a\n{lines}")?;
-    let output = format!(in alloc; "ok\nok\n{printed}")?;
-    writes(alloc, ALL_KINDS, text.as_str(), output.as_str(), status)
-}
-
-/// Whether a section over a profile has these errors alone.
-pub fn errs(alloc: Global, profile: &str, section: &str, errors: &str) -> Result<bool, AllocError> {
-    let text = format!(in alloc; "module a 00000001\nsection a 1\n{section}\nbuild a\n")?;
-    let output = format!(in alloc; "ok\nok\n{errors}refused BuildErrors\n")?;
-    writes(
-        alloc,
-        profile,
-        text.as_str(),
-        output.as_str(),
-        Status::SomeRefused,
-    )
 }

@@ -1,21 +1,10 @@
-//! Tests of `session` by its public call: whole runs, with readers and writers of their own.
+//! Tests of `session` by its public call: readers and writers that fail or give little, and what a driver was asked
+//! that no text tells. Sessions with their texts stand in crates/examples.
 #![tactic(auto)]
 
 #[cfg(test)]
-mod calls;
-#[cfg(test)]
-mod errors;
+mod borrowed;
 #[cfg(test)]
 mod harness;
 #[cfg(test)]
-mod modules;
-#[cfg(test)]
-mod profiles;
-#[cfg(test)]
-mod sessions;
-#[cfg(test)]
-mod statements;
-#[cfg(test)]
 mod streams;
-#[cfg(test)]
-mod values;
