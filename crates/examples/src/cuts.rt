@@ -10,7 +10,10 @@ fn is_outcome(line: &str) -> bool {
 
 /// How many answers an output has.
 pub fn answers_in(output: &str) -> usize {
-    output.split_inclusive('\n').filter(|line| is_outcome(line)).count()
+    output
+        .split_inclusive('\n')
+        .filter(|line| is_outcome(line))
+        .count()
 }
 
 /// The front of an output that has so many answers; all of it where it has not more.
@@ -45,7 +48,10 @@ pub fn status_of(output: &str) -> &'static str {
 /// command may print.
 pub fn is_an_answer(text: &str, number: usize) -> bool {
     let lines = text.split_inclusive('\n');
-    match text.strip_prefix("line ").and_then(|rest| rest.strip_suffix(" BadLine\n")) {
+    match text
+        .strip_prefix("line ")
+        .and_then(|rest| rest.strip_suffix(" BadLine\n"))
+    {
         Some(digits) => digits.parse::<usize>().ok() == Some(number),
         None => answers_in(text) == 1 && lines.last().is_some_and(|line| is_whole_outcome(line)),
     }
@@ -57,7 +63,10 @@ fn is_whole_outcome(line: &str) -> bool {
 
 /// The name of the module that a line gives a section, and the number of its lines; nothing where it is no such line.
 fn section_of(line: &str) -> Option<(&str, u64)> {
-    let (name, count) = line.strip_prefix("section ")?.trim_ascii_end().split_once(' ')?;
+    let (name, count) = line
+        .strip_prefix("section ")?
+        .trim_ascii_end()
+        .split_once(' ')?;
     Some((name, count.parse::<u64>().ok()?))
 }
 
@@ -72,7 +81,10 @@ pub fn whole_commands(text: &str) -> (usize, &str) {
     let mut wanted = 0u64;
     let mut length = 0usize;
     let mut whole = 0usize;
-    for line in text.split_inclusive('\n').filter(|line| line.ends_with('\n')) {
+    for line in text
+        .split_inclusive('\n')
+        .filter(|line| line.ends_with('\n'))
+    {
         length = length.saturating_add(line.len());
         let skipped = wanted == 0 && is_skipped(line);
         wanted = if wanted > 0 {
@@ -101,7 +113,9 @@ fn after_lines(text: &str, count: u64) -> &str {
 
 /// The session with the script around the byte `at` cut there. Nothing where no script is.
 pub fn script_cut(alloc: Global, session: &str, at: usize) -> Result<Option<String>, AllocError> {
-    let rest = session.get(..at).map_or("", |front| whole_commands(front).1);
+    let rest = session
+        .get(..at)
+        .map_or("", |front| whole_commands(front).1);
     let Some((header, script)) = rest.split_once('\n') else {
         return Ok(None);
     };

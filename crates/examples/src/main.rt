@@ -60,8 +60,9 @@ fn run<P: Read, S: Read, W: Write>(
         _ => boxes.push(Box::new(alloc, Counter::new(alloc)?)?)?,
     }
     boxes.push(Box::new(alloc, Cell::new(alloc)?)?)?;
-    let SessionEnd { outcome, drivers } =
-        asrun_session::session(alloc, profile, session, out, boxes, TICKS);
+    let SessionEnd { outcome, drivers } = asrun_session::session(
+        alloc, profile, session, out, boxes, TICKS,
+    );
     let is_idle = drivers.iter().all(|driver| driver.idle());
     drop(drivers);
     let status = status_of(outcome);
@@ -131,7 +132,11 @@ fn run_rows(rt: &HostRuntime, path: &str, with_trials: bool) -> io::Result<bool>
         count += 1;
         left = after;
     }
-    let what = if with_trials { "hold in the trials" } else { "as stored" };
+    let what = if with_trials {
+        "hold in the trials"
+    } else {
+        "as stored"
+    };
     println!(rt; "{path}: {good} of {count} rows {what}")?;
     Ok(good == count)
 }

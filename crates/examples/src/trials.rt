@@ -1,10 +1,9 @@
 //! What is tried of a row beside its plain run: texts that are cut at each byte, and streams that fail at each call.
 //! After each run every driver that is handed back is to be idle.
 
-use crate::cuts;
 use crate::rows::Row;
-use crate::run;
 use crate::streams::{Sink, Source, reads_of};
+use crate::{cuts, run};
 use std::alloc::Global;
 use std::io;
 
@@ -109,7 +108,9 @@ fn is_front_printed(row: &Row<'_>, length: usize, printed: &str) -> bool {
     if ended > commands || is_over || length == row.session.len() {
         printed == known
     } else {
-        printed.strip_prefix(known).is_some_and(|more| cuts::is_an_answer(more, number))
+        printed
+            .strip_prefix(known)
+            .is_some_and(|more| cuts::is_an_answer(more, number))
     }
 }
 
@@ -185,6 +186,10 @@ fn writer_stops(alloc: Global, row: &Row<'_>, room: usize, fails: bool) -> io::R
     let mut session = Source::whole(row.session);
     let ran = run(alloc, &mut profile, &mut session, &mut out, row.failing)?;
     let front = row.output.get(..room).unwrap_or("").as_bytes();
-    let status = if room < row.output.len() { FAULT } else { row.status };
+    let status = if room < row.output.len() {
+        FAULT
+    } else {
+        row.status
+    };
     Ok(ran.is_idle && ran.status == status && out.kept.as_slice() == front)
 }

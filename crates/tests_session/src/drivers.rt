@@ -33,8 +33,14 @@ fn writes(
     let mut profile = texts.0.as_bytes();
     let mut text = texts.1.as_bytes();
     let mut out: Vec<u8> = Vec::new(alloc);
-    let SessionEnd { outcome, drivers } =
-        session(alloc, &mut profile, &mut text, &mut out, boxes, 1_000_000);
+    let SessionEnd { outcome, drivers } = session(
+        alloc,
+        &mut profile,
+        &mut text,
+        &mut out,
+        boxes,
+        1_000_000,
+    );
     let are_back = drivers.len() == consoles && drivers.iter().all(|driver| driver.idle());
     drop(drivers);
     Ok(are_back && outcome == Ok(status) && out.as_slice() == output.as_bytes())

@@ -36,7 +36,8 @@ fn faults(alloc: Global, as_profile: bool) -> Result<bool, AllocError> {
     } else {
         run(alloc, &mut PROFILE.as_bytes(), &mut endless)?
     };
-    let is_fault = ran.is_some_and(|(out, outcome)| out.is_empty() && outcome == Err(IoFault::Read));
+    let is_fault = ran.is_some_and(|(out, outcome)| out.is_empty()
+        && outcome == Err(IoFault::Read));
     Ok(is_fault && endless.calls == MOST_READS)
 }
 
