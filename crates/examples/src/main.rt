@@ -1,17 +1,22 @@
 //! Runs sessions over profiles, and compares what each prints with what is stored beside it
 //! (README.md here). Its words are the files of one example after the other: the profile, the
-//! session, what is stored; and after these, files of rows, whose names end in `.rows`.
+//! session, what is stored; and after these, files of rows, whose names end in `.rows`. The rows of files
+//! that come after the word `--trials` are cut at each byte, and run over streams that fail at each call.
 #![tactic(auto)]
 
+mod cuts;
 mod rows;
+mod streams;
+mod trials;
 
-use crate::rows::FailingCall;
+use crate::rows::{FailingCall, Row};
+use crate::trials::TRIALS;
 use ang_drivers::{Cell, Console, Counter, Faulty};
 use ang_host::Driver;
 use asrun_session::{IoFault, SessionEnd, Status};
 use std::alloc::Global;
 use std::fs::File;
-use std::io::Read;
+use std::io::{Read, Write};
 use std::process::ExitCode;
 use std::{env, fs, io};
 
@@ -32,7 +37,6 @@ fn status_of(outcome: Result<Status, IoFault>) -> &'static str {
 /// What a run came to.
 #[derive(Drop)]
 struct Ran {
-    printed: Vec<u8>,
     status: &'static str,
     /// Whether no object of a driver was left.
     is_idle: bool,
@@ -40,10 +44,11 @@ struct Ran {
 
 /// Runs a session with the drivers of the program `asrun` in their order, or with one in the place of the
 /// second that fails once.
-fn run<P: Read, S: Read>(
+fn run<P: Read, S: Read, W: Write>(
     alloc: Global,
     profile: &mut P,
     session: &mut S,
+    out: &mut W,
     failing: Option<FailingCall>,
 ) -> io::Result<Ran> {
     let mut boxes: Vec<Box<dyn Driver>> = Vec::new(alloc);
@@ -55,23 +60,13 @@ fn run<P: Read, S: Read>(
         _ => boxes.push(Box::new(alloc, Counter::new(alloc)?)?)?,
     }
     boxes.push(Box::new(alloc, Cell::new(alloc)?)?)?;
-    let mut printed: Vec<u8> = Vec::new(alloc);
     let SessionEnd { outcome, drivers } = asrun_session::session(
-        alloc,
-        profile,
-        session,
-        &mut printed,
-        boxes,
-        TICKS,
+        alloc, profile, session, out, boxes, TICKS,
     );
     let is_idle = drivers.iter().all(|driver| driver.idle());
     drop(drivers);
     let status = status_of(outcome);
-    Ok(Ran {
-        printed,
-        status,
-        is_idle,
-    })
+    Ok(Ran { status, is_idle })
 }
 
 /// Runs one example. Gives whether it printed what is stored.
@@ -79,49 +74,73 @@ fn run_example(rt: &HostRuntime, profile: &str, session: &str, stored: &str) -> 
     let stored = fs::read(rt, stored)?;
     let mut profile = File::open(rt, profile)?;
     let mut text = File::open(rt, session)?;
-    let ran = run(rt.alloc(), &mut profile, &mut text, None)?;
-    let same = ran.is_idle && ran.printed == stored;
+    let mut printed: Vec<u8> = Vec::new(rt.alloc());
+    let ran = run(rt.alloc(), &mut profile, &mut text, &mut printed, None)?;
+    let same = ran.is_idle && printed == stored;
     let verdict = if same { "as stored" } else { "NOT as stored" };
     println!(rt; "{session}: {verdict}, status {}", ran.status)?;
     Ok(same)
 }
 
-/// Runs a row of a file, over the profile of all of its rows. Gives whether it printed what is stored, with
-/// the status that is, and says so if not.
-fn run_row(rt: &HostRuntime, path: &str, row: &str, of_all: &str) -> io::Result<bool> {
-    let (name, text) = row.split_once('\n').unwrap_or((row, ""));
-    let Some(row) = rows::row_of(text, of_all) else {
-        println!(rt; "{path}, {name}: NOT a row")?;
-        return Ok(false);
-    };
+/// Runs a row. Gives whether it printed what is stored, with the status that is, and says so if not.
+fn run_row(rt: &HostRuntime, name: &str, row: &Row<'_>) -> io::Result<bool> {
     let mut profile = row.profile.as_bytes();
     let mut session = row.session.as_bytes();
-    let ran = run(rt.alloc(), &mut profile, &mut session, row.failing)?;
-    let same = ran.printed.as_slice() == row.output.as_bytes();
+    let mut printed: Vec<u8> = Vec::new(rt.alloc());
+    let ran = run(
+        rt.alloc(),
+        &mut profile,
+        &mut session,
+        &mut printed,
+        row.failing,
+    )?;
+    let same = printed.as_slice() == row.output.as_bytes();
     if ran.is_idle && same && ran.status == row.status {
         return Ok(true);
     }
-    println!(rt; "{path}, {name}: NOT as stored, status {}", ran.status)?;
+    println!(rt; "{name}: NOT as stored, status {}", ran.status)?;
     Ok(false)
 }
 
-/// Runs all rows of a file, and says how many they were. Gives whether all printed what is stored.
-fn run_rows(rt: &HostRuntime, path: &str) -> io::Result<bool> {
+/// Runs a row with its texts cut and its streams failing. Gives whether all went as it should, and says what did not.
+fn try_row(rt: &HostRuntime, name: &str, row: &Row<'_>) -> io::Result<bool> {
+    for trial in TRIALS {
+        if let Some(number) = trial.first_wrong(rt.alloc(), row)? {
+            println!(rt; "{name}: WRONG with {} {number}", trial.name())?;
+            return Ok(false);
+        }
+    }
+    Ok(true)
+}
+
+/// Runs all rows of a file, or tries them, and says how many they were. Gives whether all was well.
+fn run_rows(rt: &HostRuntime, path: &str, with_trials: bool) -> io::Result<bool> {
     let text = fs::read_to_string(rt, path)?;
     let (head, mut left) = rows::until_row(text.as_str());
     let of_all = rows::profile_in(head, "");
-    let mut as_stored = 0usize;
+    let mut good = 0usize;
     let mut count = 0usize;
     while !left.is_empty() {
         let (row, after) = rows::until_row(left);
-        if run_row(rt, path, row, of_all)? {
-            as_stored = as_stored.saturating_add(1);
+        let (name, text) = row.split_once('\n').unwrap_or((row, ""));
+        let is_good = match rows::row_of(text, of_all) {
+            Some(row) if with_trials => try_row(rt, name, &row)?,
+            Some(row) => run_row(rt, name, &row)?,
+            None => false,
+        };
+        if is_good {
+            good = good.saturating_add(1);
         }
         count = count.saturating_add(1);
         left = after;
     }
-    println!(rt; "{path}: {as_stored} of {count} rows as stored")?;
-    Ok(as_stored == count)
+    let what = if with_trials {
+        "hold in the trials"
+    } else {
+        "as stored"
+    };
+    println!(rt; "{path}: {good} of {count} rows {what}")?;
+    Ok(good == count)
 }
 
 /// Runs the examples that the words name. Gives whether all printed what is stored.
@@ -129,10 +148,14 @@ fn run_words(rt: &HostRuntime) -> io::Result<bool> {
     let alloc = rt.alloc();
     let words: Vec<String> = env::args(rt)?.collect(alloc)?;
     let mut same = words.len() > 1;
+    let mut with_trials = false;
     let mut left = words.get(1..).unwrap_or_default();
     while let [word, after @ ..] = left {
-        if word.ends_with(".rows") {
-            same &= run_rows(rt, word.as_str())?;
+        if word.as_str() == "--trials" {
+            with_trials = true;
+            left = after;
+        } else if word.ends_with(".rows") {
+            same &= run_rows(rt, word.as_str(), with_trials)?;
             left = after;
         } else if let [session, stored, after @ ..] = after {
             same &= run_example(rt, word.as_str(), session.as_str(), stored.as_str())?;

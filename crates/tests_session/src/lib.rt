@@ -1,10 +1,15 @@
-//! Tests of `session` by its public call: readers and writers that fail or give little, and what a driver was asked
-//! that no text tells. Sessions with their texts stand in crates/examples.
+//! Tests of `session` by its public call: texts at their limits, a reader that never ends, how many drivers there may be,
+//! and what a driver was asked that no text tells. Sessions with their texts stand in crates/examples, which also cuts
+//! them and runs them over streams that fail.
 #![tactic(auto)]
 
 #[cfg(test)]
 mod borrowed;
 #[cfg(test)]
+mod drivers;
+#[cfg(test)]
 mod harness;
+#[cfg(test)]
+mod limits;
 #[cfg(test)]
 mod streams;
