@@ -22,9 +22,9 @@ args_list : {m : _} → (d : ℕ) (k : Row_of-CoreExpression m) → args_code d 
 args_list d end_of-CoreExpression = refl
 args_list d (more_of-CoreExpression e rest) = ap (λ l. expr_code d e ++ l) (args_list (suc d) rest)
 
-args_code_is : (d : ℕ) (v : Vec CoreExpression Global) → args_code d (Rattle.ang_core.specs.declared.tree.Expression.TheBlock.hidden-the_row-Expression-0 v) ≡ list_code d v.items
+args_code_is : (d : ℕ) (v : Vec CoreExpression Global) → args_code d (Rattle.ang_core.specs.declared.tree.CoreExpression.TheBlock.hidden-the_row-CoreExpression-0 v) ≡ list_code d v.items
 args_code_is d v =
-    args_list d (Rattle.ang_core.specs.declared.tree.Expression.TheBlock.hidden-the_row-Expression-0 v) ∙ ap (λ l. list_code d l) (items_hidden-the_row-CoreExpression-0 v)
+    args_list d (Rattle.ang_core.specs.declared.tree.CoreExpression.TheBlock.hidden-the_row-CoreExpression-0 v) ∙ ap (λ l. list_code d l) (items_hidden-the_row-CoreExpression-0 v)
 
 pub apply_code : (d : ℕ) (o : Operation) (v : Vec CoreExpression Global) → expr_code d (Apply o v) ≡ list_code d v.items ++ InstructionApply o ∷ []
 apply_code d o v = ap (λ l. l ++ InstructionApply o ∷ []) (args_code_is d v)
@@ -36,9 +36,9 @@ args_peak_list : {m : _} → (d : ℕ) (k : Row_of-CoreExpression m) → args_pe
 args_peak_list d end_of-CoreExpression = refl
 args_peak_list d (more_of-CoreExpression e rest) = ap (λ n. max (peak d e) n) (args_peak_list (suc d) rest)
 
-args_peak_is : (d : ℕ) (v : Vec CoreExpression Global) → args_peak d (Rattle.ang_core.specs.declared.tree.Expression.TheBlock.hidden-the_row-Expression-0 v) ≡ list_peak d v.items
+args_peak_is : (d : ℕ) (v : Vec CoreExpression Global) → args_peak d (Rattle.ang_core.specs.declared.tree.CoreExpression.TheBlock.hidden-the_row-CoreExpression-0 v) ≡ list_peak d v.items
 args_peak_is d v =
-    args_peak_list d (Rattle.ang_core.specs.declared.tree.Expression.TheBlock.hidden-the_row-Expression-0 v) ∙ ap (λ l. list_peak d l) (items_hidden-the_row-CoreExpression-0 v)
+    args_peak_list d (Rattle.ang_core.specs.declared.tree.CoreExpression.TheBlock.hidden-the_row-CoreExpression-0 v) ∙ ap (λ l. list_peak d l) (items_hidden-the_row-CoreExpression-0 v)
 
 pub apply_peak : (d : ℕ) (o : Operation) (v : Vec CoreExpression Global) → peak d (Apply o v) ≡ max (d + 1) (list_peak d v.items)
 apply_peak d o v = ap (λ n. max (d + 1) n) (args_peak_is d v)
@@ -64,7 +64,7 @@ row_peak_list n (more_of-CoreStatement s rest) = ap (λ m. max (statement_peak n
 pub block_row : (q n j kb kc : ℕ) (v : Vec CoreStatement Global) →
     stmt_code q n j kb kc (Block v) ≡ block_code (statements_code q n j (kb + length (leave_code (declared_in v.items))) (kc + length (leave_code (declared_in v.items))) v.items) (declared_in v.items)
 block_row q n j kb kc v =
-    let row = Rattle.ang_core.specs.declared.tree.Statement.TheBlock.hidden-the_row-Statement-0 v in
+    let row = Rattle.ang_core.specs.declared.tree.CoreStatement.TheBlock.hidden-the_row-CoreStatement-0 v in
     let items : items-the_row-CoreStatement _ row ≡ v.items = items_hidden-the_row-CoreStatement-0 v in
     let count : row_declared row ≡ declared_in v.items = declared_list row ∙ ap (λ l. declared_in l) items in
     ap (λ m. block_code (row_code q n j (kb + length (leave_code m)) (kc + length (leave_code m)) row) m) count
@@ -73,5 +73,5 @@ block_row q n j kb kc v =
 
 pub block_peak : (n : ℕ) (v : Vec CoreStatement Global) → statement_peak n (Block v) ≡ statements_peak n v.items
 block_peak n v =
-    let row = Rattle.ang_core.specs.declared.tree.Statement.TheBlock.hidden-the_row-Statement-0 v in
+    let row = Rattle.ang_core.specs.declared.tree.CoreStatement.TheBlock.hidden-the_row-CoreStatement-0 v in
     row_peak_list n row ∙ ap (λ l. statements_peak n l) (items_hidden-the_row-CoreStatement-0 v)

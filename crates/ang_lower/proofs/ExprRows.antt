@@ -14,9 +14,9 @@ row_is : {r : _} → (k : Row_of-CoreExpression r) → plain_row k ≡ c.exprs (
 row_is end_of-CoreExpression = refl
 row_is (more_of-CoreExpression e rest) = ap (c.more (plain_expr e)) (row_is rest)
 
-operands_are : (v : Vec CoreExpression Global) → plain_row (Rattle.ang_core.specs.declared.tree.Expression.TheBlock.hidden-the_row-Expression-0 v) ≡ c.exprs (list_map plain_expr v.items)
+operands_are : (v : Vec CoreExpression Global) → plain_row (Rattle.ang_core.specs.declared.tree.CoreExpression.TheBlock.hidden-the_row-CoreExpression-0 v) ≡ c.exprs (list_map plain_expr v.items)
 operands_are v =
-    row_is (Rattle.ang_core.specs.declared.tree.Expression.TheBlock.hidden-the_row-Expression-0 v)
+    row_is (Rattle.ang_core.specs.declared.tree.CoreExpression.TheBlock.hidden-the_row-CoreExpression-0 v)
     ∙ ap (λ l. c.exprs (list_map plain_expr l)) (items_hidden-the_row-CoreExpression-0 v)
 
 pub applied : (o : Operation) (v : Vec CoreExpression Global) → plain_expr (Apply o v) ≡ c.apply o (c.exprs (list_map plain_expr v.items))

@@ -13,5 +13,5 @@ stmts_are (more_of-CoreStatement s rest) = ap (stmt.«then» (plain_stmt s)) (st
 
 pub in_block : (v : Vec CoreStatement Global) → plain_stmt (Block v) ≡ stmt.block (stmt.stmts (list_map plain_stmt v.items))
 in_block v =
-    let row = Rattle.ang_core.specs.declared.tree.Statement.TheBlock.hidden-the_row-Statement-0 v in
+    let row = Rattle.ang_core.specs.declared.tree.CoreStatement.TheBlock.hidden-the_row-CoreStatement-0 v in
     ap (λ ss. stmt.block ss) (stmts_are row ∙ ap (λ l. stmt.stmts (list_map plain_stmt l)) (items_hidden-the_row-CoreStatement-0 v))
