@@ -1,5 +1,5 @@
 //! Laws of the definitions, each the contract of a function that does nothing. No program calls them.
-ghost use Rattle.std.specs.Prelude.{ℕ, ℤ, ◌≡◌};
+ghost use Rattle.std.specs.Prelude.{ℕ, ℤ, ◌+◌, ◌≡◌, ◌≤◌, true, List, Option};
 ghost use Rattle.ang_kinds.specs.declared.value.Value.{Value};
 ghost use Rattle.ang_drivers.specs.declared.counter.Count.{Count};
 ghost use Rattle.ang_drivers.specs.declared.faulty.Failing.{Failing};
@@ -9,6 +9,17 @@ ghost use Rattle.ang_drivers.specs.Tables.{core_of};
 ghost use Rattle.ang_drivers.specs.Counter.{count_code};
 ghost use Rattle.ang_drivers.specs.Faulty.{faulty_core};
 ghost use Rattle.ang_drivers.specs.Cell.{value_code};
+ghost use Rattle.ang_host.specs.declared.answer.Answer.TheVariants.{Void};
+ghost use Rattle.ang_host.specs.declared.answer.HostReply.{HostReply};
+ghost use Rattle.ang_host.specs.declared.answer.HostReply.TheVariants.{Asking};
+ghost use Rattle.ang_host.specs.declared.event.HostEvent.{HostEvent};
+ghost use Rattle.ang_host.specs.declared.event.Role.{Role};
+ghost use Rattle.ang_host.specs.State.{Ask, call};
+ghost use Rattle.ang_host.specs.Laws.{Fits};
+ghost use Rattle.ang_host.specs.Events.{CoreMoves};
+ghost use Rattle.ang_drivers.specs.declared.limited.CallLimit.{CallLimit};
+ghost use Rattle.ang_drivers.specs.Limited.{limited_core, LimitedFits, refusal, uses_one};
+ghost use Rattle.ang_drivers.specs.LimitedEvents.{answered_in, ResetsNothing};
 
 /// Two values of one code are the same, so the core of a console tells what it keeps: a read of the
 /// register can answer nothing but the value that was written last.
@@ -34,4 +45,27 @@ pub fn faulty_cores_differ()
 /// each live object, its key and value.
 pub fn cell_cores_differ()
     ensures apart { (x y : Table ℤ) → core_of value_code x ≡ core_of value_code y → x ≡ y }
+{}
+
+/// What a limited driver does with one host call, which its core tells beforehand: while some are left, one
+/// fewer is left and the driver inside moves as it says itself; while none is left, the answer is the
+/// fault and nothing changes; and a reset leaves the driver inside.
+pub fn limited_moves()
+    ensures below { (fits : Fits) (l : CallLimit) (left : ℕ) (x : List ℕ) (a : Ask) (r : HostReply) (d : List ℕ)
+        → uses_one l a ≡ true → LimitedFits fits (limited_core l (left + 1) x) a r d
+        → (y : List ℕ) × (d ≡ limited_core l left y) × fits x a r y }
+    ensures above { (fits : Fits) (l : CallLimit) (x : List ℕ) (a : Ask) (r : HostReply) (d : List ℕ)
+        → uses_one l a ≡ true → LimitedFits fits (limited_core l 0 x) a r d
+        → (r ≡ refusal l a) × (d ≡ limited_core l 0 x) }
+    ensures reset { (fits : Fits) (l : CallLimit) (left : ℕ) (x : List ℕ) (o : Option ℕ) (args : List Value)
+        (r : HostReply) (d : List ℕ) → LimitedFits fits (limited_core l left x) (call l.reset o args) r d
+        → (r ≡ Asking Void) × (d ≡ limited_core l l.calls x) }
+{}
+
+/// Of host calls among which there is no reset, a limited driver answers no more otherwise than by its
+/// fault than are left before them. (`Full` is no answer of a host call that was counted.)
+pub fn limit_holds()
+    ensures at_most { (roles : List Role) (fits : Fits) (l : CallLimit) (left : ℕ) (x d : List ℕ)
+        (events : List HostEvent) → CoreMoves roles (LimitedFits fits) (limited_core l left x) events d
+        → ResetsNothing roles l events → answered_in l.fault events ≤ left }
 {}
