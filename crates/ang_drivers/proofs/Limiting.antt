@@ -1,5 +1,5 @@
 -- A driver keeps its laws behind a limit.
-use Rattle.std.specs.Prelude.{ℕ, ◌+◌, ◌-◌, ◌≡◌, ◌≢◌, ◌<◌, ◌≤◌, ◌^◌, Bool, true, false, cond, List, [], ◌∷◌, Option, Some, None}
+use Rattle.std.specs.Prelude.{ℕ, ◌+◌, ◌-◌, ◌≡◌, ◌≢◌, ◌^◌, Bool, true, false, cond, List, [], ◌∷◌, Option, Some, None}
 use Rattle.std.proofs.Common.{refl, sym, ◌∙◌, ap, subst, arith, inl, inr}
 use Rattle.std.proofs.lemmas.Bool.{eq-eqb, ne_eqb}
 use Rattle.ang_kinds.specs.declared.value.Value.{Value}
@@ -10,9 +10,9 @@ use Rattle.ang_host.specs.declared.answer.Answer.{Answer}
 use Rattle.ang_host.specs.declared.answer.Answer.TheVariants.{Void, Gave, Fault, Memory, Full}
 use Rattle.ang_host.specs.declared.answer.HostReply.{HostReply}
 use Rattle.ang_host.specs.declared.answer.HostReply.TheVariants.{Making, Asking}
-use Rattle.ang_host.specs.State.{State, Tally, Ask, make, call, read, write, end, limit}
+use Rattle.ang_host.specs.State.{State, Tally, Ask, make, call, read, write}
 use Rattle.ang_host.specs.Events.{is_full}
-use Rattle.ang_host.specs.Laws.{Fits, IsLiveAnswer, IsLiveValue, AreLive, IsSound, IsFull, IsAsked, Answers, Makes, Answered, WasMade, Adds, WasAdded, Releases, WasReleased, IsIdleTest}
+use Rattle.ang_host.specs.Laws.{Fits, IsLiveAnswer, IsLiveValue, AreLive, IsSound, IsFull, IsAsked, Answers, Makes, Answered, WasMade}
 use Rattle.ang_drivers.specs.declared.limited.CallLimit.{CallLimit}
 use Rattle.ang_drivers.specs.Limited.{limited_core, limited_over, IsWithin, refusal, left_after, CountedFits, InsideFits, LimitedFits}
 
@@ -48,33 +48,6 @@ module _ (l : CallLimit) (left asked : ℕ) where
   full_over : (s : State) → IsWithin s asked → IsFull s → IsFull (limited_over l left asked s)
   full_over s w (inl e) = inl (omega (arith, e, w.few, w.reached))
   full_over s w (inr e) = inr e
-
-  -- ---- what is not counted
-
-  pub idle_over : (s : State) (r : Bool) → IsIdleTest s r → IsIdleTest (limited_over l left asked s) r
-  idle_over s r h = record { exact = h.exact; sound = sound_over s h.sound }
-
-  adds_over : (s t : State) (k : ℕ) (r : Bool) → IsWithin s asked → Adds s k r t → Adds (limited_over l left asked s) k r (limited_over l left asked t)
-  adds_over s t k true w h = (h.0, h.1, h.2, ap (limited_core l left) h.3, ap (λ (y : Tally). record y { asked = asked }) h.4)
-  adds_over s t k false w h = (ap (limited_over l left asked) h.0, full_over s w h.1)
-
-  pub added_over : (s t : State) (k : ℕ) (r : Bool) → IsWithin s asked → WasAdded s k r t → WasAdded (limited_over l left asked s) k r (limited_over l left asked t)
-  added_over s t k r w h = record { moved = adds_over s t k r w h.moved; sound = sound_over t h.sound }
-
-  module _ (fits : Fits) where
-    releases_over : (s t : State) (k : ℕ) (r : Bool) → Releases fits s k r t
-        → Releases (LimitedFits fits) (limited_over l left asked s) k r (limited_over l left asked t)
-    releases_over s t k true h = (
-      h.0,
-      h.1,
-      ap (λ (y : Tally). record y { asked = asked }) h.2,
-      (l, left, s.core, t.core, refl, refl, h.3),
-    )
-    releases_over s t k false h = (h.0, h.1, h.2, ap (limited_core l left) h.3, ap (λ (y : Tally). record y { asked = asked }) h.4)
-
-    pub released_over : (s t : State) (k : ℕ) (r : Bool) → WasReleased fits s k r t
-        → WasReleased (LimitedFits fits) (limited_over l left asked s) k r (limited_over l left asked t)
-    released_over s t k r h = record { moved = releases_over s t k r h.moved; sound = sound_over t h.sound }
 
 -- ---- a host call that is counted
 
@@ -120,7 +93,7 @@ module _ (fits : Fits) (l : CallLimit) (left asked : ℕ) (s t : State) (a : Ask
     asked_over r h = (h.0, ap (λ (y : Tally). record y { asked = asked + 1 }) h.1, moves_over r h.2)
 
     -- the state after: nothing is counted where the driver inside was full
-    after : Bool → State
+    abbrev after : Bool → State
     after b = limited_over l (cond b left (left - 1)) (cond b asked (asked + 1)) t
 
     answers_over : (r : Answer) → Answers fits s a r t → Answers (LimitedFits fits) (limited_over l left asked s) a r (after (is_full (Asking r)))

@@ -1,7 +1,7 @@
 -- What a limit lets through, from one reset to the next.
 use Rattle.std.specs.Prelude.{ℕ, ◌+◌, ◌-◌, ◌≡◌, ◌≤◌, ◌||◌, Bool, true, false, cond, not, nat_eq, List, [], ◌∷◌, Option}
 use Rattle.std.proofs.Common.{refl, sym, ◌∙◌, ap, subst, arith, inl, inr}
-use Rattle.std.proofs.lemmas.Bool.{eq-eqb}
+use Rattle.std.proofs.lemmas.Bool.{eq-eqb, false≢true}
 use Rattle.ang_kinds.specs.declared.value.Value.{Value}
 use Rattle.ang_host.specs.declared.answer.Answer.TheVariants.{Void}
 use Rattle.ang_host.specs.declared.answer.HostReply.{HostReply}
@@ -42,10 +42,10 @@ module _ (fits : Fits) (l : CallLimit) where
 
   is_other : (b : Bool) → not b ≡ true → b ≡ false
   is_other false e = refl
-  is_other true e = cc
+  is_other true e = absurd (false≢true e)
 
   not_reset : (f : ℕ) → not (nat_eq f l.reset) ≡ true → f ≡ l.reset → ⊥
-  not_reset f u e = let t : false ≡ true = sym (ap not (eq-eqb f l.reset e)) ∙ u in cc
+  not_reset f u e = false≢true (sym (ap not (eq-eqb f l.reset e)) ∙ u)
 
   inside_counted : (left : ℕ) (x : List ℕ) (a : Ask) (r : HostReply) (y : List ℕ) → uses_one l a ≡ true → InsideFits fits l left x a r y → CountedFits fits l left x a r y
   inside_counted left x (make f args) r y u h = h
@@ -53,14 +53,14 @@ module _ (fits : Fits) (l : CallLimit) where
   inside_counted left x (call f o args) r y u (inr h) = h.1
   inside_counted left x (read f o) r y u h = h
   inside_counted left x (write f o v) r y u h = h
-  inside_counted left x (end k) r y u h = cc
+  inside_counted left x (end k) r y u h = absurd (false≢true u)
 
   one_fewer : (left : ℕ) (a : Ask) → uses_one l a ≡ true → left_after l left a ≡ left - 1
   one_fewer left (make f args) u = refl
   one_fewer left (call f o args) u = ap (λ b. cond b l.calls (left - 1)) (is_other (nat_eq f l.reset) u)
   one_fewer left (read f o) u = refl
   one_fewer left (write f o v) u = refl
-  one_fewer left (end k) u = cc
+  one_fewer left (end k) u = absurd (false≢true u)
 
   one_used : (left : ℕ) (x : List ℕ) (a : Ask) (r : HostReply) (d : List ℕ) → uses_one l a ≡ true → LimitedFits fits (limited_core l left x) a r d
       → (y : List ℕ) × (d ≡ limited_core l (left - 1) y) × CountedFits fits l left x a r y
@@ -83,7 +83,9 @@ module _ (fits : Fits) (l : CallLimit) where
 
   pub passed_below : (left : ℕ) (x : List ℕ) (a : Ask) (r : HostReply) (d : List ℕ) → uses_one l a ≡ true → LimitedFits fits (limited_core l (left + 1) x) a r d
       → (y : List ℕ) × (d ≡ limited_core l left y) × fits x a r y
-  passed_below left x a r d u h = let t = one_used (left + 1) x a r d u h in passed_of left x t.0 a r d (t.1 ∙ ap (λ n. limited_core l n t.0) (omega arith)) t.2
+  passed_below left x a r d u h =
+      let t = one_used (left + 1) x a r d u h in
+      let e : left + 1 - 1 ≡ left = omega arith in passed_of left x t.0 a r d (t.1 ∙ ap (λ n. limited_core l n t.0) e) t.2
 
   reset_of : (left : ℕ) (x y : List ℕ) (o : Option ℕ) (args : List Value) (r : HostReply) (d : List ℕ)
       → d ≡ limited_core l (left_after l left (call l.reset o args)) y → InsideFits fits l left x (call l.reset o args) r y
@@ -105,14 +107,14 @@ module _ (fits : Fits) (l : CallLimit) where
   refusal_is_fault (call f o args) u = eq-eqb l.fault l.fault refl
   refusal_is_fault (read f o) u = eq-eqb l.fault l.fault refl
   refusal_is_fault (write f o v) u = eq-eqb l.fault l.fault refl
-  refusal_is_fault (end k) u = cc
+  refusal_is_fault (end k) u = absurd (false≢true u)
 
   one_at_most : (b : Bool) → cond b 0 1 ≤ 1
   one_at_most true = omega arith
   one_at_most false = omega arith
 
   none_where : (b : Bool) → b ≡ true → cond b 0 1 ≤ 0
-  none_where b e = subst (λ c. cond c 0 1 ≤ 0) (sym e) (omega arith)
+  none_where b e = let none : 0 ≤ 0 = omega arith in subst (λ c. cond c 0 1 ≤ 0) (sym e) none
 
   counted_at_most : (left k : ℕ) (x y : List ℕ) (a : Ask) (r : HostReply) → uses_one l a ≡ true → CountedFits fits l left x a r y → k ≤ left - 1 → cond (is_fault l.fault r) 0 1 + k ≤ left
   counted_at_most left k x y a r u (inl h) few = omega (arith, few, none_where (is_fault l.fault r) (ap (is_fault l.fault) h.1 ∙ refusal_is_fault a u))

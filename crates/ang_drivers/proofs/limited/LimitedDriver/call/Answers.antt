@@ -1,5 +1,7 @@
-use Rattle.std.proofs.Common.{refl, ◌∙◌, ap, cond, ◌+◌, ◌-◌}
+use Rattle.std.proofs.Common.{refl, sym, subst}
 use Rattle.ang_host.specs.State.{call}
+use Rattle.ang_host.specs.Laws.{AreLive}
+use Rattle.ang_drivers.specs.Limited.{limited_state}
 use Rattle.ang_drivers.proofs.Limiting.{call_counted, answered_full, answered_refused, answered_over, answered_reset, inside_args}
 use Rattle.ang_drivers.proofs.limited.LimitedDriver.call.Goals as goal
 
@@ -33,7 +35,7 @@ returns-then-self-eq0 g c =
 pub call-answer-requires-clause-args_live : goal.call-answer-requires-clause-args_live
 call-answer-requires-clause-args_live g c =
     let l = c.self.inside.calls in
-    inside_args l.limit l.left l.asked (g.D.Driver.meaning.state c.self.inside.driver) c.args.args.now (rw c.self.view_is c.requires.args_live)
+    inside_args l.limit l.left l.asked (g.D.Driver.meaning.state c.self.inside.driver) c.args.args.now (subst (λ v. AreLive (limited_state g.D.Driver.meaning.state v) c.args.args.now) (sym c.self.view_is) c.requires.args_live)
 
 pub returns : goal.returns
 returns g c =

@@ -1,5 +1,7 @@
-use Rattle.std.proofs.Common.{refl, ◌∙◌, ap, cond, ◌+◌, ◌-◌}
+use Rattle.std.proofs.Common.{refl, sym, subst}
 use Rattle.ang_host.specs.State.{make}
+use Rattle.ang_host.specs.Laws.{AreLive}
+use Rattle.ang_drivers.specs.Limited.{limited_state}
 use Rattle.ang_drivers.proofs.Limiting.{make_counted, made_full, made_refused, made_over, inside_args}
 use Rattle.ang_drivers.proofs.limited.LimitedDriver.make.Goals as goal
 
@@ -26,7 +28,7 @@ make-made-requires g c =
     let l = c.self.inside.calls in
     record {
       args_live =
-          inside_args l.limit l.left l.asked (g.D.Driver.meaning.state c.self.inside.driver) c.args.args.now (rw c.self.view_is c.requires.args_live);
+          inside_args l.limit l.left l.asked (g.D.Driver.meaning.state c.self.inside.driver) c.args.args.now (subst (λ v. AreLive (limited_state g.D.Driver.meaning.state v) c.args.args.now) (sym c.self.view_is) c.requires.args_live);
     }
 
 pub returns : goal.returns

@@ -1,4 +1,4 @@
-use Rattle.std.proofs.Common.{refl, ◌∙◌, ap, cond, ◌+◌, ◌-◌}
+use Rattle.std.proofs.Common.{refl}
 use Rattle.ang_host.specs.State.{read}
 use Rattle.ang_drivers.proofs.Limiting.{read_counted, answered_full, answered_refused, answered_over}
 use Rattle.ang_drivers.proofs.limited.LimitedDriver.read.Goals as goal
