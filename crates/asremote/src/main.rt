@@ -77,13 +77,11 @@ fn run_file(rt: &HostRuntime, options: &Options) -> Result<Ending, AllocError> {
     }
     let mut input = Echo::new(shared, rt.stdout(), options.echo);
     let mut out = rt.stdout();
-    let mut turns = rt.stdout();
     let SessionEnd { outcome, drivers } = converse(
         alloc,
         &mut profile,
         &mut input,
         &mut out,
-        &mut turns,
         boxes,
         options.budget,
     );

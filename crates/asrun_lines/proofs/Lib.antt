@@ -1,4 +1,5 @@
 pub mod Arguments
 pub mod Cuts
 pub mod FirstLines
+pub mod Headers
 pub mod Numerals

@@ -11,5 +11,5 @@ mod values;
 pub use fields::{decimal, field, number};
 pub use lines::{first_line, first_lines, is_skipped, shown};
 pub use profile_lines::{ProfileLine, profile_line};
-pub use session_lines::{LineError, SessionLine, session_line};
+pub use session_lines::{LineError, SessionLine, is_header, session_line};
 pub use values::value;

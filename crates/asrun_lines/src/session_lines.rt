@@ -1,6 +1,7 @@
 //! The lines of a session.
-ghost use Rattle.std.specs.Prelude.{◌≡◌, IfOk};
-ghost use Rattle.asrun_lines.specs.SessionLines.{Reads, module_of, masked_of, section_of, build_of, bind_of, unbind_of, call_of, discard_of, budget_of, session_line_of};
+ghost use Rattle.std.specs.Prelude.{◌≡◌, IfOk, codes};
+ghost use Rattle.std.specs.Str.{str_eq_ignore_ascii_case};
+ghost use Rattle.asrun_lines.specs.SessionLines.{Reads, module_of, masked_of, section_of, build_of, bind_of, unbind_of, call_of, discard_of, budget_of, session_line_of, is_header};
 
 use crate::fields::{decimal, field, last_field, mask, number, rest};
 use crate::values::arguments;
@@ -232,4 +233,24 @@ pub fn session_line(alloc: Global, line: &[u8]) -> Result<SessionLine, LineError
         return budget_line(text);
     }
     Err(LineError::BadLine)
+}
+
+/// Whether this is `section`, in either case.
+fn is_section(word: &[u8]) -> bool
+    ensures exact { result ≡ str_eq_ignore_ascii_case word.now (codes "section") }
+{
+    word.eq_ignore_ascii_case(b"section")
+}
+
+/// Whether the first letters of the line are `section`, in either case, whatever stands before them: a line that may have
+/// been meant for the head of a section, whether it is one or not.
+#[tactic(auto, unfolding(crate::specs::SessionLines::is_header))]
+pub fn is_header(line: &[u8]) -> bool
+    ensures exact { result ≡ is_header line.now }
+{
+    let Some(at) = line.iter().position(|b| b.is_ascii_alphabetic()) else {
+        return false;
+    };
+    let letters = &line[at..];
+    is_section(&letters[..letters.len().min(7)])
 }
