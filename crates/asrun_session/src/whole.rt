@@ -10,14 +10,14 @@ ghost use Rattle.asrun_session.specs.Engines.{RunsText, StopsText};
 ghost use Rattle.asrun_lines.specs.Lines.{lines_of};
 ghost use Rattle.asrun_session.specs.Profile.{loaded};
 ghost use Rattle.asrun_session.specs.Reading.{unread, IsReadThrough};
-ghost use Rattle.asrun_session.specs.Whole.{profile_fault_text, registered_by, most_profile, most_session, start_of, Starts, Tells, StartStops, Ends, Stops, Unread, outcome_of, fresh};
+ghost use Rattle.asrun_session.specs.Whole.{registered_by, most_profile, most_session, start_of, Starts, Tells, StartStops, Ends, Stops, Unread, outcome_of, fresh};
 ghost use Rattle.asrun_session.specs.Writing.{HasFront, unwritten};
 
 use crate::ending::{IoFault, Status, Stop};
-use crate::profile::{ProfileFault, ProfileStop, load};
+use crate::printing::{ReplyBuffer, print_profile_fault};
+use crate::profile::{ProfileStop, load};
 use crate::reading::{Text, read_text};
 use crate::run::run_session;
-use crate::text::push_profile_fault;
 use crate::writing::write_text;
 use ang_engine::{Engine, NewError, NewRefused};
 use ang_host::{Driver, Drivers, DriversError};
@@ -39,28 +39,10 @@ pub struct SessionEnd {
     pub drivers: Vec<Box<dyn Driver>>,
 }
 
-/// Prints what ends a run at a line of its profile.
-fn print_profile_fault<W: Write>(
-    alloc: Global,
-    writer: &mut W,
-    fault: ProfileFault,
-) -> Result<(), Stop>
-    ensures whole { OnOk result
-        (Appends (W.contents writer.old) (W.contents writer.new) (profile_fault_text fault)) }
-    ensures front { OnErr result
-        (HasFront (W.contents writer.old) (W.contents writer.new) (profile_fault_text fault)) }
-    ensures fault { IfErr result (λ e. e ≢ unread) }
-{
-    let mut text = Vec::new(alloc);
-    push_profile_fault(&mut text, fault)?;
-    write_text(writer, &text)?;
-    Ok(())
-}
-
 /// Registers what the profile says. False where the profile was not taken, which is printed then.
 fn load_text<W: Write>(
-    alloc: Global,
     writer: &mut W,
+    buffer: &mut ReplyBuffer,
     registry: &mut Registry,
     text: &[u8],
 ) -> Result<bool, Stop>
@@ -78,7 +60,7 @@ fn load_text<W: Write>(
         Ok(()) => Ok(true),
         Err(ProfileStop::Memory) => Err(Stop::Memory),
         Err(ProfileStop::Fault(fault)) => {
-            print_profile_fault(alloc, writer, fault)?;
+            print_profile_fault(writer, buffer, fault)?;
             Ok(false)
         }
     }
@@ -89,6 +71,7 @@ pub fn load_profile<R: Read, W: Write>(
     alloc: Global,
     reader: &mut R,
     writer: &mut W,
+    buffer: &mut ReplyBuffer,
     registry: &mut Registry,
 ) -> Result<bool, Stop>
     requires new { registry.old ≡ fresh }
@@ -106,7 +89,7 @@ pub fn load_profile<R: Read, W: Write>(
     ensures fault { IfErr result (λ e. e ≡ unread → W.contents writer.new ≡ W.contents writer.old) }
 {
     match read_text(alloc, reader, MOST_PROFILE)? {
-        Text::Whole(text) => load_text(alloc, writer, registry, &text),
+        Text::Whole(text) => load_text(writer, buffer, registry, &text),
         Text::TooLong => {
             write_text(writer, b"profile 0 TooLong\n")?;
             Ok(false)
@@ -119,6 +102,7 @@ fn run_text<R: Read, W: Write>(
     alloc: Global,
     reader: &mut R,
     writer: &mut W,
+    buffer: &mut ReplyBuffer,
     engine: &mut Engine,
     budget: u64,
 ) -> Result<Status, Stop>
@@ -138,7 +122,7 @@ fn run_text<R: Read, W: Write>(
     ensures unused { IfErr result (λ e. e ≡ unread → engine.new ≡ engine.old) }
 {
     match read_text(alloc, reader, MOST_SESSION)? {
-        Text::Whole(text) => run_session(alloc, engine, writer, &text, budget),
+        Text::Whole(text) => run_session(alloc, engine, writer, buffer, &text, budget),
         Text::TooLong => {
             write_text(writer, b"line 0 TooLong\n")?;
             Ok(Status::BadInput)
@@ -180,6 +164,7 @@ fn run_engine<R: Read, W: Write>(
     alloc: Global,
     reader: &mut R,
     writer: &mut W,
+    buffer: &mut ReplyBuffer,
     registry: Registry,
     drivers: Drivers,
     budget: u64,
@@ -203,7 +188,7 @@ fn run_engine<R: Read, W: Write>(
 {
     match Engine::new(alloc, registry, drivers) {
         Ok(mut engine) => {
-            let ended = run_text(alloc, reader, writer, &mut engine, budget);
+            let ended = run_text(alloc, reader, writer, buffer, &mut engine, budget);
             (ended, engine.discard())
         }
         Err(
@@ -228,6 +213,7 @@ fn run_drivers<R: Read, W: Write>(
     alloc: Global,
     reader: &mut R,
     writer: &mut W,
+    buffer: &mut ReplyBuffer,
     registry: Registry,
     drivers: Vec<Box<dyn Driver>>,
     budget: u64,
@@ -251,7 +237,7 @@ fn run_drivers<R: Read, W: Write>(
         (W.contents writer.old) (W.contents writer.new) (Ok registry.entries)) }
 {
     match Drivers::new(drivers) {
-        Ok(drivers) => run_engine(alloc, reader, writer, registry, drivers, budget),
+        Ok(drivers) => run_engine(alloc, reader, writer, buffer, registry, drivers, budget),
         Err((why, drivers)) => {
             drop(registry);
             (print_drivers_error(writer, why), drivers)
@@ -308,8 +294,17 @@ pub fn session<P: Read, S: Read, W: Write>(
         ⊎ (AreListed ⟦<dyn Driver as Driver>⟧ drivers.items
         × AreBack ⟦<dyn Driver as Driver>⟧ result.drivers.items) }
 {
+    let mut buffer = match ReplyBuffer::new(alloc) {
+        Ok(buffer) => buffer,
+        Err(_) => {
+            return SessionEnd {
+                outcome: Ok(Status::Memory),
+                drivers,
+            };
+        }
+    };
     let mut registry = Registry::new(alloc);
-    match load_profile(alloc, profile, out, &mut registry) {
+    match load_profile(alloc, profile, out, &mut buffer, &mut registry) {
         Ok(true) => {}
         Ok(false) => {
             return SessionEnd {
@@ -324,7 +319,7 @@ pub fn session<P: Read, S: Read, W: Write>(
             };
         }
     }
-    let (ended, drivers) = run_drivers(alloc, session, out, registry, drivers, budget);
+    let (ended, drivers) = run_drivers(alloc, session, out, &mut buffer, registry, drivers, budget);
     SessionEnd {
         outcome: outcome_of(ended),
         drivers,
