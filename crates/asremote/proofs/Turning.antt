@@ -1,10 +1,22 @@
 -- What a turn did is said of the lines of its text.
-use Rattle.std.proofs.Common.{◌≡◌, ℕ, List, [], ◌∷◌, Option, sym, ap, ◌∙◌, subst}
+use Rattle.std.proofs.Common.{◌≡◌, ℕ, ◌+◌, ◌≤◌, Bool, List, [], ◌∷◌, ◌++◌, length, take, Option, Some, None, Result, Ok, Err, OnOk, OnErr, refl, sym, ap, ◌∙◌, subst, inl, inr, arith, length-append}
+use Rattle.std.specs.Io.KnownBytes.{Appends}
+use Rattle.std.proofs.lemmas.List.{take-append-le, append-nil}
+use Rattle.std.proofs.Math.Seq.{take-append_seam, take-append-add, take-length}
 use Rattle.ang_host.specs.Meanings.{Meanings}
 use Rattle.ang_engine.specs.declared.engine.Engine.{Engine}
+use Rattle.ang_engine.specs.Engines.{registrations, world_in, drivers_in}
 use Rattle.asrun_lines.specs.Lines.{lines_of}
+use Rattle.asrun_session.specs.Deeds.{bad_line_text}
+use Rattle.asrun_session.specs.Engines.{Prints, HalfPrints}
+use Rattle.asrun_session.specs.Session.{Act}
+use Rattle.asrun_session.specs.Writing.{HasFront}
+use Rattle.asrun_session.proofs.Appending.{appends_both}
+use Rattle.asremote.specs.Talk.{Does, Turned, Passed, Did, Unread, says_of, ticks_after, answer_text, turn_text, done_line}
+use Rattle.asremote.specs.declared.turns.At.{At}
 use Rattle.asremote.specs.declared.turns.Turn.{Turn}
-use Rattle.asremote.specs.Turns.{Turns, TakesTurn}
+use Rattle.asremote.specs.declared.turns.Turn.TheVariants as turn
+use Rattle.asremote.specs.Turns.{IsSaid, IsTaken, Answers, Goes, GoesHalf, TurnsHalf, Turns, TakesTurn, TakesHalf, TakesOne}
 
 abbrev first_of : List (List ℕ) → List ℕ → List ℕ
 first_of [] d = d
@@ -14,13 +26,117 @@ abbrev others_of : List (List ℕ) → List (List ℕ)
 others_of [] = []
 others_of (l ∷ ls) = ls
 
-module _ {V : Type 0} {P : V → Type 0} (m : Meanings P) (e f : Engine V P) (old new : Option (List ℕ)) (number ticks : ℕ) (text : List ℕ) (t : Turn) where
-  pub turn_here : (l : List ℕ) (ls : List (List ℕ)) → lines_of text ≡ l ∷ ls → Turns m e f old new number ticks l ls t → TakesTurn m e f old new number ticks text t
-  turn_here l ls here h line section there =
-      let both : l ∷ ls ≡ line ∷ section = sym here ∙ there in
-      let one : l ≡ line = ap (λ x. first_of x []) both in
-      let more : ls ≡ section = ap others_of both in
-      subst (λ x. Turns m e f old new number ticks x section t) one (subst (λ x. Turns m e f old new number ticks l x t) more h)
+-- the first lines are those
+line_here : (S : List ℕ → List (List ℕ) → Type 0) (text l : List ℕ) (ls : List (List ℕ)) → lines_of text ≡ l ∷ ls → S l ls
+    → (line : List ℕ) (section : List (List ℕ)) → lines_of text ≡ line ∷ section → S line section
+line_here S text l ls here h line section there =
+    let both : l ∷ ls ≡ line ∷ section = sym here ∙ there in
+    let one : l ≡ line = ap (λ x. first_of x []) both in
+    let more : ls ≡ section = ap others_of both in
+    subst (λ x. S x section) one (subst (λ x. S l x) more h)
 
-  pub turn_nowhere : lines_of text ≡ [] → TakesTurn m e f old new number ticks text t
-  turn_nowhere here line section there = let none : [] ≡ line ∷ section = sym here ∙ there in absurd (let x : ⊥ = cc in x)
+-- what is written of an answer is a front of the turn's text
+front_of_turn : (old new : Option (List ℕ)) (t : Turned) → HasFront old new (answer_text t) → HasFront old new (turn_text t)
+front_of_turn old new t p = record {
+  count = p.count;
+  within = omega (arith, p.within, length-append (answer_text t) done_line);
+  printed = subst (λ x. Appends old new x) (sym (take-append-le p.count (answer_text t) done_line p.within)) p.printed;
+}
+
+-- and so is all of it
+whole_answer : (old new : Option (List ℕ)) (t : Turned) → Appends old new (answer_text t) → HasFront old new (turn_text t)
+whole_answer old new t p = record {
+  count = length (answer_text t);
+  within = omega (arith, length-append (answer_text t) done_line);
+  printed = subst (λ x. Appends old new x) (sym (take-append_seam (answer_text t) done_line)) p;
+}
+
+-- and a front of `done` after it
+done_front : (old mid new : Option (List ℕ)) (t : Turned) → Appends old mid (answer_text t) → HasFront mid new done_line → HasFront old new (turn_text t)
+done_front old mid new t p q = record {
+  count = length (answer_text t) + q.count;
+  within = omega (arith, q.within, length-append (answer_text t) done_line);
+  printed = subst (λ x. Appends old new x) (sym (take-append-add (answer_text t) done_line q.count))
+      (appends_both old mid new (answer_text t) (take q.count done_line) p q.printed);
+}
+
+module _ {V : Type 0} {P : V → Type 0} (m : Meanings P) (e f : Engine V P) (old new : Option (List ℕ)) (number ticks : ℕ) (text : List ℕ) where
+  pub turn_here : (t : Turn) (l : List ℕ) (ls : List (List ℕ)) → lines_of text ≡ l ∷ ls → Turns m e f old new number ticks l ls t → TakesTurn m e f old new number ticks text t
+  turn_here t l ls here h = line_here (λ line section. Turns m e f old new number ticks line section t) text l ls here h
+
+  pub half_here : (l : List ℕ) (ls : List (List ℕ)) → lines_of text ≡ l ∷ ls → TurnsHalf m e f old new number ticks l ls → TakesHalf m e f old new number ticks text
+  half_here l ls here h = line_here (λ line section. TurnsHalf m e f old new number ticks line section) text l ls here h
+
+  pub turn_nowhere : (t : Turn) → lines_of text ≡ [] → TakesTurn m e f old new number ticks text t
+  turn_nowhere t here line section there = let none : [] ≡ line ∷ section = sym here ∙ there in absurd (let x : ⊥ = cc in x)
+
+  -- a command was done, and its reply printed
+  pub performed : (l : List ℕ) (ls : List (List ℕ)) (a : Act) (ok : Bool) (next : ℕ) → IsSaid ticks l ls (Does a.action) a.lines → next ≡ ticks_after ticks (Does a.action)
+      → Prints m e f a.action old new ok → Answers m e f old new ticks l ls ok next a.lines
+  performed l ls a ok next said budget p = record {
+    turn = Did p.deed;
+    taken = record {
+      said = subst (λ x. IsSaid ticks l ls (Does x) a.lines) (sym p.action) said;
+      budget = budget ∙ ap (λ x. ticks_after ticks (Does x)) (sym p.action);
+      comes = (p.does, p.follow);
+    };
+    is_ok = p.ended;
+    printed = p.printed;
+  }
+
+  -- or printed in part
+  pub half_performed : (l : List ℕ) (ls : List (List ℕ)) (a : Act) → IsSaid ticks l ls (Does a.action) a.lines
+      → HalfPrints m e f a.action old new → GoesHalf m e f old new ticks l ls
+  half_performed l ls a said p = record {
+    turn = Did p.deed;
+    next = ticks_after ticks (Does a.action);
+    lines = a.lines;
+    taken = record {
+      said = subst (λ x. IsSaid ticks l ls (Does x) a.lines) (sym p.action) said;
+      budget = ap (λ x. ticks_after ticks (Does x)) (sym p.action);
+      comes = (p.does, p.follow);
+    };
+    front = front_of_turn old new (Did p.deed) p.front;
+  }
+
+-- ---- `done` after an answer
+
+module _ {V : Type 0} {P : V → Type 0} (m : Meanings P) (e f : Engine V P) (old mid : Option (List ℕ)) (number ticks : ℕ) (text : List ℕ) (ok : Bool) (next lines : ℕ)
+    (h : TakesTurn m e f old mid number ticks text (turn.Done ok next lines)) where
+  pub told : (new : Option (List ℕ)) (at : At) → at.ok ≡ ok → at.ticks ≡ next → at.number ≡ number + (1 + lines) → Appends mid new done_line
+      → TakesOne m e f old new number ticks text (Some at)
+  told new at is_ok is_next place p line section here =
+      let t = h line section here in
+      record {
+        turn = t.turn;
+        lines = lines;
+        taken = subst (λ n. IsTaken m e f ticks line section t.turn n lines) (sym is_next) t.taken;
+        is_ok = is_ok ∙ t.is_ok;
+        place = place;
+        printed = appends_both old mid new (answer_text t.turn) done_line t.printed p;
+      }
+
+  pub half_told : (new : Option (List ℕ)) → HasFront mid new done_line → TakesHalf m e f old new number ticks text
+  half_told new p line section here =
+      let t = h line section here in
+      inl (record { turn = t.turn; next = next; lines = lines; taken = t.taken; front = done_front old mid new t.turn t.printed p })
+
+  pub all_told : (new : Option (List ℕ)) → Appends mid new done_line → TakesHalf m e f old new number ticks text
+  all_told new p line section here =
+      let t = h line section here in
+      inl (record {
+        turn = t.turn;
+        next = next;
+        lines = lines;
+        taken = t.taken;
+        front = record {
+          count = length (turn_text t.turn);
+          within = omega arith;
+          printed = subst (λ x. Appends old new x) (sym (take-length (turn_text t.turn))) (appends_both old mid new (answer_text t.turn) done_line t.printed p);
+        };
+      })
+
+-- nothing was written
+pub nothing_more : (o : Option (List ℕ)) → Appends o o []
+nothing_more None = tt
+nothing_more (Some xs) = sym (append-nil xs)

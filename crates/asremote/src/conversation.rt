@@ -19,7 +19,7 @@ use ang_engine::{Engine, NewError, NewRefused};
 use ang_host::{Driver, Drivers};
 use ang_registry::Registry;
 use asrun_session::{
-    IoFault, SessionEnd, Status, Stop, load_profile, outcome_of, print_drivers_error,
+    IoFault, ReplyBuffer, SessionEnd, Status, Stop, load_profile, outcome_of, print_drivers_error,
     print_no_driver, write_text,
 };
 use std::alloc::Global;
@@ -56,6 +56,7 @@ fn turns_on<S: Read, W: Write>(
     alloc: Global,
     input: &mut S,
     writer: &mut W,
+    buffer: &mut ReplyBuffer,
     engine: &mut Engine,
     budget: u64,
 ) -> Result<Status, Stop>
@@ -79,7 +80,7 @@ fn turns_on<S: Read, W: Write>(
         let mut text = Vec::new(alloc);
         match read_command(alloc, input, &mut text)? {
             Next::Command => {
-                match one_turn(alloc, engine, writer, &text, number, ticks)? {
+                match one_turn(alloc, engine, writer, buffer, &text, number, ticks)? {
                     Some(at) => {
                         all_ok &= at.ok;
                         ticks = at.ticks;
@@ -89,7 +90,7 @@ fn turns_on<S: Read, W: Write>(
                 }
             }
             Next::Last => {
-                return match one_turn(alloc, engine, writer, &text, number, ticks)? {
+                return match one_turn(alloc, engine, writer, buffer, &text, number, ticks)? {
                     Some(at) => Ok(ended(all_ok & at.ok)),
                     None => Ok(Status::BadInput),
                 };
@@ -109,6 +110,7 @@ fn run_turns<S: Read, W: Write>(
     alloc: Global,
     input: &mut S,
     writer: &mut W,
+    buffer: &mut ReplyBuffer,
     engine: &mut Engine,
     budget: u64,
 ) -> Result<Status, Stop>
@@ -126,7 +128,7 @@ fn run_turns<S: Read, W: Write>(
         (W.contents writer.old) (W.contents writer.new))) }
 {
     print_done(writer)?;
-    turns_on(alloc, input, writer, engine, budget)
+    turns_on(alloc, input, writer, buffer, engine, budget)
 }
 
 /// Makes the engine, holds the conversation and discards the engine.
@@ -134,6 +136,7 @@ fn run_engine<S: Read, W: Write>(
     alloc: Global,
     input: &mut S,
     writer: &mut W,
+    buffer: &mut ReplyBuffer,
     registry: Registry,
     drivers: Drivers,
     budget: u64,
@@ -148,7 +151,7 @@ fn run_engine<S: Read, W: Write>(
 {
     match Engine::new(alloc, registry, drivers) {
         Ok(mut engine) => {
-            let ended = run_turns(alloc, input, writer, &mut engine, budget);
+            let ended = run_turns(alloc, input, writer, buffer, &mut engine, budget);
             (ended, engine.discard())
         }
         Err(
@@ -173,6 +176,7 @@ fn run_drivers<S: Read, W: Write>(
     alloc: Global,
     input: &mut S,
     writer: &mut W,
+    buffer: &mut ReplyBuffer,
     registry: Registry,
     drivers: Vec<Box<dyn Driver>>,
     budget: u64,
@@ -186,7 +190,7 @@ fn run_drivers<S: Read, W: Write>(
         (W.contents writer.old) (W.contents writer.new) registry.entries) }
 {
     match Drivers::new(drivers) {
-        Ok(drivers) => run_engine(alloc, input, writer, registry, drivers, budget),
+        Ok(drivers) => run_engine(alloc, input, writer, buffer, registry, drivers, budget),
         Err((why, drivers)) => {
             drop(registry);
             (print_drivers_error(writer, why), drivers)
@@ -212,8 +216,14 @@ pub fn converse<P: Read, S: Read, W: Write>(
         drivers.items result.drivers.items budget (S.remaining input.old) (S.remaining input.new)
         (W.contents out.old) (W.contents out.new) (start_of text) result.outcome) }
 {
+    let Ok(mut buffer) = ReplyBuffer::new(alloc) else {
+        return SessionEnd {
+            outcome: Ok(Status::Memory),
+            drivers,
+        };
+    };
     let mut registry = Registry::new(alloc);
-    match load_profile(alloc, profile, out, &mut registry) {
+    match load_profile(alloc, profile, out, &mut buffer, &mut registry) {
         Ok(true) => {}
         Ok(false) => {
             return SessionEnd {
@@ -228,7 +238,8 @@ pub fn converse<P: Read, S: Read, W: Write>(
             };
         }
     }
-    let (ended, drivers) = run_drivers(alloc, input, out, registry, drivers, budget);
+    let (ended, drivers) =
+        run_drivers(alloc, input, out, &mut buffer, registry, drivers, budget);
     SessionEnd {
         outcome: outcome_of(ended),
         drivers,

@@ -11,7 +11,7 @@ ghost use Rattle.asremote.specs.Turns.{TakesTurn, TakesHalf, TakesOne};
 use ang_engine::Engine;
 use ang_host::Driver;
 use asrun_lines::{LineError, first_line, is_header, is_skipped, shown};
-use asrun_session::{IoFault, Stop, perform, print_bad_line, read_act, write_text};
+use asrun_session::{IoFault, ReplyBuffer, Stop, perform, print_bad_line, read_act, write_text};
 use std::alloc::Global;
 use std::io::Write;
 
@@ -46,6 +46,7 @@ pub fn take_turn<W: Write>(
     alloc: Global,
     engine: &mut Engine,
     writer: &mut W,
+    buffer: &mut ReplyBuffer,
     text: &[u8],
     number: u64,
     ticks: u64,
@@ -69,12 +70,12 @@ pub fn take_turn<W: Write>(
     match read_act(alloc, ticks, line, after) {
         Ok(act) => {
             let lines = act.lines;
-            let (ok, next) = perform(alloc, engine, writer, act.action, ticks)?;
+            let (ok, next) = perform(engine, writer, buffer, act.action, ticks)?;
             Ok(Turn::Done(ok, next, lines))
         }
         Err(LineError::BadLine) => {
             if is_header(line) {
-                print_bad_line(alloc, writer, number)?;
+                print_bad_line(writer, buffer, number)?;
                 return Ok(Turn::Bad);
             }
             write_text(writer, b"refused BadLine\n")?;
@@ -114,6 +115,7 @@ pub fn one_turn<W: Write>(
     alloc: Global,
     engine: &mut Engine,
     writer: &mut W,
+    buffer: &mut ReplyBuffer,
     text: &[u8],
     number: u64,
     ticks: u64,
@@ -127,7 +129,7 @@ pub fn one_turn<W: Write>(
     ensures cut { OnErr result (TakesHalf ⟦<dyn Driver as Driver>⟧ engine.old engine.new
         (W.contents writer.old) (W.contents writer.new) number ticks text.now) }
 {
-    match take_turn(alloc, engine, writer, text, number, ticks)? {
+    match take_turn(alloc, engine, writer, buffer, text, number, ticks)? {
         Turn::Done(ok, ticks, lines) => {
             print_done(writer)?;
             let number = advanced(number, lines)?;

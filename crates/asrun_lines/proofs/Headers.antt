@@ -1,14 +1,15 @@
 -- Lines that are meant for the head of a section.
 use Rattle.std.proofs.Common.{◌≡◌, ℕ, zero, suc, ◌+◌, Bool, true, false, cond, List, [], ◌∷◌, ◌++◌, length, take, drop, Option, Some, None, if◌then◌else◌, unwrap_or, codes, ◌==◌, refl, sym, ap, ◌∙◌, subst, inl, inr, arith}
 use Rattle.std.specs.List.{position}
-use Rattle.std.specs.Str.{bytes_eq}
+use Rattle.std.specs.Str.{bytes_eq, str_eq_ignore_ascii_case}
+use Rattle.std.specs.Char.{is_ascii_alphabetic}
 use Rattle.std.specs.Option.{option_and_then, option_map}
-use Rattle.std.proofs.lemmas.Bool.{cases_Bool}
+use Rattle.std.proofs.lemmas.Bool.{cases_Bool, lt-ltb, le-ltb}
 use Rattle.std.proofs.lemmas.List.{take-append-drop}
 use Rattle.std.proofs.lemmas.Slice.Eq.{bytes_eq-Decides}
 use Rattle.asrun_lines.specs.Fields.{field_of, last_field_of, rest_of, decimal_of, number_of, mask_of, is_space}
 use Rattle.asrun_lines.specs.Values.{arguments_of}
-use Rattle.asrun_lines.specs.SessionLines.{module_of, masked_of, section_of, build_of, bind_of, unbind_of, call_of, discard_of, budget_of, session_line_of, is_header}
+use Rattle.asrun_lines.specs.SessionLines.{module_of, masked_of, section_of, build_of, bind_of, unbind_of, call_of, discard_of, budget_of, session_line_of, begins_section, is_header_at, is_header}
 use Rattle.asrun_lines.specs.declared.session_lines.SessionLine.{SessionLine}
 use Rattle.asrun_lines.specs.declared.session_lines.SessionLine.TheVariants as line
 
@@ -95,9 +96,18 @@ word_no w t e =
     (either_no (bytes_eq w (codes "budget")) _ _ (budget_no t) refl))))))))
 
 -- `section`, and what follows it
+letter_first : (rest : List ℕ) → position is_ascii_alphabetic (codes "section" ++ rest) ≡ Some 0
+letter_first rest = ap (λ b. cond b (Some 0) None) (lt-ltb 0 (length (codes "section" ++ rest)) (omega arith))
+
+section_first : (rest : List ℕ) → begins_section (codes "section" ++ rest) ≡ true
+unfolding begins_section
+section_first rest =
+    ap (λ b. if b then false else str_eq_ignore_ascii_case (take 7 (codes "section" ++ rest)) (codes "section"))
+    (le-ltb (length (codes "section" ++ rest)) 7 (omega arith))
+
 begins_so : (rest : List ℕ) → is_header (codes "section" ++ rest) ≡ true
 unfolding is_header
-begins_so rest = refl
+begins_so rest = ap (λ o. is_header_at o (codes "section" ++ rest)) (letter_first rest) ∙ section_first rest
 
 some_is : {A : Type 0} (x y : A) → Some x ≡ Some y → x ≡ y
 some_is x y e = ap (λ o. unwrap_or o x) e
@@ -128,8 +138,8 @@ by_word text w t e at = elim (cases_Bool (bytes_eq w (codes "section"))) [
       let word : w ≡ codes "section" = (bytes_eq-Decides w (codes "section")).0 is in
       let whole : text ≡ codes "section" ++ at.0 = at.1 ∙ ap (λ v. v ++ at.0) word in
       let header : is_header text ≡ true = ap is_header whole ∙ begins_so at.0 in
-      absurd (let no : true ≡ false = sym header ∙ e in cc)
-  | inr no ↦ no
+      absurd (let both : true ≡ false = sym header ∙ e in cc)
+  | inr other ↦ other
 ]
 
 field_no : (text : List ℕ) → is_header text ≡ false → (o : Option (List ℕ × List ℕ)) → field_of text ≡ o

@@ -1,30 +1,29 @@
-use Rattle.std.proofs.Common.{true, refl, sym, ap, ◌∙◌, inl, inr}
+use Rattle.std.proofs.Common.{[], true, false, refl, sym, ap, ◌∙◌, inl, inr}
 use Rattle.asrun_lines.specs.Lines.{is_skipped}
+use Rattle.asremote.specs.Talk.{Passed, Unread}
 use Rattle.asremote.specs.declared.turns.Turn.TheVariants as turn
-use Rattle.asremote.proofs.Turning.{turn_here}
+use Rattle.asremote.proofs.Turning.{turn_here, performed, nothing_more}
 use Rattle.asremote.proofs.turns.take_turn.Goals as goal
 
 pub returns-then-is_skipped-clause-turned : goal.returns-then-is_skipped-clause-turned
 returns-then-is_skipped-clause-turned g c =
     turn_here (λ v. (g.dyn-1.0.entry v).1) c.args.engine.now c.args.engine.now (g.W.Write.contents c.args.writer.now) (g.W.Write.contents c.args.writer.now) c.args.number c.args.ticks
-    c.args.text.now (turn.Done true c.args.ticks 0) c.in-Some.line.now _ c.in-Some.ensures.some (inl (record {
-      told = ap is_skipped (sym c.shown-line.ensures.exact) ∙ sym c.is_skipped.ensures.exact ∙ c.if-is_skipped.true;
+    c.args.text.now (turn.Done true c.args.ticks 0) c.in-Some.line.now _ c.in-Some.ensures.some (record {
+      turn = Passed;
+      taken = record {
+        said = (ap is_skipped (sym c.shown-line.ensures.exact) ∙ sym c.is_skipped.ensures.exact ∙ c.if-is_skipped.true, refl);
+        budget = refl;
+        comes = refl;
+      };
       is_ok = refl;
-      budget = refl;
-      lines_are = refl;
-      engine = refl;
-      nothing = refl;
-    }))
+      printed = nothing_more (g.W.Write.contents c.args.writer.now);
+    })
 
 pub returns-in_ok-ok-in-Ok-clause-turned : goal.returns-in_ok-ok-in-Ok-clause-turned
 returns-in_ok-ok-in-Ok-clause-turned g c =
     turn_here (λ v. (g.dyn-1.0.entry v).1) c.args.engine.now c.perform.new.engine (g.W.Write.contents c.args.writer.now) (g.W.Write.contents c.perform.new.writer) c.args.number c.args.ticks
-    c.args.text.now (turn.Done c.in_ok-ok-in-Ok.ok c.in_ok-ok-in-Ok.next c.in-Ok.act.lines) c.in-Some.line.now _ c.in-Some.ensures.some (inr (record {
-      act = record { action = c.in-Ok.act.action; lines = c.in-Ok.act.lines };
-      told = ap is_skipped (sym c.shown-line.ensures.exact) ∙ sym c.is_skipped.ensures.exact ∙ c.if-is_skipped.false;
-      said = rw (← c.shown-line.ensures.exact) c.in-Ok.ensures.exact.0;
-      within = c.in-Ok.ensures.exact.2;
-      lines_are = refl;
-      budget = c.in_ok-ok-in-Ok.ensures.budget;
-      printed = c.in_ok-ok-in-Ok.ensures.done;
-    }))
+    c.args.text.now (turn.Done c.in_ok-ok-in-Ok.ok c.in_ok-ok-in-Ok.next c.in-Ok.act.lines) c.in-Some.line.now _ c.in-Some.ensures.some
+    (performed (λ v. (g.dyn-1.0.entry v).1) c.args.engine.now c.perform.new.engine (g.W.Write.contents c.args.writer.now) (g.W.Write.contents c.perform.new.writer) c.args.number c.args.ticks
+    c.args.text.now c.in-Some.line.now _ (record { action = c.in-Ok.act.action; lines = c.in-Ok.act.lines }) c.in_ok-ok-in-Ok.ok c.in_ok-ok-in-Ok.next
+    (ap is_skipped (sym c.shown-line.ensures.exact) ∙ sym c.is_skipped.ensures.exact ∙ c.if-is_skipped.false, rw (← c.shown-line.ensures.exact) c.in-Ok.ensures.exact.0, c.in-Ok.ensures.exact.2)
+    c.in_ok-ok-in-Ok.ensures.budget c.in_ok-ok-in-Ok.ensures.done)
