@@ -275,14 +275,14 @@ appends_none (Some xs) = sym (append-nil xs)
 
 -- a text, and a front of one more
 front_behind : (old mid new : Option (List ℕ)) (text one : List ℕ) → Appends old mid text → (q : HasFront mid new one)
-    → (p : HasFront old new (text ++ one)) × (length text ≤ p.count)
+    → (p : HasFront old new (text ++ one)) × (p.count ≡ length text + q.count)
 front_behind old mid new text one p q = (
   record {
     count = length text + q.count;
     within = omega (arith, q.within, length-append text one);
     printed = subst (λ t. Appends old new t) (sym (take-append-add text one q.count)) (appends_both old mid new text (take q.count one) p q.printed);
   },
-  omega arith,
+  refl,
 )
 
 -- ---- what a turn does
@@ -323,20 +323,18 @@ pub record HasGone {V : Type 0} {P : V → Type 0} (m : Meanings P) (R : Registr
   pub all_ok : ok ≡ list_all is_right turns
 
 module _ {V : Type 0} {P : V → Type 0} (m : Meanings P) (R : RegistrationList) (w : World) (xs : List (DynBox V Global P)) (budget : ℕ) (rold wold : Option (List ℕ)) where
-  pub gone_first : HasGone m R w xs budget rold rold wold wold [] [] 1 budget true w xs
-  gone_first = record {
-    turns = [];
-    come = record {
-      read = consumes_nothing rold;
-      here = lines_here [] [] no_lines;
-      said = λ future. refl;
-      ends = λ future. refl;
-      does = refl;
-      follow = follow_nothing m R xs;
-    };
-    printed = appends_none wold;
-    all_ok = refl;
+  pub come_first : HasCome m R w xs budget rold rold [] [] 1 budget [] w xs
+  come_first = record {
+    read = consumes_nothing rold;
+    here = lines_here [] [] no_lines;
+    said = λ future. refl;
+    ends = λ future. refl;
+    does = refl;
+    follow = follow_nothing m R xs;
   }
+
+  pub gone_first : HasGone m R w xs budget rold rold wold wold [] [] 1 budget true w xs
+  gone_first = record { turns = []; come = come_first; printed = appends_none wold; all_ok = refl }
 
   -- nothing more was read
   pub gone_read : (r1 r2 w1 : Option (List ℕ)) (text : List ℕ) (lines : List (List ℕ)) (number ticks : ℕ) (ok : Bool) (after : World) (ys : List (DynBox V Global P))
@@ -536,25 +534,25 @@ module _ {V : Type 0} {P : V → Type 0} (m : Meanings P) (R : RegistrationList)
     pub cut_half : (f : Engine V P) (w1 w2 r3 : Option (List ℕ)) → Appends wold w1 (turns_text turns) → GoesHalf m e f w1 w2 ticks line section
         → ByEvents m R xs (λ es. IsCutShort R w budget [] rold r3 wold w2 es (world_in m f)) (drivers_in f)
     cut_half f w1 w2 r3 before p =
-        let come = come_on f p.turn p.next p.lines p.taken in
-        let good = going_on r2 (text ++ c) (lines ++ line ∷ section) (number + (1 + p.lines)) p.next (turns ++ p.turn ∷ []) (world_in m f) (drivers_in f) come in
-        let front = front_behind wold w1 w2 (turns_text turns) (turn_text p.turn) before p.front in
-        let same : turns_text turns ++ turn_text p.turn ≡ turns_text (turns ++ p.turn ∷ []) ++ [] =
-        sym (text_more turns p.turn) ∙ sym (append-nil (turns_text (turns ++ p.turn ∷ []))) in (
-          events_in (deeds_in (turns ++ p.turn ∷ [])),
+        let come = come_on f p.did p.next p.lines p.taken in
+        let good = going_on r2 (text ++ c) (lines ++ line ∷ section) (number + (1 + p.lines)) p.next (turns ++ p.did ∷ []) (world_in m f) (drivers_in f) come in
+        let front = front_behind wold w1 w2 (turns_text turns) (turn_text p.did) before p.front in
+        let same : turns_text turns ++ turn_text p.did ≡ turns_text (turns ++ p.did ∷ []) ++ [] =
+        sym (text_more turns p.did) ∙ sym (append-nil (turns_text (turns ++ p.did ∷ []))) in (
+          events_in (deeds_in (turns ++ p.did ∷ [])),
           record {
             text = text ++ c;
-            turns = turns ++ p.turn ∷ [];
+            turns = turns ++ p.did ∷ [];
             last = [];
             read = (r2, come.read);
-            held = held r2 (text ++ c) (lines ++ line ∷ section) (number + (1 + p.lines)) p.next (turns ++ p.turn ∷ []) (world_in m f) (drivers_in f) come;
+            held = held r2 (text ++ c) (lines ++ line ∷ section) (number + (1 + p.lines)) p.next (turns ++ p.did ∷ []) (world_in m f) (drivers_in f) come;
             can_end = inl (ap bad_line_text (sym good));
             printed = record {
               count = front.0.count;
               within = omega (arith, front.0.within, ap length same);
               printed = subst (λ t. Appends wold w2 (take front.0.count t)) same front.0.printed;
             };
-            whole = omega (arith, front.1, ap (λ ts. length (turns_text ts)) (but_last_is turns p.turn));
+            whole = omega (arith, front.1, ap (λ ts. length (turns_text ts)) (but_last_is turns p.did));
           },
           come.follow,
         )
@@ -571,11 +569,11 @@ module _ {V : Type 0} {P : V → Type 0} (m : Meanings P) (R : RegistrationList)
         → (at : At) → Goes m e f w1 w2 number ticks line section at
         → HasGone m R w xs budget rold r2 wold w2 (come.0 ++ c) (come.1 ++ line ∷ section) at.number at.ticks (ok && at.ok) (world_in m f) (drivers_in f)
     goes_on line section is consumed cut at g = record {
-      turns = went.turns ++ g.turn ∷ [];
-      come = subst (λ n. HasCome m R w xs budget rold r2 (come.0 ++ c) (come.1 ++ line ∷ section) n at.ticks (went.turns ++ g.turn ∷ []) (world_in m f) (drivers_in f)) (sym g.place)
-          (come_on r1 come.0 come.1 number ticks went.turns e went.come list c line section is r2 consumed cut f g.turn at.ticks g.lines g.taken);
-      printed = subst (λ t. Appends wold w2 t) (sym (text_more went.turns g.turn)) (appends_both wold w1 w2 (turns_text went.turns) (turn_text g.turn) went.printed g.printed);
-      all_ok = ap (λ b. b && at.ok) went.all_ok ∙ ap (λ b. list_all is_right went.turns && b) g.is_ok ∙ sym (all_more went.turns g.turn);
+      turns = went.turns ++ g.did ∷ [];
+      come = subst (λ n. HasCome m R w xs budget rold r2 (come.0 ++ c) (come.1 ++ line ∷ section) n at.ticks (went.turns ++ g.did ∷ []) (world_in m f) (drivers_in f)) (sym g.place)
+          (come_on r1 come.0 come.1 number ticks went.turns e went.come list c line section is r2 consumed cut f g.did at.ticks g.lines g.taken);
+      printed = subst (λ t. Appends wold w2 t) (sym (text_more went.turns g.did)) (appends_both wold w1 w2 (turns_text went.turns) (turn_text g.did) went.printed g.printed);
+      all_ok = ap (λ b. b && at.ok) went.all_ok ∙ ap (λ b. list_all is_right went.turns && b) g.is_ok ∙ sym (all_more went.turns g.did);
     }
 
     module _ (o : Option At) (taken : TakesOne m e f w1 w2 number ticks now o) where
@@ -676,8 +674,8 @@ module _ (R : RegistrationList) (w : World) (budget : ℕ) (r1 r2 w0 w1 w2 : Opt
         read = t.read;
         held = t.held;
         can_end = t.can_end;
-        printed = record { count = length done_line + t.printed.count; within = front.0.within; printed = front.0.printed };
-        whole = omega (arith, t.whole);
+        printed = front.0;
+        whole = omega (arith, t.whole, front.1);
       }
 
   pub started_over : {V : Type 0} {P : V → Type 0} (m : Meanings P) (xs ys : List (DynBox V Global P)) (after : World) (r : Result Status Stop)
@@ -696,8 +694,8 @@ module _ (R : RegistrationList) (w : World) (budget : ℕ) (r1 r2 w0 w1 w2 : Opt
 pub unstarted : {V : Type 0} {P : V → Type 0} (m : Meanings P) (R : RegistrationList) (w : World) (xs : List (DynBox V Global P)) (budget : ℕ) (r1 r2 w0 w1 : Option (List ℕ))
     → HasFront w0 w1 done_line → ByEvents m R xs (λ es. IsCutShort R w budget done_line r1 r2 w0 w1 es w) xs
 unstarted m R w xs budget r1 r2 w0 w1 p =
-    let first = gone_first m R w xs budget r1 w0 in
-    let good = going_on m R w xs budget r1 w0 r1 [] [] 1 budget [] w xs first.come in
+    let first = come_first m R w xs budget r1 w0 in
+    let good = going_on m R w xs budget r1 w0 r1 [] [] 1 budget [] w xs first in
     let same : done_line ≡ done_line ++ ([] ++ []) = sym (append-nil done_line) in (
       [],
       record {
@@ -705,7 +703,7 @@ unstarted m R w xs budget r1 r2 w0 w1 p =
         turns = [];
         last = [];
         read = (r1, consumes_nothing r1);
-        held = held m R w xs budget r1 w0 r1 [] [] 1 budget [] w xs first.come;
+        held = held m R w xs budget r1 w0 r1 [] [] 1 budget [] w xs first;
         can_end = inl (ap bad_line_text (sym good));
         printed = record {
           count = p.count;

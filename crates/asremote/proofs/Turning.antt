@@ -74,7 +74,7 @@ module _ {V : Type 0} {P : V → Type 0} (m : Meanings P) (e f : Engine V P) (ol
   pub performed : (l : List ℕ) (ls : List (List ℕ)) (a : Act) (ok : Bool) (next : ℕ) → IsSaid ticks l ls (Does a.action) a.lines → next ≡ ticks_after ticks (Does a.action)
       → Prints m e f a.action old new ok → Answers m e f old new ticks l ls ok next a.lines
   performed l ls a ok next said budget p = record {
-    turn = Did p.deed;
+    did = Did p.deed;
     taken = record {
       said = subst (λ x. IsSaid ticks l ls (Does x) a.lines) (sym p.action) said;
       budget = budget ∙ ap (λ x. ticks_after ticks (Does x)) (sym p.action);
@@ -88,7 +88,7 @@ module _ {V : Type 0} {P : V → Type 0} (m : Meanings P) (e f : Engine V P) (ol
   pub half_performed : (l : List ℕ) (ls : List (List ℕ)) (a : Act) → IsSaid ticks l ls (Does a.action) a.lines
       → HalfPrints m e f a.action old new → GoesHalf m e f old new ticks l ls
   half_performed l ls a said p = record {
-    turn = Did p.deed;
+    did = Did p.deed;
     next = ticks_after ticks (Does a.action);
     lines = a.lines;
     taken = record {
@@ -108,31 +108,31 @@ module _ {V : Type 0} {P : V → Type 0} (m : Meanings P) (e f : Engine V P) (ol
   told new at is_ok is_next place p line section here =
       let t = h line section here in
       record {
-        turn = t.turn;
+        did = t.did;
         lines = lines;
-        taken = subst (λ n. IsTaken m e f ticks line section t.turn n lines) (sym is_next) t.taken;
+        taken = subst (λ n. IsTaken m e f ticks line section t.did n lines) (sym is_next) t.taken;
         is_ok = is_ok ∙ t.is_ok;
         place = place;
-        printed = appends_both old mid new (answer_text t.turn) done_line t.printed p;
+        printed = appends_both old mid new (answer_text t.did) done_line t.printed p;
       }
 
   pub half_told : (new : Option (List ℕ)) → HasFront mid new done_line → TakesHalf m e f old new number ticks text
   half_told new p line section here =
       let t = h line section here in
-      inl (record { turn = t.turn; next = next; lines = lines; taken = t.taken; front = done_front old mid new t.turn t.printed p })
+      inl (record { did = t.did; next = next; lines = lines; taken = t.taken; front = done_front old mid new t.did t.printed p })
 
   pub all_told : (new : Option (List ℕ)) → Appends mid new done_line → TakesHalf m e f old new number ticks text
   all_told new p line section here =
       let t = h line section here in
       inl (record {
-        turn = t.turn;
+        did = t.did;
         next = next;
         lines = lines;
         taken = t.taken;
         front = record {
-          count = length (turn_text t.turn);
+          count = length (turn_text t.did);
           within = omega arith;
-          printed = subst (λ x. Appends old new x) (sym (take-length (turn_text t.turn))) (appends_both old mid new (answer_text t.turn) done_line t.printed p);
+          printed = subst (λ x. Appends old new x) (sym (take-length (turn_text t.did))) (appends_both old mid new (answer_text t.did) done_line t.printed p);
         };
       })
 

@@ -58,20 +58,20 @@ module _ {V : Type 0} {P : V → Type 0} (m : Meanings P) (e f : Engine V P) whe
   -- the same, and what is answered was printed
   pub record Answers (old new : Option (List ℕ)) (ticks : ℕ) (line : List ℕ)
       (section : List (List ℕ)) (ok : Bool) (next lines : ℕ) : Type 0 where
-    pub turn : Turned
-    pub taken : IsTaken ticks line section turn next lines
-    pub is_ok : ok ≡ is_right turn
-    pub printed : Appends old new (answer_text turn)
+    pub did : Turned
+    pub taken : IsTaken ticks line section did next lines
+    pub is_ok : ok ≡ is_right did
+    pub printed : Appends old new (answer_text did)
 
   -- and `done` after it
   pub record Goes (old new : Option (List ℕ)) (number ticks : ℕ) (line : List ℕ)
       (section : List (List ℕ)) (at : At) : Type 0 where
-    pub turn : Turned
+    pub did : Turned
     pub lines : ℕ
-    pub taken : IsTaken ticks line section turn at.ticks lines
-    pub is_ok : at.ok ≡ is_right turn
+    pub taken : IsTaken ticks line section did at.ticks lines
+    pub is_ok : at.ok ≡ is_right did
     pub place : at.number ≡ number + (1 + lines)
-    pub printed : Appends old new (turn_text turn)
+    pub printed : Appends old new (turn_text did)
 
   -- the line ends the conversation
   pub record Ends (old new : Option (List ℕ)) (number ticks : ℕ) (line : List ℕ)
@@ -83,11 +83,11 @@ module _ {V : Type 0} {P : V → Type 0} (m : Meanings P) (e f : Engine V P) whe
   -- a front of what is printed for a turn stands
   pub record GoesHalf (old new : Option (List ℕ)) (ticks : ℕ) (line : List ℕ)
       (section : List (List ℕ)) : Type 0 where
-    pub turn : Turned
+    pub did : Turned
     pub next : ℕ
     pub lines : ℕ
-    pub taken : IsTaken ticks line section turn next lines
-    pub front : HasFront old new (turn_text turn)
+    pub taken : IsTaken ticks line section did next lines
+    pub front : HasFront old new (turn_text did)
 
   -- a front of what is printed for a line that ends the conversation stands
   pub record EndsHalf (old new : Option (List ℕ)) (number ticks : ℕ) (line : List ℕ)

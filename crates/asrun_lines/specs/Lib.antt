@@ -1,3 +1,4 @@
+pub mod Budget
 pub mod Fields
 pub mod Values
 pub mod Lines

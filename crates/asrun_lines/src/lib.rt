@@ -2,12 +2,14 @@
 //! what each form of a line spells.
 #![tactic(auto)]
 
+mod budget;
 mod fields;
 mod lines;
 mod profile_lines;
 mod session_lines;
 mod values;
 
+pub use budget::budget_of;
 pub use fields::{decimal, field, number};
 pub use lines::{first_line, first_lines, is_skipped, shown};
 pub use profile_lines::{ProfileLine, profile_line};

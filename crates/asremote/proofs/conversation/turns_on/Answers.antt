@@ -1,6 +1,7 @@
 use Rattle.std.proofs.Common.{[], refl, ◌∙◌}
+use Rattle.std.proofs.lemmas.Result.{err_from_is_err_and}
 use Rattle.asremote.proofs.Lining.{no_lines}
-use Rattle.asremote.proofs.Coming.{gone_first, gone_read, ends_all, long_over, cut_long, next_on, next_bad, last_on, last_bad}
+use Rattle.asremote.proofs.Coming.{gone_first, gone_read, ends_all, long_over, cut_here, cut_long, next_half, last_half, next_on, next_bad, last_on, last_bad}
 use Rattle.asremote.proofs.conversation.turns_on.Goals as goal
 use Rattle.asremote.proofs.conversation.turns_on.Goals.{in-Some-2, in-None-2}
 
@@ -56,3 +57,26 @@ pub returns-in-End-clause-done : goal.returns-in-End-clause-done
 returns-in-End-clause-done g c =
     rw c.ended-in-End.ensures.exact
     (ends_all (λ v. (g.dyn-1.0.entry v).1) _ _ _ _ _ _ _ _ _ _ _ _ _ _ _ (gone_read (λ v. (g.dyn-1.0.entry v).1) _ _ _ _ _ _ _ _ _ _ _ _ _ _ _ _ c.loop.invariant.come.3 (rw c.in-End.is at c.in_ok-read_command.ensures.read)))
+
+pub returns-in_err-read_command-clause-cut : goal.returns-in_err-read_command-clause-cut
+returns-in_err-read_command-clause-cut g c =
+    let p = err_from_is_err_and c.from_residual.result c.from_residual.ensures.1 in
+    rw p.1 (cut_here (λ v. (g.dyn-1.0.entry v).1) _ _ _ _ _ _ _ _ _ _ _ _ _ _ _ c.loop.invariant.come.3 _)
+
+pub returns-in_err-at-in-Command-clause-cut : goal.returns-in_err-at-in-Command-clause-cut
+returns-in_err-at-in-Command-clause-cut g c =
+    let p = err_from_is_err_and c.from_residual-in_err-at-in-Command.result c.from_residual-in_err-at-in-Command.ensures.1 in
+    rw p.1
+    (next_half (λ v. (g.dyn-1.0.entry v).1) _ _ _ _ _ _ _ _ _ _ _ c.loop.engine c.one_turn.new.engine c.loop.invariant.list c.loop.invariant.come _ c.deref.result.now c.deref.ensures.value c.in_ok-read_command.field-0 _ _
+    c.in_ok-read_command.ensures.read c.in_err-at-in-Command.ensures.cut c.in-Command.is)
+
+pub returns-in_err-at-in-Last-clause-cut : goal.returns-in_err-at-in-Last-clause-cut
+returns-in_err-at-in-Last-clause-cut g c =
+    let p = err_from_is_err_and c.from_residual-in_err-at-in-Last.result c.from_residual-in_err-at-in-Last.ensures.1 in
+    rw p.1
+    (last_half (λ v. (g.dyn-1.0.entry v).1) _ _ _ _ _ _ _ _ _ _ _ c.loop.engine c.one_turn-in-Last.new.engine c.loop.invariant.list c.loop.invariant.come _ c.deref-in-Last.result.now c.deref-in-Last.ensures.value c.in_ok-read_command.field-0 _ _
+    c.in_ok-read_command.ensures.read c.in_err-at-in-Last.ensures.cut c.in-Last.is)
+
+pub returns-clause-cut : goal.returns-clause-cut
+returns-clause-cut g c =
+    cut_here (λ v. (g.dyn-1.0.entry v).1) _ _ _ _ _ _ _ _ _ _ _ _ _ _ _ c.loop.invariant.come.3 _

@@ -9,7 +9,7 @@ pub returns-then-is_skipped-clause-turned : goal.returns-then-is_skipped-clause-
 returns-then-is_skipped-clause-turned g c =
     turn_here (λ v. (g.dyn-1.0.entry v).1) c.args.engine.now c.args.engine.now (g.W.Write.contents c.args.writer.now) (g.W.Write.contents c.args.writer.now) c.args.number c.args.ticks
     c.args.text.now (turn.Done true c.args.ticks 0) c.in-Some.line.now _ c.in-Some.ensures.some (record {
-      turn = Passed;
+      did = Passed;
       taken = record {
         said = (ap is_skipped (sym c.shown-line.ensures.exact) ∙ sym c.is_skipped.ensures.exact ∙ c.if-is_skipped.true, refl);
         budget = refl;
