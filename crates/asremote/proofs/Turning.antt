@@ -1,8 +1,9 @@
 -- What a turn did is said of the lines of its text.
 use Rattle.std.proofs.Common.{◌≡◌, ℕ, ◌+◌, ◌≤◌, Bool, List, [], ◌∷◌, ◌++◌, length, take, Option, Some, None, Result, Ok, Err, OnOk, OnErr, refl, sym, ap, ◌∙◌, subst, inl, inr, arith, length-append}
-use Rattle.std.specs.Io.KnownBytes.{Appends}
+use Rattle.std.specs.Io.KnownBytes.{Appends, Keeps}
 use Rattle.std.proofs.lemmas.List.{take-append-le, append-nil}
 use Rattle.std.proofs.Math.Seq.{take-append_seam, take-append-add, take-length}
+use Rattle.ang_remote.proofs.Streams.{appends_kept}
 use Rattle.ang_host.specs.Meanings.{Meanings}
 use Rattle.ang_engine.specs.declared.engine.Engine.{Engine}
 use Rattle.ang_engine.specs.Engines.{registrations, world_in, drivers_in}
@@ -140,3 +141,11 @@ module _ {V : Type 0} {P : V → Type 0} (m : Meanings P) (e f : Engine V P) (ol
 pub nothing_more : (o : Option (List ℕ)) → Appends o o []
 nothing_more None = tt
 nothing_more (Some xs) = sym (append-nil xs)
+
+-- a text that was written, and then not flushed
+pub unflushed : (old mid new : Option (List ℕ)) (text : List ℕ) → Appends old mid text → Keeps mid new → HasFront old new text
+unflushed old mid new text p k = record {
+  count = length text;
+  within = omega arith;
+  printed = subst (λ t. Appends old new t) (sym (take-length text)) (appends_kept old mid new text p k);
+}

@@ -238,8 +238,7 @@ pub fn converse<P: Read, S: Read, W: Write>(
             };
         }
     }
-    let (ended, drivers) =
-        run_drivers(alloc, input, out, &mut buffer, registry, drivers, budget);
+    let (ended, drivers) = run_drivers(alloc, input, out, &mut buffer, registry, drivers, budget);
     SessionEnd {
         outcome: outcome_of(ended),
         drivers,

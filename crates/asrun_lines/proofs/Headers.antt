@@ -76,14 +76,14 @@ other_no b x y e q = ap (λ c. may_head (if c then x else y)) e ∙ q
 -- a line of another first word is no head
 word_no : (w t : List ℕ) → bytes_eq w (codes "section") ≡ false
     → may_head (if bytes_eq w (codes "module") then module_of t
-      else (if bytes_eq w (codes "mask") then masked_of t
-      else (if bytes_eq w (codes "section") then section_of t
-      else (if bytes_eq w (codes "build") then build_of t
-      else (if bytes_eq w (codes "bind") then bind_of t
-      else (if bytes_eq w (codes "unbind") then unbind_of t
-      else (if bytes_eq w (codes "call") then call_of t
-      else (if bytes_eq w (codes "discard") then discard_of t
-      else (if bytes_eq w (codes "budget") then budget_of t else None))))))))) ≡ false
+    else (if bytes_eq w (codes "mask") then masked_of t
+    else (if bytes_eq w (codes "section") then section_of t
+    else (if bytes_eq w (codes "build") then build_of t
+    else (if bytes_eq w (codes "bind") then bind_of t
+    else (if bytes_eq w (codes "unbind") then unbind_of t
+    else (if bytes_eq w (codes "call") then call_of t
+    else (if bytes_eq w (codes "discard") then discard_of t
+    else (if bytes_eq w (codes "budget") then budget_of t else None))))))))) ≡ false
 word_no w t e =
     either_no (bytes_eq w (codes "module")) _ _ (module_no t)
     (either_no (bytes_eq w (codes "mask")) _ _ (masked_no t)
@@ -144,14 +144,14 @@ by_word text w t e at = elim (cases_Bool (bytes_eq w (codes "section"))) [
 
 field_no : (text : List ℕ) → is_header text ≡ false → (o : Option (List ℕ × List ℕ)) → field_of text ≡ o
     → may_head (option_and_then (λ word. if bytes_eq word.0 (codes "module") then module_of word.1
-      else (if bytes_eq word.0 (codes "mask") then masked_of word.1
-      else (if bytes_eq word.0 (codes "section") then section_of word.1
-      else (if bytes_eq word.0 (codes "build") then build_of word.1
-      else (if bytes_eq word.0 (codes "bind") then bind_of word.1
-      else (if bytes_eq word.0 (codes "unbind") then unbind_of word.1
-      else (if bytes_eq word.0 (codes "call") then call_of word.1
-      else (if bytes_eq word.0 (codes "discard") then discard_of word.1
-      else (if bytes_eq word.0 (codes "budget") then budget_of word.1 else None))))))))) o) ≡ false
+    else (if bytes_eq word.0 (codes "mask") then masked_of word.1
+    else (if bytes_eq word.0 (codes "section") then section_of word.1
+    else (if bytes_eq word.0 (codes "build") then build_of word.1
+    else (if bytes_eq word.0 (codes "bind") then bind_of word.1
+    else (if bytes_eq word.0 (codes "unbind") then unbind_of word.1
+    else (if bytes_eq word.0 (codes "call") then call_of word.1
+    else (if bytes_eq word.0 (codes "discard") then discard_of word.1
+    else (if bytes_eq word.0 (codes "budget") then budget_of word.1 else None))))))))) o) ≡ false
 field_no text e None is = refl
 field_no text e (Some x) is = word_no x.0 x.1 (by_word text x.0 x.1 e (field_front text x is))
 

@@ -4,3 +4,4 @@ pub mod Values
 pub mod Lines
 pub mod ProfileLines
 pub mod SessionLines
+pub mod Texts
