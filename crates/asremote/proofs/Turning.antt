@@ -1,5 +1,5 @@
 -- What a turn did is said of the lines of its text.
-use Rattle.std.proofs.Common.{◌≡◌, ℕ, ◌+◌, ◌≤◌, Bool, List, [], ◌∷◌, ◌++◌, length, take, Option, Some, None, Result, Ok, Err, OnOk, OnErr, refl, sym, ap, ◌∙◌, subst, inl, inr, arith, length-append}
+use Rattle.std.proofs.Common.{◌≡◌, ℕ, ◌+◌, ◌≤◌, Bool, true, false, List, [], ◌∷◌, ◌++◌, length, take, Option, Some, None, Result, Ok, Err, IfOk, OnOk, OnErr, refl, sym, ap, ◌∙◌, subst, inl, inr, arith, length-append}
 use Rattle.std.specs.Io.KnownBytes.{Appends, Keeps}
 use Rattle.std.proofs.lemmas.List.{take-append-le, append-nil}
 use Rattle.std.proofs.Math.Seq.{take-append_seam, take-append-add, take-length}
@@ -7,17 +7,19 @@ use Rattle.ang_remote.proofs.Streams.{appends_kept}
 use Rattle.ang_host.specs.Meanings.{Meanings}
 use Rattle.ang_engine.specs.declared.engine.Engine.{Engine}
 use Rattle.ang_engine.specs.Engines.{registrations, world_in, drivers_in}
-use Rattle.asrun_lines.specs.Lines.{lines_of}
+use Rattle.std.specs.Option.{option_and_then}
+use Rattle.asrun_lines.specs.Lines.{lines_of, shown_of, is_skipped}
+use Rattle.asrun_lines.specs.SessionLines.{session_line_of, is_header}
 use Rattle.asrun_session.specs.Deeds.{bad_line_text}
 use Rattle.asrun_session.specs.Engines.{Prints, HalfPrints}
-use Rattle.asrun_session.specs.Session.{Act}
+use Rattle.asrun_session.specs.Session.{Act, act_of}
 use Rattle.asrun_session.specs.Writing.{HasFront}
 use Rattle.asrun_session.proofs.Appending.{appends_both}
 use Rattle.asremote.specs.Talk.{Does, Turned, Passed, Did, Unread, says_of, ticks_after, answer_text, turn_text, done_line}
 use Rattle.asremote.specs.declared.turns.At.{At}
 use Rattle.asremote.specs.declared.turns.Turn.{Turn}
 use Rattle.asremote.specs.declared.turns.Turn.TheVariants as turn
-use Rattle.asremote.specs.Turns.{IsSaid, IsTaken, Answers, Goes, GoesHalf, TurnsHalf, Turns, TakesTurn, TakesHalf, TakesOne}
+use Rattle.asremote.specs.Turns.{said_by, Refuses, RefusesHalf, IsSaid, IsTaken, Answers, Goes, GoesHalf, TurnsHalf, Turns, TakesTurn, TakesHalf, TakesOne}
 
 abbrev first_of : List (List ℕ) → List ℕ → List ℕ
 first_of [] d = d
@@ -100,6 +102,43 @@ module _ {V : Type 0} {P : V → Type 0} (m : Meanings P) (e f : Engine V P) (ol
     front = front_of_turn old new (Did p.deed) p.front;
   }
 
+-- ---- a line of another form
+
+module _ {V : Type 0} {P : V → Type 0} (m : Meanings P) (e : Engine V P) (old new : Option (List ℕ)) (number ticks : ℕ) (l shown : List ℕ) (ls : List (List ℕ))
+    (is : shown ≡ shown_of l) (told : is_skipped shown ≡ false) (said : option_and_then (act_of ticks ls) (session_line_of shown) ≡ None) where
+  told_of : is_skipped (shown_of l) ≡ false
+  told_of = ap is_skipped (sym is) ∙ told
+
+  said_of : said_by ticks l ls ≡ None
+  said_of = ap (λ s. option_and_then (act_of ticks ls) (session_line_of s)) (sym is) ∙ said
+
+  pub refused : (t : Turn) → Refuses (is_header shown) old new number ticks t → Turns m e e old new number ticks l ls t
+  refused (turn.Done ok next lines) h = record {
+    did = Unread;
+    taken = record { said = (told_of, said_of, ap is_header (sym is) ∙ h.0, h.3); budget = h.2; comes = refl };
+    is_ok = h.1;
+    printed = h.4;
+  }
+  refused turn.Bad h = record {
+    ending = record { told = told_of; said = said_of; header = ap is_header (sym is) ∙ h.0 };
+    same = refl;
+    printed = h.1;
+  }
+
+  pub half_refused : RefusesHalf (is_header shown) old new number → TurnsHalf m e e old new number ticks l ls
+  half_refused (inl h) = inl (record {
+    did = Unread;
+    next = ticks;
+    lines = 0;
+    taken = record { said = (told_of, said_of, ap is_header (sym is) ∙ h.0, refl); budget = refl; comes = refl };
+    front = front_of_turn old new Unread h.1;
+  })
+  half_refused (inr h) = inr (inl (record {
+    ending = record { told = told_of; said = said_of; header = ap is_header (sym is) ∙ h.0 };
+    same = refl;
+    front = h.1;
+  }))
+
 -- ---- `done` after an answer
 
 module _ {V : Type 0} {P : V → Type 0} (m : Meanings P) (e f : Engine V P) (old mid : Option (List ℕ)) (number ticks : ℕ) (text : List ℕ) (ok : Bool) (next lines : ℕ)
@@ -149,3 +188,11 @@ unflushed old mid new text p k = record {
   within = omega arith;
   printed = subst (λ t. Appends old new t) (sym (take-length text)) (appends_kept old mid new text p k);
 }
+
+pub ok_turn : {A E : Type 0} (r : Result A E) (S T : A → Type 0) → ((a : A) → S a → T a) → IfOk r S → IfOk r T
+ok_turn (Ok a) S T f h = f a h
+ok_turn (Err e) S T f h = tt
+
+pub err_turn : {A E : Type 0} (r : Result A E) (S T : Type 0) → (S → T) → OnErr r S → OnErr r T
+err_turn (Ok a) S T f h = tt
+err_turn (Err e) S T f h = f h

@@ -12,7 +12,7 @@ use Rattle.asrun_lines.specs.SessionLines.{session_line_of, is_header}
 use Rattle.asrun_session.specs.Deeds.{Does as DoesDeed, deed_events, bad_line_text}
 use Rattle.asrun_session.specs.Session.{Act, act_of}
 use Rattle.asrun_session.specs.Writing.{HasFront}
-use Rattle.asremote.specs.Talk.{Says, Nothing, Does, Wrong, ticks_after, Turned, Passed, Did, Unread, says_of, is_right, answer_text, turn_text}
+use Rattle.asremote.specs.Talk.{Says, Nothing, Does, Wrong, ticks_after, Turned, Passed, Did, Unread, says_of, is_right, bad_form_text, answer_text, turn_text}
 use Rattle.asremote.specs.declared.turns.At.{At}
 use Rattle.asremote.specs.declared.turns.Turn.{Turn}
 use Rattle.asremote.specs.declared.turns.Turn.TheVariants as turn
@@ -38,6 +38,20 @@ pub record IsEnding (ticks : ℕ) (line : List ℕ) (section : List (List ℕ)) 
   pub told : is_skipped (shown_of line) ≡ false
   pub said : said_by ticks line section ≡ None
   pub header : is_header (shown_of line) ≡ true
+
+-- What is answered to a line of another form: it goes on after it, or, at the head of a section, not.
+abbrev pub Refuses : Bool → Option (List ℕ) → Option (List ℕ) → ℕ → ℕ → Turn → Type 0
+Refuses header old new number ticks (turn.Done ok next lines) =
+    (header ≡ false) × (ok ≡ false) × (next ≡ ticks) × (lines ≡ 0)
+    × Appends old new bad_form_text
+Refuses header old new number ticks turn.Bad =
+    (header ≡ true) × Appends old new (bad_line_text (Some number))
+
+-- a front of that stands
+abbrev pub RefusesHalf : Bool → Option (List ℕ) → Option (List ℕ) → ℕ → Type 0
+RefusesHalf header old new number =
+    ((header ≡ false) × HasFront old new bad_form_text)
+    ⊎ ((header ≡ true) × HasFront old new (bad_line_text (Some number)))
 
 module _ {V : Type 0} {P : V → Type 0} (m : Meanings P) (e f : Engine V P) where
   -- A command was done: the drivers followed its events. Of other turns the engine has no part.

@@ -6,7 +6,8 @@ ghost use Rattle.ang_engine.specs.Sound.{IsSound};
 ghost use Rattle.asrun_session.specs.Drivers.{kinds_of};
 ghost use Rattle.asrun_session.specs.Writing.{HasFront};
 ghost use Rattle.asremote.specs.Talk.{done_line};
-ghost use Rattle.asremote.specs.Turns.{TakesTurn, TakesHalf, TakesOne};
+ghost use Rattle.asrun_lines.specs.SessionLines.{is_header};
+ghost use Rattle.asremote.specs.Turns.{Refuses, RefusesHalf, TakesTurn, TakesHalf, TakesOne};
 
 use ang_engine::Engine;
 use ang_host::Driver;
@@ -36,9 +37,33 @@ pub struct At {
     pub number: u64,
 }
 
+/// Answers a line of another form: it ends the conversation where its first letters are `section`, since what follows it
+/// may be the text of a section.
+///
+/// # Errors
+/// A write fault.
+fn refuse<W: Write>(
+    writer: &mut W,
+    buffer: &mut ReplyBuffer,
+    line: &[u8],
+    number: u64,
+    ticks: u64,
+) -> Result<Turn, Stop>
+    ensures refused { IfOk result (Refuses (is_header line.now) (W.contents writer.old)
+        (W.contents writer.new) number ticks) }
+    ensures cut { OnErr result (RefusesHalf (is_header line.now) (W.contents writer.old)
+        (W.contents writer.new) number) }
+{
+    if is_header(line) {
+        print_bad_line(writer, buffer, number)?;
+        return Ok(Turn::Bad);
+    }
+    write_text(writer, b"refused BadLine\n")?;
+    Ok(Turn::Done(false, ticks, 0))
+}
+
 /// Does the command of this text, whose line has this number, and prints its reply. A line of another form is answered
-/// `refused BadLine`, and ends the conversation where its first letters are `section`: what follows it may be the text of
-/// a section.
+/// `refused BadLine`, or ends the conversation.
 ///
 /// # Errors
 /// A write fault, and want of memory.
@@ -73,14 +98,7 @@ pub fn take_turn<W: Write>(
             let (ok, next) = perform(engine, writer, buffer, act.action, ticks)?;
             Ok(Turn::Done(ok, next, lines))
         }
-        Err(LineError::BadLine) => {
-            if is_header(line) {
-                print_bad_line(writer, buffer, number)?;
-                return Ok(Turn::Bad);
-            }
-            write_text(writer, b"refused BadLine\n")?;
-            Ok(Turn::Done(false, ticks, 0))
-        }
+        Err(LineError::BadLine) => refuse(writer, buffer, line, number, ticks),
         Err(LineError::Memory) => Err(Stop::Memory),
     }
 }
