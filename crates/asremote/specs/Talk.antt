@@ -1,11 +1,11 @@
 -- What the lines of a conversation say, and what is answered (docs/FORMATS.md, "The conversation of
 -- asremote").
-use Rattle.std.specs.Prelude.{ℕ, zero, suc, ◌+◌, Bool, true, false, List, [], ◌∷◌, ◌++◌, flat_map, Option, Some, None, codes, option_and_then, if◌then◌else◌}
+use Rattle.std.specs.Prelude.{ℕ, zero, suc, ◌+◌, ◌≡◌, Bool, true, false, List, [], ◌∷◌, ◌++◌, flat_map, Option, Some, None, codes, option_and_then, if◌then◌else◌}
 use Rattle.std.specs.List.{list_all}
 use Rattle.asrun_lines.specs.Lines.{shown_of, is_skipped}
 use Rattle.asrun_lines.specs.SessionLines.{session_line_of, is_header}
 use Rattle.asrun_session.specs.Deeds.{Deed, action_of, deed_text, is_ok}
-use Rattle.asrun_session.specs.Session.{Act, act_of, budget_after}
+use Rattle.asrun_session.specs.Session.{Act, act_of, budget_after, session_from}
 use Rattle.asrun_session.specs.declared.action.Action.{Action}
 use Rattle.asrun_session.specs.declared.ending.Status.{Status}
 use Rattle.asrun_session.specs.declared.ending.Status.TheVariants.{AllOk, SomeRefused, BadInput}
@@ -103,3 +103,25 @@ turns_text = flat_map turn_text
 abbrev pub status_of : Option ℕ → List Turned → Status
 status_of (Some n) turns = BadInput
 status_of None turns = if list_all is_right turns then AllOk else SomeRefused
+
+-- ---- and in a session
+
+abbrev pub is_read : Says → Bool
+is_read Nothing = true
+is_read (Does a) = true
+is_read Wrong = false
+
+abbrev pub actions_in : Says → List Action
+actions_in Nothing = []
+actions_in (Does a) = a ∷ []
+actions_in Wrong = []
+
+-- Where no line is of another form but the one that ends it, a conversation says what the session of
+-- the same lines says.
+abbrev pub SaysAsSession : Type 0
+SaysAsSession =
+    (budget : ℕ) (lines : List (List ℕ)) → list_all is_read (talk_from 1 budget 0 lines).turns ≡ true
+    → session_from 1 budget 0 lines ≡ record {
+      actions = flat_map actions_in (talk_from 1 budget 0 lines).turns;
+      bad_line = (talk_from 1 budget 0 lines).bad_line;
+    }

@@ -7,6 +7,7 @@ mod commands;
 mod conversation;
 mod echo;
 mod ending;
+pub mod laws;
 mod options;
 mod shared;
 mod turns;
