@@ -205,13 +205,17 @@ def module_of(path, src):
     return parts[:-1] if parts[-1] in ("lib", "mod") else parts
 
 
-def write_stub(crate, folder, wanted, gone):
+def calls_of(crate):
+    """The words of what the crate's types have of traits, which a stub leaves as it is."""
+    return set().union(*[Stubbed(read(path), set()).calls for path in files_of(f"{crate.folder}/src") if path.endswith(".rt")])
+
+
+def write_stub(crate, folder, wanted, called, gone):
     """Writes the stub of a crate; `gone` has the names of functions that the stubs below are without, and gets this one's."""
     src, to = f"{crate.folder}/src", f"{folder}/{crate.name}"
     code = {path: read(path) for path in files_of(src) if path.endswith(".rt")}
     types = re.compile(r"^\s*(?:pub )?(?:struct|enum) (\w+)", re.M)
     homes = {name: module_of(path, src) for path, text in code.items() for name in types.findall(text)}
-    called = set().union(*[Stubbed(text, wanted).calls for text in code.values()])
     stubs = {path: Stubbed(text, wanted, called) for path, text in code.items()}
     stay = {name for stub in stubs.values() for _, name in stub.functions}
     gone[crate.name] = {name for stub in stubs.values() for name in stub.gone} - stay
@@ -302,9 +306,10 @@ def main():
     crate, lacking = kept_by_rt(rt, top, sys.argv[1]) if hasattr(rt, "Kept") else kept_by_us(sys.argv[1])
     print("over stubs of:", " ".join(it.name for it in lacking) or "none", flush=True)
     stubs, wanted, gone = f"{crate.folder}/out/stubs", words_in(crate), {}
+    called = set().union(*[calls_of(it) for it in lacking])
     shutil.rmtree(stubs, ignore_errors=True)
     for dep in lacking:
-        write_stub(dep, stubs, wanted if dep in crate.deps else set(), gone)
+        write_stub(dep, stubs, wanted if dep in crate.deps else set(), called, gone)
     os.makedirs(f"{crate.folder}/out/over_stubs", exist_ok=True)
     words = [*words_for(crate, lacking, stubs), "--allow-holes", "--incremental", "out/over_stubs", *sys.argv[2:]]
     return subprocess.run([rt.rtlib.RATTLE, "check", *words], cwd=crate.folder).returncode
