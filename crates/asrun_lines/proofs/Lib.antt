@@ -3,4 +3,4 @@ pub mod Cuts
 pub mod FirstLines
 pub mod Headers
 pub mod Numerals
-pub mod Texts
+pub mod Joined

@@ -55,7 +55,7 @@ pub fn push_signed(out: &mut Vec<u8>, n: i64) -> Result<(), AllocError>
 ///
 /// # Errors
 /// A growth of memory was refused.
-#[tactic(auto, using(crate::proofs::Texts::texts))]
+#[tactic(auto, using(crate::proofs::Joined::texts))]
 pub fn push_key(out: &mut Vec<u8>, key: u64) -> Result<(), AllocError>
     ensures added { OnOk result (out.new.items ≡ out.old.items ++ key_text key) }
 {
@@ -67,7 +67,7 @@ pub fn push_key(out: &mut Vec<u8>, key: u64) -> Result<(), AllocError>
 ///
 /// # Errors
 /// A growth of memory was refused.
-#[tactic(auto, using(crate::proofs::Texts::texts), unfolding(crate::specs::Texts::object_text))]
+#[tactic(auto, using(crate::proofs::Joined::texts), unfolding(crate::specs::Texts::object_text))]
 pub fn push_object(out: &mut Vec<u8>, object: Option<u64>) -> Result<(), AllocError>
     ensures added { OnOk result (out.new.items ≡ out.old.items ++ object_text object) }
 {
