@@ -6,13 +6,13 @@ ghost use Rattle.asrun_session.specs.Pieces.{Holds};
 ghost use Rattle.asrun_session.specs.Reading.{unread};
 ghost use Rattle.asrun_session.specs.Whole.{profile_fault_text};
 ghost use Rattle.asrun_session.specs.Writing.{HasFront};
-ghost use Rattle.asrun_text.specs.Text.{event_text, error_text, denial_text, reply_text};
+ghost use Rattle.asrun_text.specs.Text.{event_text, error_text, denial_text, outcome_text, reply_text};
 
 use crate::ending::Stop;
 use crate::profile::ProfileFault;
 use crate::text::{push_bad_line, push_profile_fault};
 use crate::writing::write_text;
-use ang_engine::Reply;
+use ang_engine::{Outcome, Reply};
 use ang_host::HostEvent;
 use ang_kinds::{Denial, Error};
 use asrun_text::{push_denial, push_error, push_event, push_outcome};
@@ -87,7 +87,7 @@ fn settle<W: Write>(writer: &mut W, text: &mut Vec<u8>) -> Result<(), Stop>
     if text.len() < PIECE {
         return Ok(());
     }
-    write_text(writer, text)?;
+    write_text(writer, text.as_slice())?;
     text.clear();
     Ok(())
 }
@@ -118,7 +118,34 @@ fn add_lines<W: Write, L: Line>(writer: &mut W, text: &mut Vec<u8>, lines: &[L])
     Ok(())
 }
 
+/// Prints the parts of a reply, and writes all of it.
+fn print_parts<W: Write>(
+    writer: &mut W,
+    text: &mut Vec<u8>,
+    events: &[HostEvent],
+    errors: &[Error],
+    denials: &[Denial],
+    outcome: Outcome,
+) -> Result<(), Stop>
+    ensures whole { OnOk result (Appends (W.contents writer.old) (W.contents writer.new)
+        (flat_map event_text events.now ++ flat_map error_text errors.now
+        ++ flat_map denial_text denials.now ++ outcome_text outcome)) }
+    ensures front { OnErr result (HasFront (W.contents writer.old) (W.contents writer.new)
+        (flat_map event_text events.now ++ flat_map error_text errors.now
+        ++ flat_map denial_text denials.now ++ outcome_text outcome)) }
+    ensures fault { IfErr result (λ e. e ≢ unread) }
+{
+    text.clear();
+    add_lines(writer, text, events)?;
+    add_lines(writer, text, errors)?;
+    add_lines(writer, text, denials)?;
+    push_outcome(text, outcome)?;
+    write_text(writer, text.as_slice())?;
+    Ok(())
+}
+
 /// Prints a reply.
+#[tactic(auto, unfolding(asrun_text::specs::Text::reply_text))]
 pub fn print_reply<W: Write>(
     writer: &mut W,
     buffer: &mut ReplyBuffer,
@@ -130,14 +157,14 @@ pub fn print_reply<W: Write>(
         (HasFront (W.contents writer.old) (W.contents writer.new) (reply_text reply.now)) }
     ensures fault { IfErr result (λ e. e ≢ unread) }
 {
-    let text = &mut buffer.text;
-    text.clear();
-    add_lines(writer, text, reply.events.as_slice())?;
-    add_lines(writer, text, reply.errors.as_slice())?;
-    add_lines(writer, text, reply.denials.as_slice())?;
-    push_outcome(text, reply.outcome)?;
-    write_text(writer, text)?;
-    Ok(())
+    print_parts(
+        writer,
+        &mut buffer.text,
+        reply.events.as_slice(),
+        reply.errors.as_slice(),
+        reply.denials.as_slice(),
+        reply.outcome,
+    )
 }
 
 /// Prints `line N BadLine`.
@@ -155,7 +182,7 @@ pub fn print_bad_line<W: Write>(
     let text = &mut buffer.text;
     text.clear();
     push_bad_line(text, number)?;
-    write_text(writer, text)?;
+    write_text(writer, text.as_slice())?;
     Ok(())
 }
 
@@ -174,6 +201,6 @@ pub fn print_profile_fault<W: Write>(
     let text = &mut buffer.text;
     text.clear();
     push_profile_fault(text, fault)?;
-    write_text(writer, text)?;
+    write_text(writer, text.as_slice())?;
     Ok(())
 }

@@ -267,8 +267,12 @@ pub fn outcome_of(ended: Result<Status, Stop>) -> Result<Status, IoFault>
 /// `budget` is the number of ticks of each command until a `budget` line gives another. It is not judged
 /// here: a build or a call with one that is 0 or above 2,147,483,647 is refused.
 ///
+/// A reply goes to the writer in pieces of some 32 KiB, each before more than 64 KiB stand in the buffer that is made
+/// here at the start. So printing takes no memory, and the reply of each command that was run is written whole,
+/// whatever memory is left; only the writer can fail.
+///
 /// Nothing here is an error by `Result`: `outcome` has a failure of `read` or `write` as an `IoFault`, and
-/// want of memory as `Status::Memory`.
+/// want of memory as `Status::Memory`. That comes at the start, or while a line of the session is read.
 pub fn session<P: Read, S: Read, W: Write>(
     alloc: Global,
     profile: &mut P,
@@ -294,14 +298,11 @@ pub fn session<P: Read, S: Read, W: Write>(
         ⊎ (AreListed ⟦<dyn Driver as Driver>⟧ drivers.items
         × AreBack ⟦<dyn Driver as Driver>⟧ result.drivers.items) }
 {
-    let mut buffer = match ReplyBuffer::new(alloc) {
-        Ok(buffer) => buffer,
-        Err(_) => {
-            return SessionEnd {
-                outcome: Ok(Status::Memory),
-                drivers,
-            };
-        }
+    let Ok(mut buffer) = ReplyBuffer::new(alloc) else {
+        return SessionEnd {
+            outcome: Ok(Status::Memory),
+            drivers,
+        };
     };
     let mut registry = Registry::new(alloc);
     match load_profile(alloc, profile, out, &mut buffer, &mut registry) {
