@@ -12,6 +12,7 @@ use Rattle.asrun_session.specs.Deeds.{Deed, is_ok, status_of}
 use Rattle.asrun_session.specs.Reading.{unread}
 use Rattle.asrun_session.specs.Writing.{unwritten}
 use Rattle.asrun_session.specs.Whole.{RunsSession, Unread, Ends, Stops, Tells, Starts, StartStops, start_of, outcome_of}
+use Rattle.asrun_session.proofs.Held.{front_none}
 use Rattle.asrun_session.specs.declared.ending.IoFault.TheVariants as io
 use Rattle.asrun_session.specs.declared.ending.Status.{Status}
 use Rattle.asrun_session.specs.declared.ending.Status.TheVariants.{AllOk, SomeRefused, BadInput, Memory}
@@ -69,6 +70,18 @@ module _ {V : Type 0} {P : V → Type 0} (m : Meanings P) (xs ys : List (DynBox 
   tells_untaken None session budget old new why back h u = tt
   tells_untaken (Some p) None budget old new why back h u = tt
   tells_untaken (Some p) (Some s) budget old new why back h u = untaken (start_of p) s budget old new why back h u
+
+  -- nothing was done
+  nothing : (start : Result RegistrationList (List ℕ)) (s : List ℕ) (budget : ℕ) (old : Option (List ℕ)) → ys ≡ xs
+      → Tells m xs ys old old start s budget (Ok Memory)
+  nothing (Ok R) s budget old back = inl (refl, back)
+  nothing (Err text) s budget old back = (front_none old text, back)
+
+  pub tells_nothing : (profile session : Option (List ℕ)) (budget : ℕ) (old : Option (List ℕ)) → ys ≡ xs
+      → IfSome profile (λ p. IfSome session (λ s. Tells m xs ys old old (start_of p) s budget (Ok Memory)))
+  tells_nothing None session budget old back = tt
+  tells_nothing (Some p) None budget old back = tt
+  tells_nothing (Some p) (Some s) budget old back = nothing (start_of p) s budget old back
 
   -- the whole run, where the profile was taken
   pub tells : (R : RegistrationList) (profile session : Option (List ℕ)) (budget : ℕ) (old mid new : Option (List ℕ)) (ended : Result Status SessionError)

@@ -10,14 +10,14 @@ ghost use Rattle.asrun_session.specs.Engines.{RunsText, StopsText};
 ghost use Rattle.asrun_lines.specs.Lines.{lines_of};
 ghost use Rattle.asrun_session.specs.Profile.{loaded};
 ghost use Rattle.asrun_session.specs.Reading.{unread, IsReadThrough};
-ghost use Rattle.asrun_session.specs.Whole.{profile_fault_text, registered_by, most_profile, most_session, start_of, Starts, Tells, StartStops, Ends, Stops, Unread, outcome_of, fresh};
+ghost use Rattle.asrun_session.specs.Whole.{registered_by, most_profile, most_session, start_of, Starts, Tells, StartStops, Ends, Stops, Unread, outcome_of, fresh};
 ghost use Rattle.asrun_session.specs.Writing.{HasFront, unwritten};
 
 use crate::ending::{IoFault, SessionError, Status};
-use crate::profile::{ProfileFault, ProfileStop, load};
+use crate::printing::{ReplyBuffer, print_profile_fault};
+use crate::profile::{ProfileStop, load};
 use crate::reading::{BoundedText, read_text};
 use crate::run::run_session;
-use crate::text::push_profile_fault;
 use crate::writing::write_text;
 use ang_engine::{Engine, NewError, NewRefused};
 use ang_host::{Driver, Drivers, DriversError};
@@ -39,28 +39,10 @@ pub struct SessionEnd {
     pub drivers: Vec<Box<dyn Driver>>,
 }
 
-/// Prints what ends a run at a line of its profile.
-fn print_profile_fault<W: Write>(
-    alloc: Global,
-    writer: &mut W,
-    fault: ProfileFault,
-) -> Result<(), SessionError>
-    ensures whole { OnOk result
-        (Appends (W.contents writer.old) (W.contents writer.new) (profile_fault_text fault)) }
-    ensures front { OnErr result
-        (HasFront (W.contents writer.old) (W.contents writer.new) (profile_fault_text fault)) }
-    ensures fault { IfErr result (λ e. e ≢ unread) }
-{
-    let mut text = Vec::new(alloc);
-    push_profile_fault(&mut text, fault)?;
-    write_text(writer, &text)?;
-    Ok(())
-}
-
 /// Registers what the profile says. False where the profile was not taken, which is printed then.
 fn load_text<W: Write>(
-    alloc: Global,
     writer: &mut W,
+    buffer: &mut ReplyBuffer,
     registry: &mut Registry,
     text: &[u8],
 ) -> Result<bool, SessionError>
@@ -78,7 +60,7 @@ fn load_text<W: Write>(
         Ok(()) => Ok(true),
         Err(ProfileStop::Memory) => Err(SessionError::Memory),
         Err(ProfileStop::Fault(fault)) => {
-            print_profile_fault(alloc, writer, fault)?;
+            print_profile_fault(writer, buffer, fault)?;
             Ok(false)
         }
     }
@@ -89,6 +71,7 @@ pub fn load_profile<R: Read, W: Write>(
     alloc: Global,
     reader: &mut R,
     writer: &mut W,
+    buffer: &mut ReplyBuffer,
     registry: &mut Registry,
 ) -> Result<bool, SessionError>
     requires new { registry.old ≡ fresh }
@@ -106,7 +89,7 @@ pub fn load_profile<R: Read, W: Write>(
     ensures fault { IfErr result (λ e. e ≡ unread → W.contents writer.new ≡ W.contents writer.old) }
 {
     match read_text(alloc, reader, MOST_PROFILE)? {
-        BoundedText::Whole(text) => load_text(alloc, writer, registry, &text),
+        BoundedText::Whole(text) => load_text(writer, buffer, registry, &text),
         BoundedText::TooLong => {
             write_text(writer, b"profile 0 TooLong\n")?;
             Ok(false)
@@ -119,6 +102,7 @@ fn run_text<R: Read, W: Write>(
     alloc: Global,
     reader: &mut R,
     writer: &mut W,
+    buffer: &mut ReplyBuffer,
     engine: &mut Engine,
     budget: u64,
 ) -> Result<Status, SessionError>
@@ -138,7 +122,7 @@ fn run_text<R: Read, W: Write>(
     ensures unused { IfErr result (λ e. e ≡ unread → engine.new ≡ engine.old) }
 {
     match read_text(alloc, reader, MOST_SESSION)? {
-        BoundedText::Whole(text) => run_session(alloc, engine, writer, &text, budget),
+        BoundedText::Whole(text) => run_session(alloc, engine, writer, buffer, &text, budget),
         BoundedText::TooLong => {
             write_text(writer, b"line 0 TooLong\n")?;
             Ok(Status::BadInput)
@@ -183,6 +167,7 @@ fn run_engine<R: Read, W: Write>(
     alloc: Global,
     reader: &mut R,
     writer: &mut W,
+    buffer: &mut ReplyBuffer,
     registry: Registry,
     drivers: Drivers,
     budget: u64,
@@ -206,7 +191,7 @@ fn run_engine<R: Read, W: Write>(
 {
     match Engine::new(alloc, registry, drivers) {
         Ok(mut engine) => {
-            let ended = run_text(alloc, reader, writer, &mut engine, budget);
+            let ended = run_text(alloc, reader, writer, buffer, &mut engine, budget);
             (ended, engine.discard())
         }
         Err(
@@ -231,6 +216,7 @@ fn run_drivers<R: Read, W: Write>(
     alloc: Global,
     reader: &mut R,
     writer: &mut W,
+    buffer: &mut ReplyBuffer,
     registry: Registry,
     drivers: Vec<Box<dyn Driver>>,
     budget: u64,
@@ -254,7 +240,7 @@ fn run_drivers<R: Read, W: Write>(
         (W.contents writer.old) (W.contents writer.new) (Ok registry.entries)) }
 {
     match Drivers::new(drivers) {
-        Ok(drivers) => run_engine(alloc, reader, writer, registry, drivers, budget),
+        Ok(drivers) => run_engine(alloc, reader, writer, buffer, registry, drivers, budget),
         Err((why, drivers)) => {
             drop(registry);
             (print_drivers_error(writer, why), drivers)
@@ -284,8 +270,12 @@ pub fn outcome_of(ended: Result<Status, SessionError>) -> Result<Status, IoFault
 /// `budget` is the number of ticks of each command until a `budget` line gives another. It is not judged
 /// here: a build or a call with one that is 0 or above 2,147,483,647 is refused.
 ///
+/// A reply goes to the writer in pieces of some 32 KiB, each before more than 64 KiB stand in the buffer that is made
+/// here at the start. So printing takes no memory, and the reply of each command that was run is written whole,
+/// whatever memory is left; only the writer can fail.
+///
 /// Nothing here is an error by `Result`: `outcome` has a failure of `read` or `write` as an `IoFault`, and
-/// want of memory as `Status::Memory`.
+/// want of memory as `Status::Memory`. That comes at the start, or while a line of the session is read.
 pub fn session<P: Read, S: Read, W: Write>(
     alloc: Global,
     profile: &mut P,
@@ -311,8 +301,14 @@ pub fn session<P: Read, S: Read, W: Write>(
         ⊎ (AreListed ⟦<dyn Driver as Driver>⟧ drivers.items
         × AreBack ⟦<dyn Driver as Driver>⟧ result.drivers.items) }
 {
+    let Ok(mut buffer) = ReplyBuffer::new(alloc) else {
+        return SessionEnd {
+            outcome: Ok(Status::Memory),
+            drivers,
+        };
+    };
     let mut registry = Registry::new(alloc);
-    match load_profile(alloc, profile, out, &mut registry) {
+    match load_profile(alloc, profile, out, &mut buffer, &mut registry) {
         Ok(true) => {}
         Ok(false) => {
             return SessionEnd {
@@ -327,7 +323,7 @@ pub fn session<P: Read, S: Read, W: Write>(
             };
         }
     }
-    let (ended, drivers) = run_drivers(alloc, session, out, registry, drivers, budget);
+    let (ended, drivers) = run_drivers(alloc, session, out, &mut buffer, registry, drivers, budget);
     SessionEnd {
         outcome: outcome_of(ended),
         drivers,

@@ -245,8 +245,12 @@ fn push_asked(
     push_object(out, object)
 }
 
+/// The line of a host call or of the end of a host object, put after what stands in `out`.
+///
+/// # Errors
+/// A growth of memory was refused. Nothing is promised of `out` then.
 #[tactic(auto, using(crate::proofs::Texts::texts), unfolding(crate::specs::Text::event_text))]
-fn push_event(out: &mut Vec<u8>, event: &HostEvent) -> Result<(), AllocError>
+pub fn push_event(out: &mut Vec<u8>, event: &HostEvent) -> Result<(), AllocError>
     ensures added { OnOk result (out.new.items ≡ out.old.items ++ event_text event.now) }
 {
     match event {
@@ -287,8 +291,12 @@ fn push_name(out: &mut Vec<u8>, name: &[u8]) -> Result<(), AllocError>
     push_bytes(out, name)
 }
 
+/// The line of an error, put after what stands in `out`.
+///
+/// # Errors
+/// A growth of memory was refused. Nothing is promised of `out` then.
 #[tactic(auto, using(crate::proofs::Texts::texts), unfolding(crate::specs::Text::error_text))]
-fn push_error(out: &mut Vec<u8>, error: &Error) -> Result<(), AllocError>
+pub fn push_error(out: &mut Vec<u8>, error: &Error) -> Result<(), AllocError>
     ensures added { OnOk result (out.new.items ≡ out.old.items ++ error_text error.now) }
 {
     push_text(out, "error ")?;
@@ -318,8 +326,12 @@ fn push_mask(out: &mut Vec<u8>, mask: Mask) -> Result<(), AllocError>
     Ok(())
 }
 
+/// The line of a denial, put after what stands in `out`.
+///
+/// # Errors
+/// A growth of memory was refused. Nothing is promised of `out` then.
 #[tactic(auto, using(crate::proofs::Texts::texts), unfolding(crate::specs::Text::denial_text))]
-fn push_denial(out: &mut Vec<u8>, denial: Denial) -> Result<(), AllocError>
+pub fn push_denial(out: &mut Vec<u8>, denial: Denial) -> Result<(), AllocError>
     ensures added { OnOk result (out.new.items ≡ out.old.items ++ denial_text denial) }
 {
     push_text(out, "denied ")?;
@@ -365,8 +377,12 @@ fn push_refusal(out: &mut Vec<u8>, refusal: Refusal) -> Result<(), AllocError>
     }
 }
 
+/// The line of an outcome, put after what stands in `out`.
+///
+/// # Errors
+/// A growth of memory was refused. Nothing is promised of `out` then.
 #[tactic(auto, using(crate::proofs::Texts::texts), unfolding(crate::specs::Text::outcome_text))]
-fn push_outcome(out: &mut Vec<u8>, outcome: Outcome) -> Result<(), AllocError>
+pub fn push_outcome(out: &mut Vec<u8>, outcome: Outcome) -> Result<(), AllocError>
     ensures added { OnOk result (out.new.items ≡ out.old.items ++ outcome_text outcome) }
 {
     match outcome {

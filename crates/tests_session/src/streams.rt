@@ -153,3 +153,54 @@ fn a_writer_stops_at_each_call(rt: HostRuntime) -> Result<(), Fail> {
     }
     Ok(())
 }
+
+/// The host calls of a reply of some 73,000 bytes.
+const MANY: u32 = 3000;
+
+const LONG_SESSION: &str = "module a 00000001
+section a 1
+void main() { for (int i = 0; i < 3000; i++) print(i); }
+build a
+call a () void main()
+";
+
+/// What the long session writes.
+fn long_output(alloc: Global) -> Result<Vec<u8>, AllocError> {
+    let mut text = Vec::from_slice(alloc, b"ok\nok\nok\n")?;
+    for i in 0..MANY {
+        let line = format!(in alloc; "host a 0 0 - ({i}) void\n")?;
+        text.extend_from_slice(line.as_bytes())?;
+    }
+    text.extend_from_slice(b"ok\n")?;
+    Ok(text)
+}
+
+/// The outcome of the long session, with a writer that fails at a call, and how much it leaves unwritten of its output;
+/// nothing where what stands written is no front of it.
+fn long_run(
+    alloc: Global,
+    writer_stops: u64,
+) -> Result<(Result<Status, IoFault>, Option<usize>), AllocError> {
+    let mut out = Sink::new(alloc, 65_536, writer_stops, true);
+    let mut profile = Pieces::new(PROFILE, 4096, 0);
+    let mut text = Pieces::new(LONG_SESSION, 4096, 0);
+    let outcome = run(alloc, &mut profile, &mut text, &mut out)?;
+    let output = long_output(alloc)?;
+    let is_front = output.as_slice().starts_with(out.kept.as_slice());
+    let left = output.len().saturating_sub(out.kept.len());
+    Ok((outcome, is_front.then_some(left)))
+}
+
+/// A reply that is written in three pieces, after three short ones. Each call of `write` fails in turn, which is a write
+/// fault each time.
+#[test]
+fn a_long_reply_is_written_whole(rt: HostRuntime) -> Result<(), Fail> {
+    assert!(rt; long_run(rt.alloc(), 0)? == (Ok(Status::AllOk), Some(0)));
+    for stops in 1..=6u64 {
+        let (outcome, left) = long_run(rt.alloc(), stops)?;
+        let is_cut = left.is_some_and(|count| 0 < count);
+        assert!(rt; outcome == Err(IoFault::Write) && is_cut, "call {stops}");
+    }
+    assert!(rt; long_run(rt.alloc(), 7)? == (Ok(Status::AllOk), Some(0)));
+    Ok(())
+}
