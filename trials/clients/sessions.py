@@ -42,11 +42,16 @@ def remote(program, profile, session):
     talk = Conversation([program, "--profile", profile, "--drivers", "3"], drivers.answer)
     with open(session, newline="") as file:
         text = file.read()
-    printed = []
+    printed, number = [], 1
     try:
         printed += talk.say("", SECONDS)
         for command in commands(text):
             reply = talk.say(command if command.endswith("\n") else command + "\n", SECONDS)
+            if reply == ["refused BadLine"]:  # asremote goes on after it, and asrun ends
+                printed.append(f"line {number} BadLine")
+                talk.close(SECONDS)
+                return "".join(f"{line}\n" for line in printed), 2, drivers
+            number += command.count("\n")
             drivers.replied(reply)
             printed += reply
     except EngineLost as lost:

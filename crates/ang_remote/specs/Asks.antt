@@ -3,13 +3,10 @@ use Rattle.std.specs.Prelude.{ℕ, true, false, List, [], ◌∷◌, ◌++◌, O
 use Rattle.std.specs.Fmt.{signed_decimal}
 use Rattle.ang_kinds.specs.declared.value.Value.{Value}
 use Rattle.ang_kinds.specs.declared.value.Value.TheVariants as value
+use Rattle.asrun_lines.specs.Texts.{key_text, object_text}
 use Rattle.ang_host.specs.State.{Ask, make, call, read, write, end}
 use Rattle.ang_remote.specs.declared.asks.AskKind.{AskKind}
 use Rattle.ang_remote.specs.declared.asks.AskKind.TheVariants as kind
-
--- a key is `#k`
-abbrev pub key_text : ℕ → List ℕ
-key_text k = codes "#" ++ decimal k
 
 -- `7`, `-7`, `7u`, `true`, `#7`, `null`
 unfoldable pub value_text : Value → List ℕ
@@ -24,11 +21,6 @@ value_text (value.Key (Some k)) = key_text k
 unfoldable pub values_text : List Value → List ℕ
 values_text [] = []
 values_text (v ∷ vs) = value_text v ++ flat_map (λ w. codes "," ++ value_text w) vs
-
--- the object that is asked: `-` for none
-unfoldable pub object_text : Option ℕ → List ℕ
-object_text None = codes "-"
-object_text (Some k) = key_text k
 
 unfoldable pub kind_text : AskKind → List ℕ
 kind_text kind.Make = codes "make"

@@ -1,10 +1,9 @@
 //! The text of an ask.
 ghost use Rattle.std.specs.Prelude.{◌≡◌, ◌++◌, OnOk, IfOk, codes, decimal, flat_map};
-ghost use Rattle.std.specs.Fmt.{signed_decimal};
-ghost use Rattle.ang_remote.specs.Asks.{key_text, value_text, values_text, object_text, kind_text, line_text};
+ghost use Rattle.ang_remote.specs.Asks.{value_text, values_text, kind_text, line_text};
 
 use ang_kinds::Value;
-use itoa::Buffer;
+use asrun_lines::{push_key, push_number, push_object, push_signed, push_text};
 use std::alloc::{AllocError, Global};
 
 /// What is asked.
@@ -18,34 +17,6 @@ pub enum AskKind {
     Read,
     /// A property, to change it.
     Write,
-}
-
-fn push_text(out: &mut Vec<u8>, text: &str) -> Result<(), AllocError>
-    ensures added { OnOk result (out.new.items ≡ out.old.items ++ text.now) }
-{
-    out.extend_from_slice(text.as_bytes())
-}
-
-fn push_number(out: &mut Vec<u8>, n: u64) -> Result<(), AllocError>
-    ensures added { OnOk result (out.new.items ≡ out.old.items ++ decimal n) }
-{
-    let mut digits = Buffer::new();
-    push_text(out, digits.format(n))
-}
-
-fn push_signed(out: &mut Vec<u8>, n: i64) -> Result<(), AllocError>
-    ensures added { OnOk result (out.new.items ≡ out.old.items ++ signed_decimal n) }
-{
-    let mut buffer = Buffer::new();
-    push_text(out, buffer.format(n))
-}
-
-#[tactic(auto, using(crate::proofs::Texts::texts))]
-fn push_key(out: &mut Vec<u8>, key: u64) -> Result<(), AllocError>
-    ensures added { OnOk result (out.new.items ≡ out.old.items ++ key_text key) }
-{
-    push_text(out, "#")?;
-    push_number(out, key)
 }
 
 #[tactic(auto, using(crate::proofs::Texts::texts))]
@@ -92,16 +63,6 @@ fn push_values(out: &mut Vec<u8>, values: &[Value]) -> Result<(), AllocError>
             push_value(out, *first)?;
             push_more_values(out, more)
         }
-    }
-}
-
-#[tactic(auto, using(crate::proofs::Texts::texts), unfolding(crate::specs::Asks::object_text))]
-fn push_object(out: &mut Vec<u8>, object: Option<u64>) -> Result<(), AllocError>
-    ensures added { OnOk result (out.new.items ≡ out.old.items ++ object_text object) }
-{
-    match object {
-        None => push_text(out, "-"),
-        Some(key) => push_key(out, key),
     }
 }
 

@@ -7,7 +7,8 @@ use Rattle.clap.specs.declared.error.Error.{Error}
 use Rattle.clap.specs.declared.error.kind.ErrorKind.TheVariants.{OutOfMemory}
 use Rattle.clap.specs.declared.parser.matches.ArgMatches.{ArgMatches}
 use Rattle.clap.proofs.WalkLemmas.{first_value-rows, one_text-rows}
-use Rattle.asremote.specs.Options.{program, given, flag, budget_given, drivers_given, is_complete, is_right}
+use Rattle.asrun_lines.specs.Budget.{budget_given}
+use Rattle.asremote.specs.Options.{program, given, flag, drivers_given, is_complete, is_right}
 use Rattle.asremote.specs.declared.command.RemoteOptions.{RemoteOptions}
 
 program_simple : is_simple program ≡ true

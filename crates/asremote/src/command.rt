@@ -2,17 +2,12 @@
 
 ghost use Rattle.std.specs.Prelude.{◌≡◌, ◌≤◌, true, false, Some, IfOk, IfSome, codes, is_some, option_map, string_bytes};
 ghost use Rattle.clap.specs.Words.{app_of, first_value, one_text, found_of};
-ghost use Rattle.asremote.specs.Options.{program, budget_given, drivers_given, is_complete};
+ghost use Rattle.asrun_lines.specs.Budget.{budget_given};
+ghost use Rattle.asremote.specs.Options.{program, drivers_given, is_complete};
 
-use asrun_lines::decimal;
+use asrun_lines::{budget_of, decimal};
 use clap::{Arg, ArgAction, ArgMatches, Command};
 use std::alloc::{AllocError, Global};
-
-/// The most ticks that `--budget` may give.
-const MOST_TICKS: u64 = 2_147_483_647;
-
-/// The ticks where `--budget` is not given.
-const DEFAULT_TICKS: u64 = 1_000_000;
 
 /// The most drivers that `--drivers` may give.
 const MOST_DRIVERS: u64 = 64;
@@ -65,24 +60,6 @@ pub fn command_line<'a>(alloc: Global) -> Result<Command<'a>, AllocError>
         .arg(drivers.help(DRIVERS_HELP))?
         .arg(budget.help(BUDGET_HELP))?
         .arg(echo.help(ECHO_HELP))
-}
-
-/// The budget that is given, or the one where none is. None where it is no number from 1 to the most.
-#[tactic(auto, unfolding(crate::specs::Options::budget_given))]
-fn budget_of(text: Option<&str>) -> Option<u64>
-    ensures exact { result ≡ budget_given (option_map (λ s. s.now) text.entry) }
-    ensures least { IfSome result (λ n. 1 ≤ n) }
-    ensures most { IfSome result (λ n. n ≤ 2147483647) }
-{
-    let Some(text) = text else {
-        return Some(DEFAULT_TICKS);
-    };
-    let ticks = decimal(text.as_bytes(), 10)?;
-    if 1 <= ticks && ticks <= MOST_TICKS {
-        Some(ticks)
-    } else {
-        None
-    }
 }
 
 /// The number of drivers that is given, or 1 where none is. None where it is no number from 1 to the most.

@@ -7,6 +7,7 @@ mod commands;
 mod conversation;
 mod echo;
 mod ending;
+pub mod laws;
 mod options;
 mod shared;
 mod turns;
@@ -39,30 +40,15 @@ fn print_outcome(rt: &impl Eprint, outcome: Result<Status, IoFault>) {
     }
 }
 
-/// Opens a file to read it. A directory is refused: it could be opened, and not read.
-///
-/// # Errors
-/// That of the operating system, which says why in its words.
-fn open_file(rt: &HostRuntime, path: &str) -> io::Result<File> {
-    let file = File::open(rt, path)?;
-    if file.metadata()?.is_dir() {
-        return Err(io::Error::from(io::ErrorKind::IsADirectory));
-    }
-    Ok(file)
-}
-
 /// Opens the profile and holds the conversation. The commands and the drivers share standard input, and what was read of
 /// it ahead.
 ///
 /// # Errors
 /// A growth of memory was refused before the conversation.
 fn run_file(rt: &HostRuntime, options: &RemoteOptions) -> Result<RemoteExit, AllocError> {
-    let mut profile = match open_file(rt, options.profile.as_str()) {
-        Ok(file) => file,
-        Err(why) => {
-            let _ = eprintln!(rt; "asremote: cannot open {}: {why}", options.profile);
-            return Ok(RemoteExit::CannotOpen);
-        }
+    let Ok(mut profile) = File::open(rt, options.profile.as_str()) else {
+        let _ = eprintln!(rt; "asremote: cannot open {}", options.profile);
+        return Ok(RemoteExit::CannotOpen);
     };
     let alloc = rt.alloc();
     let shared = Shared::new(alloc, rt.stdin())?;
@@ -77,13 +63,11 @@ fn run_file(rt: &HostRuntime, options: &RemoteOptions) -> Result<RemoteExit, All
     }
     let mut input = Echo::new(shared, rt.stdout(), options.echo);
     let mut out = rt.stdout();
-    let mut turns = rt.stdout();
     let SessionEnd { outcome, drivers } = converse(
         alloc,
         &mut profile,
         &mut input,
         &mut out,
-        &mut turns,
         boxes,
         options.budget,
     );

@@ -7,7 +7,8 @@ use Rattle.clap.specs.declared.error.Error.{Error}
 use Rattle.clap.specs.declared.error.kind.ErrorKind.TheVariants.{OutOfMemory}
 use Rattle.clap.specs.declared.parser.matches.ArgMatches.{ArgMatches}
 use Rattle.clap.proofs.WalkLemmas.{first_value-rows}
-use Rattle.asrun.specs.Options.{program, given, budget_given, is_complete, is_right}
+use Rattle.asrun_lines.specs.Budget.{budget_given}
+use Rattle.asrun.specs.Options.{program, given, is_complete, is_right}
 use Rattle.asrun.specs.declared.command.RunOptions.{RunOptions}
 
 program_simple : is_simple program ≡ true

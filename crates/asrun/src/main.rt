@@ -31,24 +31,12 @@ fn print_outcome(rt: &impl Eprint, outcome: Result<Status, IoFault>) {
     }
 }
 
-/// Opens a file to read it. A directory is refused: it could be opened, and not read.
-///
-/// # Errors
-/// That of the operating system, which says why in its words.
-fn open_file(rt: &HostRuntime, path: &str) -> io::Result<File> {
-    let file = File::open(rt, path)?;
-    if file.metadata()?.is_dir() {
-        return Err(io::Error::from(io::ErrorKind::IsADirectory));
-    }
-    Ok(file)
-}
-
-/// Opens a file to read it, or says on standard error why it can't.
+/// Opens a file to read it, or says on standard error that it can't be opened.
 fn open_or_say(rt: &HostRuntime, path: &str) -> Option<File> {
-    match open_file(rt, path) {
+    match File::open(rt, path) {
         Ok(file) => Some(file),
-        Err(why) => {
-            let _ = eprintln!(rt; "asrun: cannot open {path}: {why}");
+        Err(_) => {
+            let _ = eprintln!(rt; "asrun: cannot open {path}");
             None
         }
     }

@@ -2,7 +2,8 @@
 ghost use Rattle.std.specs.Prelude.{◌≡◌, ◌≤◌, true, Some, IfOk, IfErr, codes, map, string_bytes};
 ghost use Rattle.clap.specs.Words.{kind_of};
 ghost use Rattle.clap.specs.declared.error.kind.ErrorKind.TheVariants.{OutOfMemory};
-ghost use Rattle.asrun.specs.Options.{given, budget_given, is_right};
+ghost use Rattle.asrun_lines.specs.Budget.{budget_given};
+ghost use Rattle.asrun.specs.Options.{given, is_right};
 
 use crate::command;
 use crate::command::{chosen, command_line};
