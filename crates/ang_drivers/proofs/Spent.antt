@@ -33,8 +33,7 @@ module _ (fits : Fits) (l : CallLimit) where
   told left x a r d h =
       let s = cores_same l h.0 left h.1 x h.2 h.4 in
       let of_limit : InsideFits fits l h.1 h.2 a r h.3 = subst (λ k. InsideFits fits k h.1 h.2 a r h.3) (sym s.0) h.6 in
-      let of_left : InsideFits fits l left h.2 a r h.3 = subst (λ k. InsideFits fits l k h.2 a r h.3) (sym s.1) of_limit in
-      (
+      let of_left : InsideFits fits l left h.2 a r h.3 = subst (λ k. InsideFits fits l k h.2 a r h.3) (sym s.1) of_limit in (
         h.3,
         h.5 ∙ (λ j. limited_core (sym s.0 j) (left_after (sym s.0 j) (sym s.1 j) a) h.3),
         subst (λ k. InsideFits fits l left k a r h.3) (sym s.2) of_left,
@@ -134,8 +133,8 @@ module _ (fits : Fits) (l : CallLimit) where
   at_most roles (Called caller entity driver object args reply ∷ es) left x c d e h u =
       let a = ask_of (role_at roles entity.0) object args in
       step_at_most left (answered_in l.fault es) x h.0 a reply (is_full reply) u.0
-          (subst (λ k. StaysIf (is_full reply) k h.0 (LimitedFits fits k a reply h.0)) e h.1)
-          (λ n y q. at_most roles es n y h.0 d q h.2 u.1)
+      (subst (λ k. StaysIf (is_full reply) k h.0 (LimitedFits fits k a reply h.0)) e h.1)
+      (λ n y q. at_most roles es n y h.0 d q h.2 u.1)
   at_most roles (Ended driver key ∷ es) left x c d e h u =
       let t = told left x (end key) (Asking Void) h.0 (subst (λ k. LimitedFits fits k (end key) (Asking Void) h.0) e h.1) in
       at_most roles es left t.0 h.0 d t.1 h.2 u

@@ -122,7 +122,11 @@ impl<D: Driver> Model for Limited<D> {
     ghost Value = { Limits D };
 
     ghost view = { λ l. record {
-        driver = l.driver; limit = l.calls.limit; left = l.calls.left; asked = l.calls.asked } };
+      driver = l.driver;
+      limit = l.calls.limit;
+      left = l.calls.left;
+      asked = l.calls.asked;
+    } };
 
     ghost invariant = { λ l. IsWithin (D.meaning.state l.driver) l.calls.asked };
 }
