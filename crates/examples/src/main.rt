@@ -128,8 +128,8 @@ fn run_rows(rt: &HostRuntime, path: &str, with_trials: bool) -> io::Result<bool>
             Some(row) => run_row(rt, name, &row)?,
             None => false,
         };
-        good += usize::from(is_good);
-        count += 1;
+        good = good.saturating_add(usize::from(is_good));
+        count = count.saturating_add(1);
         left = after;
     }
     let what = if with_trials {

@@ -3,7 +3,6 @@
 #![tactic(auto)]
 
 /// A list that is written without one line for each item.
-#[cfg(test)]
 macro_rules! list {
     ($($item:expr),* $(,)?) => {
         &[$($item),*]
