@@ -26,7 +26,7 @@ pub fn first_answers(output: &str, count: usize) -> &str {
         }
         length = length.saturating_add(line.len());
         if is_outcome(line) {
-            answers += 1;
+            answers = answers.saturating_add(1);
         }
     }
     output.get(..length).unwrap_or(output)

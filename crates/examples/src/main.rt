@@ -128,9 +128,7 @@ fn run_rows(rt: &HostRuntime, path: &str, with_trials: bool) -> io::Result<bool>
             Some(row) => run_row(rt, name, &row)?,
             None => false,
         };
-        if is_good {
-            good = good.saturating_add(1);
-        }
+        good = good.saturating_add(usize::from(is_good));
         count = count.saturating_add(1);
         left = after;
     }

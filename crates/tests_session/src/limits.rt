@@ -203,7 +203,7 @@ fn sections_at_their_limits(rt: HostRuntime) -> Result<(), Fail> {
     for (pattern, most, within, above) in SECTIONS {
         let last = grown(alloc, pattern, most)?;
         assert!(rt; answers(alloc, last.as_str(), within)?, "{pattern}");
-        let more = grown(alloc, pattern, most + 1)?;
+        let more = grown(alloc, pattern, most.saturating_add(1))?;
         assert!(rt; answers(alloc, more.as_str(), above)?, "{pattern}");
     }
     Ok(())
@@ -260,11 +260,19 @@ fn a_registration_has_32_parameters_at_most(rt: HostRuntime) -> Result<(), Fail>
     Ok(())
 }
 
-/// Line feeds up to the most bytes of a text and one above.
+/// So many line feeds, put together out of large pieces.
+fn line_feeds(alloc: Global, count: usize) -> Result<String, AllocError> {
+    let block = grown(alloc, "<\n>", 4096)?;
+    let mut text = String::new(alloc);
+    repeat(alloc, &mut text, block.as_str(), count / 4096)?;
+    repeat(alloc, &mut text, "\n", count % 4096)?;
+    Ok(text)
+}
+
 #[test]
 fn a_profile_of_one_byte_more_is_refused(rt: HostRuntime) -> Result<(), Fail> {
     let alloc = rt.alloc();
-    let last = grown(alloc, "<\n>", MOST_PROFILE - PROFILE.len())?;
+    let last = line_feeds(alloc, MOST_PROFILE.saturating_sub(PROFILE.len()))?;
     let whole = format!(in alloc; "{last}{PROFILE}")?;
     assert!(rt; writes(alloc, whole.as_str(), SESSION, OUTPUT, Status::AllOk)?);
     let more = format!(in alloc; "\n{whole}")?;
@@ -283,7 +291,7 @@ fn a_profile_of_one_byte_more_is_refused(rt: HostRuntime) -> Result<(), Fail> {
 #[test]
 fn a_session_of_one_byte_more_is_refused(rt: HostRuntime) -> Result<(), Fail> {
     let alloc = rt.alloc();
-    let last = grown(alloc, "<\n>", MOST_SESSION - SESSION.len())?;
+    let last = line_feeds(alloc, MOST_SESSION.saturating_sub(SESSION.len()))?;
     let whole = format!(in alloc; "{last}{SESSION}")?;
     assert!(rt; writes(alloc, PROFILE, whole.as_str(), OUTPUT, Status::AllOk)?);
     let more = format!(in alloc; "\n{whole}")?;
