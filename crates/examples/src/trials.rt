@@ -97,6 +97,9 @@ fn is_refused_before(row: &Row<'_>) -> bool {
 /// What the front of a session has to print: all of it where it ends with a command, else what comes before the
 /// answer to its last line.
 fn is_front_printed(row: &Row<'_>, length: usize, printed: &str) -> bool {
+    if length == row.session.len() {
+        return printed == row.output;
+    }
     let front = row.session.get(..length).unwrap_or("");
     let (commands, rest) = cuts::whole_commands(front);
     let with_next = row.session.get(..length.saturating_add(1)).unwrap_or("");
@@ -105,7 +108,7 @@ fn is_front_printed(row: &Row<'_>, length: usize, printed: &str) -> bool {
     let is_over = cuts::is_skipped(rest) || cuts::status_of(known) == "2";
     let number = front.len().saturating_sub(rest.len());
     let number = front.get(..number).unwrap_or("").split('\n').count();
-    if ended > commands || is_over || length == row.session.len() {
+    if ended > commands || is_over {
         printed == known
     } else {
         printed

@@ -1,7 +1,7 @@
 //! Readers that never end.
 
 use crate::harness::{PROFILE, SESSION, run};
-use asrun_session::IoFault;
+use asrun_session::{IoFault, Status};
 use std::alloc::{AllocError, Global};
 use std::io;
 use std::io::Read;
