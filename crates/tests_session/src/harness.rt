@@ -4,7 +4,7 @@ use ang_drivers::{Cell, Console, Counter};
 use ang_host::Driver;
 use asrun_session::{IoFault, SessionEnd, Status, session};
 use std::alloc::{AllocError, Global};
-use std::io::Read;
+use std::io::{Read, Write};
 
 pub const PROFILE: &str = "mask 00000001\nfunction 0 0 void print(int)\n";
 
@@ -13,27 +13,37 @@ pub const SESSION: &str =
 
 pub const OUTPUT: &str = "ok\nok\nok\nhost a 0 0 - (3) void\nok\n";
 
-/// A session with a console, a counter and a cell as its drivers: what it wrote, and its outcome, if all drivers are
-/// handed back idle.
-pub fn run<P: Read, S: Read>(
+/// The outcome of a session with a console, a counter and a cell as its drivers, if all drivers are handed back idle.
+pub fn run_to<P: Read, S: Read, W: Write>(
     alloc: Global,
     profile: &mut P,
     session_text: &mut S,
-) -> Result<Option<(Vec<u8>, Result<Status, IoFault>)>, AllocError> {
+    out: &mut W,
+) -> Result<Option<Result<Status, IoFault>>, AllocError> {
     let mut boxes: Vec<Box<dyn Driver>> = Vec::new(alloc);
     boxes.push(Box::new(alloc, Console::new(alloc)?)?)?;
     boxes.push(Box::new(alloc, Counter::new(alloc)?)?)?;
     boxes.push(Box::new(alloc, Cell::new(alloc)?)?)?;
-    let mut out: Vec<u8> = Vec::new(alloc);
     let SessionEnd { outcome, drivers } = session(
         alloc,
         profile,
         session_text,
-        &mut out,
+        out,
         boxes,
         1_000_000,
     );
     let are_idle = drivers.len() == 3 && drivers.iter().all(|driver| driver.idle());
     drop(drivers);
-    Ok(are_idle.then_some((out, outcome)))
+    Ok(are_idle.then_some(outcome))
+}
+
+/// What such a session wrote, and its outcome, if all drivers are handed back idle.
+pub fn run<P: Read, S: Read>(
+    alloc: Global,
+    profile: &mut P,
+    session_text: &mut S,
+) -> Result<Option<(Vec<u8>, Result<Status, IoFault>)>, AllocError> {
+    let mut out: Vec<u8> = Vec::new(alloc);
+    let outcome = run_to(alloc, profile, session_text, &mut out)?;
+    Ok(outcome.map(|outcome| (out, outcome)))
 }

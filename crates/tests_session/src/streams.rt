@@ -1,10 +1,10 @@
-//! Readers that never end.
+//! Readers that never end, and a writer that fails in the middle of a long reply.
 
-use crate::harness::{PROFILE, SESSION, run};
+use crate::harness::{PROFILE, SESSION, run, run_to};
 use asrun_session::{IoFault, Status};
 use std::alloc::{AllocError, Global};
 use std::io;
-use std::io::Read;
+use std::io::{Error, ErrorKind, Read, Write};
 use std::test::Fail;
 
 /// The calls of `read` after which a text that has not ended is given up.
@@ -70,32 +70,63 @@ fn long_output(alloc: Global) -> Result<Vec<u8>, AllocError> {
     Ok(text)
 }
 
+/// Keeps what it is given, and fails at one call, counted from 1.
+#[derive(Drop)]
+struct FailingAt {
+    kept: Vec<u8>,
+    calls: u64,
+    stops: u64,
+}
+
+impl Write for FailingAt {
+    fn write(&mut self, buffer: &[u8]) -> io::Result<usize> {
+        self.calls = self.calls.saturating_add(1);
+        if self.calls == self.stops {
+            return Err(Error::from(ErrorKind::Other));
+        }
+        self.kept.extend_from_slice(buffer)?;
+        Ok(buffer.len())
+    }
+
+    fn flush(&mut self) -> io::Result<()> {
+        Ok(())
+    }
+}
+
 /// The outcome of the long session, with a writer that fails at a call, and how much it leaves unwritten of its output;
-/// nothing where what stands written is no front of it.
+/// nothing where what stands written is no front of it, or a driver is not idle.
 fn long_run(
     alloc: Global,
-    writer_stops: u64,
-) -> Result<(Result<Status, IoFault>, Option<usize>), AllocError> {
-    let mut out = Sink::new(alloc, 65_536, writer_stops, true);
-    let mut profile = Pieces::new(PROFILE, 4096, 0);
-    let mut text = Pieces::new(LONG_SESSION, 4096, 0);
-    let outcome = run(alloc, &mut profile, &mut text, &mut out)?;
+    stops: u64,
+) -> Result<Option<(Result<Status, IoFault>, usize)>, AllocError> {
+    let mut out = FailingAt {
+        kept: Vec::new(alloc),
+        calls: 0,
+        stops,
+    };
+    let mut profile = PROFILE.as_bytes();
+    let mut text = LONG_SESSION.as_bytes();
+    let Some(outcome) = run_to(alloc, &mut profile, &mut text, &mut out)? else {
+        return Ok(None);
+    };
     let output = long_output(alloc)?;
     let is_front = output.as_slice().starts_with(out.kept.as_slice());
     let left = output.len().saturating_sub(out.kept.len());
-    Ok((outcome, is_front.then_some(left)))
+    Ok(is_front.then_some((outcome, left)))
 }
 
 /// A reply that is written in three pieces, after three short ones. Each call of `write` fails in turn, which is a write
 /// fault each time.
 #[test]
 fn a_long_reply_is_written_whole(rt: HostRuntime) -> Result<(), Fail> {
-    assert!(rt; long_run(rt.alloc(), 0)? == (Ok(Status::AllOk), Some(0)));
+    let whole = Some((Ok(Status::AllOk), 0));
+    assert!(rt; long_run(rt.alloc(), 0)? == whole);
     for stops in 1..=6u64 {
-        let (outcome, left) = long_run(rt.alloc(), stops)?;
-        let is_cut = left.is_some_and(|count| 0 < count);
-        assert!(rt; outcome == Err(IoFault::Write) && is_cut, "call {stops}");
+        let is_cut = long_run(rt.alloc(), stops)?.is_some_and(|(outcome, left)| outcome
+            == Err(IoFault::Write)
+            && 0 < left);
+        assert!(rt; is_cut, "call {stops}");
     }
-    assert!(rt; long_run(rt.alloc(), 7)? == (Ok(Status::AllOk), Some(0)));
+    assert!(rt; long_run(rt.alloc(), 7)? == whole);
     Ok(())
 }
