@@ -1,7 +1,7 @@
 //! Runs sessions over profiles, and compares what each prints with what is stored beside it
 //! (README.md here). Its words are the files of one example after the other: the profile, the
-//! session, what is stored; and after these, files of rows, whose names end in `.rows`. The rows of files
-//! that come after the word `--trials` are cut at each byte, and run over streams that fail at each call.
+//! session, what is stored; and after these, files of rows, whose names end in `.rows`. Rows that say so
+//! are cut at each byte besides, and run over streams that fail at each call.
 #![tactic(auto)]
 
 mod cuts;
@@ -113,31 +113,33 @@ fn try_row(rt: &HostRuntime, name: &str, row: &Row<'_>) -> io::Result<bool> {
     Ok(true)
 }
 
-/// Runs all rows of a file, or tries them, and says how many they were. Gives whether all was well.
-fn run_rows(rt: &HostRuntime, path: &str, with_trials: bool) -> io::Result<bool> {
+/// Runs a row, and tries it if it says so. Gives whether all was well, which what is no row is not.
+fn is_good(rt: &HostRuntime, name: &str, row: Option<Row<'_>>) -> io::Result<bool> {
+    let Some(row) = row else {
+        println!(rt; "{name}: NOT a row")?;
+        return Ok(false);
+    };
+    Ok(run_row(rt, name, &row)? && (!row.has_trials || try_row(rt, name, &row)?))
+}
+
+/// Runs all rows of a file, and says how many they were, and how many went through the trials. Gives whether all was well.
+fn run_rows(rt: &HostRuntime, path: &str) -> io::Result<bool> {
     let text = fs::read_to_string(rt, path)?;
     let (head, mut left) = rows::until_row(text.as_str());
     let of_all = rows::profile_in(head, "");
     let mut good = 0usize;
     let mut count = 0usize;
+    let mut tried = 0usize;
     while !left.is_empty() {
         let (row, after) = rows::until_row(left);
         let (name, text) = row.split_once('\n').unwrap_or((row, ""));
-        let is_good = match rows::row_of(text, of_all) {
-            Some(row) if with_trials => try_row(rt, name, &row)?,
-            Some(row) => run_row(rt, name, &row)?,
-            None => false,
-        };
-        good = good.saturating_add(usize::from(is_good));
+        let row = rows::row_of(text, of_all);
+        tried = tried.saturating_add(usize::from(row.is_some_and(|row| row.has_trials)));
+        good = good.saturating_add(usize::from(is_good(rt, name, row)?));
         count = count.saturating_add(1);
         left = after;
     }
-    let what = if with_trials {
-        "hold in the trials"
-    } else {
-        "as stored"
-    };
-    println!(rt; "{path}: {good} of {count} rows {what}")?;
+    println!(rt; "{path}: {good} of {count} rows as stored, {tried} of them in trials")?;
     Ok(good == count)
 }
 
@@ -146,14 +148,10 @@ fn run_words(rt: &HostRuntime) -> io::Result<bool> {
     let alloc = rt.alloc();
     let words: Vec<String> = env::args(rt)?.collect(alloc)?;
     let mut same = words.len() > 1;
-    let mut with_trials = false;
     let mut left = words.get(1..).unwrap_or_default();
     while let [word, after @ ..] = left {
-        if word.as_str() == "--trials" {
-            with_trials = true;
-            left = after;
-        } else if word.ends_with(".rows") {
-            same &= run_rows(rt, word.as_str(), with_trials)?;
+        if word.ends_with(".rows") {
+            same &= run_rows(rt, word.as_str())?;
             left = after;
         } else if let [session, stored, after @ ..] = after {
             same &= run_example(rt, word.as_str(), session.as_str(), stored.as_str())?;

@@ -15,6 +15,8 @@ pub struct FailingCall {
 /// A run, and what is stored of it.
 #[derive(Clone, Copy)]
 pub struct Row<'a> {
+    /// Whether its texts are cut, and its streams fail, too.
+    pub has_trials: bool,
     pub failing: Option<FailingCall>,
     pub profile: &'a str,
     pub session: &'a str,
@@ -62,6 +64,7 @@ pub fn row_of<'a>(text: &'a str, of_all: &'a str) -> Option<Row<'a>> {
         None => None,
     };
     Some(Row {
+        has_trials: head.contains("-- trials\n"),
         failing,
         profile: profile_in(head, of_all),
         session,
