@@ -120,11 +120,11 @@ module _ {V : Type 0} {P : V → Type 0} (m : Meanings P) (budget : ℕ) (unread
       (subst (λ q. Tells m xs ys budget unread unread2 written written2 q (Ok status)) (sym s.0) (talks_status xs ys (Ok R) status (not_memory xs ys R status h) h))
 
   -- it was not
-  pub talks_untaken : (xs : List (DynBox V Global P)) (R : RegistrationList) (profile : Option (List ℕ)) (start : List ℕ → Result RegistrationList (List ℕ))
-      → IfSome profile (λ text. Starts (start text) R written written2 false)
+  pub talks_untaken : (xs : List (DynBox V Global P)) (profile : Option (List ℕ)) (start : List ℕ → Result RegistrationList (List ℕ))
+      → IfSome profile (λ text. (said : List ℕ) × (start text ≡ Err said) × Appends written written2 said)
       → IfSome profile (λ text. Tells m xs xs budget unread unread2 written written2 (start text) (Ok BadInput))
-  talks_untaken xs R None start s = tt
-  talks_untaken xs R (Some text) start s = subst (λ r. Talks m xs xs budget unread unread2 written written2 r BadInput) (sym s.1) (s.2, refl, refl)
+  talks_untaken xs None start s = tt
+  talks_untaken xs (Some text) start s = subst (λ r. Talks m xs xs budget unread unread2 written written2 r BadInput) (sym s.1) (s.2, refl, refl)
 
   stops_at_start : (xs : List (DynBox V Global P)) (r : Result RegistrationList (List ℕ)) → StartStops r written written2 → Stops m xs xs budget unread unread2 written written2 r
   stops_at_start xs (Err text) h = (h, refl)

@@ -2,6 +2,13 @@ use Rattle.asrun_session.specs.Whole.{start_of}
 use Rattle.asremote.proofs.Talking.{talks_over, talks_untaken, talks_stopped, talks_unbegun}
 use Rattle.asremote.proofs.conversation.converse.Goals as goal
 
+pub returns-in_default : goal.returns-in_default
+returns-in_default g c = record {
+  told =
+      talks_unbegun (λ v. (g.dyn-1.0.entry v).1) c.args.budget (g.S.Read.remaining c.args.input.now) (g.W.Write.contents c.args.out.now) c.args.drivers.items
+      (g.P.Read.remaining c.args.profile.now) start_of;
+}
+
 pub returns : goal.returns
 returns g c = record {
   told =
@@ -12,7 +19,7 @@ returns g c = record {
 
 pub returns-in-Ok-false : goal.returns-in-Ok-false
 returns-in-Ok-false g c = record {
-  told = talks_untaken (λ v. (g.dyn-1.0.entry v).1) c.args.budget _ _ _ _ c.args.drivers.items _ (g.P.Read.remaining c.args.profile.now) start_of (rw c.in-Ok-false.field-0-test at c.in-Ok-false.ensures.done);
+  told = talks_untaken (λ v. (g.dyn-1.0.entry v).1) c.args.budget _ _ _ _ c.args.drivers.items (g.P.Read.remaining c.args.profile.now) start_of (rw c.in-Ok-false.field-0-test at c.in-Ok-false.ensures.done);
 }
 
 pub returns-in-Err : goal.returns-in-Err

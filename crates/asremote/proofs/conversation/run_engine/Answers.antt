@@ -36,6 +36,8 @@ returns-after-why g c = elim c.match-why.branch [
       let back : c.into_boxes.result.items ≡ members c.args.drivers = search rules in
       record {
         done = rw w.ended-is tt;
-        cut = rw (w.ended-is, w.writer-is) (stops_untouched (λ v. (g.dyn-1.0.entry v).1) c.args.budget _ _ (g.W.Write.contents c.args.writer.now) (g.W.Write.contents c.args.writer.now) c.args.registry.entries _ _ _ back refl);
+        cut =
+            rw w.writer-is (stops_untouched (λ v. (g.dyn-1.0.entry v).1) c.args.budget _ _ (g.W.Write.contents c.args.writer.now) (g.W.Write.contents c.args.writer.now) c.args.registry.entries _ _
+            c.match-why.ended back refl);
       }
 ]
