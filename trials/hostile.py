@@ -249,8 +249,9 @@ def deep(trials):
     decls += ["int " + "a," * 30000 + "a", "void f(){" + "{" * 60000, "f" * 60000, "x=" * 30000 + "x"]
     for decl in decls:
         session = built("void f(){}", calls=[f"call m () {decl}"])
-        trials.tried(f"call of {decl[:40]}..", session, "refused NoFunction")
-    print(f"\n{len(decls)} calls whose declarations are as long: refused NoFunction")
+        wanted = "refused Memory" if "for(;;)" in decl else "refused NoFunction"
+        trials.tried(f"call of {decl[:40]}..", session, wanted)
+    print(f"\n{len(decls)} calls whose declarations are as long: refused NoFunction, or Memory where statements nest")
 
 
 # What is limited, its last value, what makes a session of a number, and what that is answered at the last value and one
