@@ -42,7 +42,7 @@ class Reply:
         self.calls, self.reads, self.written, self.outcome = 0, 0, 0, None
 
     def take(self, line):
-        found = re.fullmatch(rb"host m 0 0 - \((-?\d*)\) (void|-?\d+)\n", line)
+        found = re.fullmatch(rb"host m 0 0 - \((-?\d*)\) (void|memory|-?\d+)\n", line)
         if found:
             self.calls += 1
             self.reads += not found[1]
