@@ -30,6 +30,10 @@ fn writes(
     for _ in 0..consoles {
         boxes.push(Box::new(alloc, Console::new(alloc)?)?)?;
     }
+    // What `session` asks for, and true of all that are tried here.
+    if boxes.len() > 65 {
+        return Ok(false);
+    }
     let mut profile = texts.0.as_bytes();
     let mut text = texts.1.as_bytes();
     let mut out: Vec<u8> = Vec::new(alloc);
