@@ -91,11 +91,15 @@ def start_of(text, line):
 
 
 class Stubbed:
-    """A file of code as its stub has it: `functions` are those that stay, by type and name, and `gone` the names of the others."""
+    """A file of code as its stub has it: `functions` are those that stay, by type and name, and `gone` the names of the others.
 
-    def __init__(self, text, wanted):
-        self.text, self.wanted = TACTIC.sub("", text), wanted
-        self.functions, self.gone, self.changes = [], set(), []
+    Public functions stay that are `wanted`, and of those that are `called` by what a type has of a trait the private ones too: `calls`
+    has the words of that.
+    """
+
+    def __init__(self, text, wanted, called=()):
+        self.text, self.wanted, self.called = TACTIC.sub("", text), wanted, called
+        self.functions, self.gone, self.changes, self.calls = [], set(), [], set()
         self.scan()
         for first, last, new in sorted(self.changes, reverse=True):
             self.text = self.text[:first] + new + self.text[last:]
@@ -133,6 +137,7 @@ class Stubbed:
         is_model = " Model for " in head
         end = past_brackets(self.text, body, is_clause=is_model)
         if word.group() == "trait" or re.search(r"\bfor\b", head):
+            self.calls.update(WORD.findall(self.text[body:end]) if word.group() == "impl" and not is_model else [])
             return end
         impls.append((end, WORD.match(head).group()))
         return body + 1
@@ -148,7 +153,8 @@ class Stubbed:
             return at
         end = past_brackets(text, body)
         line = text.rfind("\n", 0, word.start()) + 1
-        if name.group() in self.wanted and text[line : word.start()].strip().startswith("pub"):
+        is_public = text[line : word.start()].strip().startswith("pub")
+        if name.group() in self.called or (is_public and name.group() in self.wanted):
             self.changes.append((body, end, "{ loop {} }"))
             self.functions.append((impls[-1][1] if impls else None, name.group()))
         else:
@@ -199,13 +205,18 @@ def module_of(path, src):
     return parts[:-1] if parts[-1] in ("lib", "mod") else parts
 
 
-def write_stub(crate, folder, wanted, gone):
+def calls_of(crate):
+    """The words of what the crate's types have of traits, which a stub leaves as it is."""
+    return set().union(*[Stubbed(read(path), set()).calls for path in files_of(f"{crate.folder}/src") if path.endswith(".rt")])
+
+
+def write_stub(crate, folder, wanted, called, gone):
     """Writes the stub of a crate; `gone` has the names of functions that the stubs below are without, and gets this one's."""
     src, to = f"{crate.folder}/src", f"{folder}/{crate.name}"
     code = {path: read(path) for path in files_of(src) if path.endswith(".rt")}
     types = re.compile(r"^\s*(?:pub )?(?:struct|enum) (\w+)", re.M)
     homes = {name: module_of(path, src) for path, text in code.items() for name in types.findall(text)}
-    stubs = {path: Stubbed(text, wanted) for path, text in code.items()}
+    stubs = {path: Stubbed(text, wanted, called) for path, text in code.items()}
     stay = {name for stub in stubs.values() for _, name in stub.functions}
     gone[crate.name] = {name for stub in stubs.values() for name in stub.gone} - stay
     missing = set().union(*[gone.get(it.name, set()) for it in [crate, *crate.deps]]) - stay
@@ -295,9 +306,10 @@ def main():
     crate, lacking = kept_by_rt(rt, top, sys.argv[1]) if hasattr(rt, "Kept") else kept_by_us(sys.argv[1])
     print("over stubs of:", " ".join(it.name for it in lacking) or "none", flush=True)
     stubs, wanted, gone = f"{crate.folder}/out/stubs", words_in(crate), {}
+    called = set().union(*[calls_of(it) for it in lacking])
     shutil.rmtree(stubs, ignore_errors=True)
     for dep in lacking:
-        write_stub(dep, stubs, wanted if dep in crate.deps else set(), gone)
+        write_stub(dep, stubs, wanted if dep in crate.deps else set(), called, gone)
     os.makedirs(f"{crate.folder}/out/over_stubs", exist_ok=True)
     words = [*words_for(crate, lacking, stubs), "--allow-holes", "--incremental", "out/over_stubs", *sys.argv[2:]]
     return subprocess.run([rt.rtlib.RATTLE, "check", *words], cwd=crate.folder).returncode

@@ -9,6 +9,7 @@
 #     game       the example of each client prints clients/game.expected
 #     sessions   each session of crates/examples and crates/asrun, and 1,000 generated ones, over modules, masks, imports,
 #                numbers and objects: with the drivers of asrun written in Python, asremote prints what asrun prints
+#     lines      some 60 lines of wrong forms: what asremote says to each, and that nothing behind the head of a section runs
 #     kills      100 engines of each client are killed at random moments: the host goes on, and the next engine works
 #
 # Prints a line or more for each, and what differs. The status is 0 where all went well. Needs python3, cargo and
@@ -27,7 +28,7 @@ asremote=$root/crates/asremote/out/asremote
 asrun=$root/crates/asrun/out/asrun
 [ $# -lt 1 ] || { asremote=$(whole "$1"); shift; }
 [ $# -lt 1 ] || { asrun=$(whole "$1"); shift; }
-[ $# -gt 0 ] || set -- game sessions kills
+[ $# -gt 0 ] || set -- game sessions lines kills
 for program in "$asremote" "$asrun"; do
     [ -x "$program" ] || { echo "there is no $program: run rt ci, or rt run in its crate, first" >&2; exit 2; }
 done
@@ -72,6 +73,10 @@ sessions() {
     python3 trials/clients/sessions.py "$asremote" "$asrun" || bad=1
 }
 
+lines() {
+    python3 trials/clients/wrong_lines.py "$asremote" || bad=1
+}
+
 kills() {
     built
     for client in Python Rust C++; do
@@ -82,7 +87,7 @@ kills() {
 
 for part; do
     case $part in
-    game | sessions | kills) "$part" ;;
+    game | sessions | lines | kills) "$part" ;;
     *) echo "no such part: $part" >&2; exit 2 ;;
     esac
 done

@@ -11,8 +11,13 @@ import sys
 import tempfile
 from collections import Counter, defaultdict, namedtuple
 
+sys.dont_write_bytecode = True
+import nests  # noqa: E402
+import replies  # noqa: E402
+
 MOST = 65536  # bytes of a section
 STACK = 8192  # KiB, with which each section has to build
+LEVELS = 4000  # statements one inside the other, the innermost one among them
 STEP = 64  # KiB, to which the least stack is found
 SECONDS = 600  # for one process
 GNU_TIME = "/usr/bin/time"
@@ -27,10 +32,11 @@ Ended = namedtuple("Ended", "status text seconds resident")
 
 
 class Trials:
-    """The program, and what was seen of it."""
+    """The programs, and what was seen of them: asrun, and asremote in the parts that try both."""
 
-    def __init__(self, program, folder):
-        self.program = program
+    def __init__(self, programs, folder):
+        self.program = programs[0]
+        self.programs = programs
         self.folder = folder
         self.runs = 0
         self.bad = Counter()
@@ -150,21 +156,21 @@ def table(titles, rows):
         print("| " + " | ".join(map(str, row)) + " |", flush=True)
 
 
-# Statements inside statements, of which each has a `;` of its own, so that no limit but that of the section's bytes
-# holds: what stands before the inner statement, and what after.
+# Statements inside statements, of which each has a `;` of its own, so that operators hold no nest back: what stands before
+# the inner statement, what after, and how many statements that is.
 NESTS = [
-    ("", ""),
-    ("for(;;)", ""),
-    ("if(b);else ", ""),
-    ("for(;;)if(b)", ""),
-    ("for(;;)while(b)", ""),
-    ("for(;;)do ", "while(b);"),
-    ("while(b)for(;;)", ""),
-    ("if(b)for(;;);else ", ""),
-    ("for(;;)if(b);else ", ""),
-    ("for(;;)for(;;)if(b)while(b)", ""),
-    ("for(;;)if(b)while(b)do ", "while(b);"),
-    ("for(x;b;x)", ""),
+    ("", "", 1),
+    ("for(;;)", "", 1),
+    ("if(b);else ", "", 1),
+    ("for(;;)if(b)", "", 2),
+    ("for(;;)while(b)", "", 2),
+    ("for(;;)do ", "while(b);", 2),
+    ("while(b)for(;;)", "", 2),
+    ("if(b)for(;;);else ", "", 1),
+    ("for(;;)if(b);else ", "", 2),
+    ("for(;;)for(;;)if(b)while(b)", "", 4),
+    ("for(;;)if(b)while(b)do ", "while(b);", 4),
+    ("for(x;b;x)", "", 1),
 ]
 
 # What stands at the bottom: the deepest expressions that there may be, and what is refused.
@@ -190,13 +196,13 @@ PLACES = {
 }
 
 
-def nested(nest, bottom, place="a function"):
-    """A section with a nest as deep as there is room, and its number of levels."""
-    before, after = nest
+def nested(nest, bottom, place="a function", levels=LEVELS - 1):
+    """A section with a nest as deep as it may be, or as there is room, and the number of its statements around the bottom."""
+    before, after, statements = nest
     head, tail, _ = PLACES[place]
     room = MOST - 1 - len(head + bottom + tail)
-    levels = room // len(before + after) if before else 0
-    return head + before * levels + bottom + after * levels + tail, levels
+    count = min(room // len(before + after), levels // statements) if before else 0
+    return head + before * count + bottom + after * count + tail, count * statements
 
 
 def ranks(count):
@@ -211,16 +217,22 @@ def ranks(count):
 def deep(trials):
     """The deepest sections, objects inside one another, and the declarations of calls that are as long."""
 
+    def too_deep(nest, text, place):
+        section, levels = nested(nest, text, place, MOST)
+        if levels >= LEVELS:
+            trials.tried(f"{levels} of {nest} in {place}", built(section), "refused BuildMemory")
+
     def least(nest, bottom, place):
         text, wanted = BOTTOMS[bottom]
         wanted = PLACES[place][2] if wanted == OK else wanted
         session = built(nested(nest, text, place)[0])
         trials.tried(f"{nest} around {bottom} in {place}", session, wanted)
+        too_deep(nest, text, place)
         return trials.least_stack(session, wanted)
 
     def rows(place, nests, bottoms):
         for nest in nests:
-            name = f"`{'..'.join(filter(None, nest))}`" if nest[0] else "no statement around it"
+            name = f"`{'..'.join(filter(None, nest[:2]))}`" if nest[0] else "no statement around it"
             levels = nested(nest, BOTTOMS["`;`"][0], place)[1]
             yield name, levels, *(least(nest, bottom, place) for bottom in bottoms)
 
@@ -237,8 +249,9 @@ def deep(trials):
     decls += ["int " + "a," * 30000 + "a", "void f(){" + "{" * 60000, "f" * 60000, "x=" * 30000 + "x"]
     for decl in decls:
         session = built("void f(){}", calls=[f"call m () {decl}"])
-        trials.tried(f"call of {decl[:40]}..", session, "refused NoFunction")
-    print(f"\n{len(decls)} calls whose declarations are as long: refused NoFunction")
+        wanted = "refused Memory" if "for(;;)" in decl else "refused NoFunction"
+        trials.tried(f"call of {decl[:40]}..", session, wanted)
+    print(f"\n{len(decls)} calls whose declarations are as long: refused NoFunction, or Memory where statements nest")
 
 
 # What is limited, its last value, what makes a session of a number, and what that is answered at the last value and one
@@ -283,11 +296,14 @@ LIMITS = [
     Limit("operators: `b?x:..`", 256, operators("b?x:"), OK, DEEP),
     Limit("operators: `if(b)..`", 256, operators("if(b)"), OK, DEEP),
     Limit("operators: `while(b)..`", 256, operators("while(b)"), OK, DEEP),
+    Limit("statements one inside the other", LEVELS, lambda n: built(HEAD + "for(;;)" * (n - 1) + ";}"), OK, "refused BuildMemory"),
+    Limit("`else if` one after the other", LEVELS, lambda n: built(HEAD + "if(b);else " * (n - 1) + ";}"), OK, "refused BuildMemory"),
     Limit("functions", 4096, lambda n: built(named(n, "void f%d(){}")), OK, MANY),
     Limit("globals", 4096, lambda n: built(named(n, "int a%d;")), OK, MANY),
     Limit("globals of one list", 4096, lambda n: built(f"int a{named(n - 1, ',a%d')};"), OK, MANY),
     Limit("classes", 256, lambda n: built(named(n, "class C%d{}")), OK, MANY),
     Limit("classes in a chain", 256, lambda n: built("class C0{}" + "".join(f"class C{i}:C{i - 1}{{}}" for i in range(1, n))), OK, MANY),
+    Limit("imports", 256, lambda n: built(named(n, 'import void f%d() from "b";')), OK, MANY),
     Limit("members of a class", 256, lambda n: built("class C{" + named(n, "int a%d;") + "}"), OK, MANY),
     Limit("methods of an interface", 256, lambda n: built("interface I{" + named(n, "void f%d();") + "}"), OK, MANY),
     Limit("parameters", 32, lambda n: built(f"void f({','.join(['int'] * n)}){{}}"), OK, MANY),
@@ -510,7 +526,7 @@ KINDS = [
     ("`x=x+1;`", filled("x=x+1;"), 300),
     ("`void f0(){}`", numbered("", "void f%d(){}", most=4096), 300),
     ("32 parameters: `void f0(int,int..){}`", numbered("", f"void f%d({PARAMETERS}){{}}"), 300),
-    ("`for(;;)` one inside the other", nested(("for(;;)", ""), ";")[0], MOST_BYTES),
+    ("1,000 times `for(;;)` one inside the other", filled("for(;;)" * 1000 + ";"), MOST_BYTES),
     ("`{int a;}`", filled("{int a;}"), 300),
     ("250 times `x+` in a statement", filled("x+" * 250 + "x;"), MOST_BYTES),
     ("250 times `~`", filled("~" * 250 + "x;"), MOST_BYTES),
@@ -572,7 +588,7 @@ def limited(trials):
     The deepest section is built first, so that the stack has grown before memory runs out: a stack that can't grow ends
     the process.
     """
-    deepest = nested(("for(;;)if(b)", ""), BOTTOMS["`x=x=..`"][0])[0]
+    deepest = nested(("for(;;)", "", 1), BOTTOMS["`x=x=..`"][0])[0]
     then = sections(WORST, WORST_HEAD)[:5] + [deepest.replace(HEAD, "bool b;void deep(){")]
     session = built(deepest) + "".join(map(section, then)) + "build m\n"
     seen = Counter()
@@ -585,9 +601,8 @@ def limited(trials):
 
 def full(trials):
     """64 full sections in one build."""
-    loops = nested(("for(;;)", ""), ";")[0]
     kinds = {
-        "`for(;;)` one inside the other": [loops, *(loops.replace(HEAD, f"void f{n}(){{") for n in range(63))],
+        "1,000 times `for(;;)` one inside the other": sections("for(;;)" * 1000 + ";"),
         "`;`": sections(";"),
         "`x=x+1;`": sections("x=x+1;"),
         "62 calls one inside the other": sections(WORST, WORST_HEAD),
@@ -606,16 +621,52 @@ def full(trials):
     table(["Sections of", "bytes", "seconds of processor", "MiB", "bytes of memory a byte", "answer"], rows())
 
 
-PARTS = {"deep": deep, "limits": limits, "changed": changed, "limited": limited, "full": full, "memory": memory}
+def nestings(trials):
+    """All nests of one, two and three kinds of statement, around each bottom."""
+    count = 0
+    for (cycle, program, stack), wrong in nests.tried(trials.programs):
+        count += 1
+        if wrong:
+            way = WAYS[0] if "signal" in wrong else WAYS[2]
+            trials.count(way, f"{' '.join(cycle)} with {stack} KiB of {program}: {wrong}")
+    trials.runs += count
+    kinds, bottoms = len(nests.KINDS), len(nests.bottoms(1))
+    print(f"\nNests of up to three of {kinds} kinds of statement, {bottoms} bottoms in each, {nests.STACKS} KiB: {count} processes")
+
+
+def answered(trials):
+    """Calls that ask the host until memory runs out."""
+
+    def rows():
+        for (name, script, memory), wrong, calls in replies.tried(trials.programs):
+            trials.runs += 1
+            if wrong:
+                trials.count(WAYS[2], f"{name}, {script} below {memory} MB: {wrong}")
+            yield name, f"`{script}`", memory, f"{calls:,}"
+
+    print("\nCalls that ask the host until memory runs out, and how many host calls their replies list\n")
+    table(["Program", "script", "MB", "host calls"], rows())
+
+
+PARTS = {
+    "deep": deep,
+    "nests": nestings,
+    "limits": limits,
+    "changed": changed,
+    "limited": limited,
+    "replies": answered,
+    "full": full,
+    "memory": memory,
+}
 
 
 def main():
-    program, chosen = sys.argv[1], sys.argv[2:] or list(PARTS)
+    programs, chosen = sys.argv[1:3], sys.argv[3:] or list(PARTS)
     unknown = [part for part in chosen if part not in PARTS]
     if unknown or ({"full", "memory"} & {*chosen} and not os.path.exists(GNU_TIME)):
         sys.exit(f"no such part: {unknown}" if unknown else f"the parts full and memory need GNU time, at {GNU_TIME}")
     folder = tempfile.mkdtemp()
-    trials = Trials(program, folder)
+    trials = Trials(programs, folder)
     try:
         for part in chosen:
             PARTS[part](trials)

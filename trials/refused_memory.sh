@@ -3,9 +3,11 @@
 #
 #     trials/refused_memory.sh [PROFILE SESSION]
 #     trials/refused_memory.sh asremote [PROFILE CONVERSATION [DRIVERS]]
+#     trials/refused_memory.sh rows FILE..
 #
 # The program is asrun with a session, or asremote with a stored conversation: what it printed with `--echo`. The files of
-# asrun's first run, or of the conversation in docs/FORMATS.md, are taken if none are named. The programs are
+# asrun's first run, or of the conversation in docs/FORMATS.md, are taken if none are named; with `rows` each row of these
+# files of crates/examples/data is run so, but those with a failing host call, which asrun can't have. The programs are
 # crates/asrun/out/asrun and crates/asremote/out/asremote, which `rt ci`, or `rt run` in the crate, leaves there. Needs a C
 # compiler, as the library that counts allocations and refuses one is written and compiled here, in a folder that is
 # removed again; and python3 for asremote, whose host, trials/clients/stored.py, keeps in step where less is asked.
@@ -14,10 +16,25 @@
 #   - its status and what it wrote are those of a run where nothing is refused (the C library did without that memory), or
 #   - its status is 3, it wrote a front of that, whole lines, and `asrun: no memory`, or `asremote: no memory`, on standard
 #     error, or
-#   - its status is 1, and the first line that it wrote otherwise is an answer of want of memory.
+#   - its status is 1, or that of a run where nothing is refused, and the first line that it wrote otherwise is an answer of want of memory, before which there may be
+#     the ends of objects that this answer gave up.
 # Prints a line for each way to end with the number of runs, each run that did not end well, and the number of those.
 set -eu
 cd "$(dirname "$0")/.."
+if [ "${1:-}" = rows ]; then
+    shift
+    rows=$(mktemp -d)
+    trap 'rm -rf "$rows"' EXIT
+    python3 trials/rows.py "$rows" "$@"
+    bad=0
+    for commands in "$rows"/*.session; do
+        trials/refused_memory.sh "${commands%.session}.profile" "$commands" > "$rows/told" || { bad=$((bad + 1)); grep ^allocation "$rows/told"; }
+        echo "$(basename "$commands" .session): $(tail -n 1 "$rows/told")"
+    done
+    echo "$bad rows of which some run did not end well"
+    [ "$bad" = 0 ]
+    exit
+fi
 name=asrun
 profile=crates/asrun/data/first.profile
 commands=crates/asrun/data/first.session
@@ -87,8 +104,8 @@ ended_well() {
     "$whole") cmp -s "$folder/out" "$folder/whole" && return 0 ;;
     3) head -n "$lines" "$folder/whole" | cmp -s - "$folder/out" && grep -qx "$name: no memory" "$folder/err" && return 0 ;;
     esac
-    [ "$1" = 1 ] || return 1
-    diff "$folder/whole" "$folder/out" | sed -n 's/^> //p' | head -n 1 | grep -Eqi 'memory$'
+    [ "$1" = 1 ] || [ "$1" = "$whole" ] || return 1
+    diff "$folder/whole" "$folder/out" | sed -n 's/^> //p' | grep -v '^end ' | head -n 1 | grep -Eqi 'memory$'
 }
 
 at=1

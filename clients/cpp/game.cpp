@@ -194,6 +194,10 @@ void play(Engine& engine) {
     admin = built(engine, "admin", players | staff, admin_script);
     tell<int>("wound with 1", admin, "int wound(int)", 1);
     std::cout << "monsters: " << engine.objects() << '\n';
+
+    // A line that no command spells.
+    std::cout << "nonsense: " << engine.command("nonsense").outcome << '\n';
+    tell<int>("wound with 1", admin, "int wound(int)", 1);
 }
 
 }  // namespace

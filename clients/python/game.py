@@ -193,6 +193,10 @@ def main() -> None:
         tell("wound with 1", lambda: admin.call("int wound(int)", 1))
         print(f"monsters: {len(engine.objects)}")
 
+        # A line that no command spells.
+        print(f"nonsense: {engine.command('nonsense').outcome}")
+        tell("wound with 1", lambda: admin.call("int wound(int)", 1))
+
 
 if __name__ == "__main__":
     main()

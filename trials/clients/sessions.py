@@ -3,8 +3,9 @@
 
     trials/clients/sessions.py ASREMOTE ASRUN [COUNT [SEED]]
 
-The sessions are those of crates/examples and crates/asrun, and COUNT generated ones (1000, if left out). Of each the text
-of all replies, and the exit status, have to be the same. Prints each session that differs, and how many there were.
+The sessions are those of crates/examples and crates/asrun, with the rows of files but for those in which a driver fails, and
+COUNT generated ones (1000, if left out). Of each the text of all replies, and the exit status, have to be the same. Prints each
+session that differs, and how many there were.
 """
 
 import os
@@ -41,11 +42,16 @@ def remote(program, profile, session):
     talk = Conversation([program, "--profile", profile, "--drivers", "3"], drivers.answer)
     with open(session, newline="") as file:
         text = file.read()
-    printed = []
+    printed, number = [], 1
     try:
         printed += talk.say("", SECONDS)
         for command in commands(text):
             reply = talk.say(command if command.endswith("\n") else command + "\n", SECONDS)
+            if reply == ["refused BadLine"]:  # asremote goes on after it, and asrun ends
+                printed.append(f"line {number} BadLine")
+                talk.close(SECONDS)
+                return "".join(f"{line}\n" for line in printed), 2, drivers
+            number += command.count("\n")
             drivers.replied(reply)
             printed += reply
     except EngineLost as lost:
@@ -71,6 +77,20 @@ def examples():
                 yield file, next(filter(os.path.isfile, profiles)), f"{stem}.session"
 
 
+def rows():
+    """The rows of the files of rows: their names, profiles and sessions."""
+    folder = os.path.join(ROOT, "crates/examples/data")
+    for file in sorted(it for it in os.listdir(folder) if it.endswith(".rows")):
+        with open(os.path.join(folder, file), newline="") as text:
+            head, *parts = text.read().split("\n== ")
+        for row in parts:
+            name, _, row = row.partition("\n")
+            first, _, row = row.partition("-- session\n")
+            profile = (first if "-- profile\n" in first else head).partition("-- profile\n")[2]
+            if "-- failing " not in first:
+                yield f"{file}, {name}", profile, row.partition("-- output\n")[0]
+
+
 class Trial:
     """What was compared so far."""
 
@@ -90,6 +110,11 @@ class Trial:
             print(f"--- {name} differs\n{first_difference(there, here[0])}    statuses {status} and {here[1]}")
 
 
+def write(path, text):
+    with open(path, "w", newline="") as out:
+        out.write(text)
+
+
 def kind_of(line):
     """What is counted of a line: its first word, with the second where it is a fault or a refusal."""
     return " ".join(line.split(" ")[: 2 if line.startswith(("fault ", "refused ")) else 1])
@@ -107,16 +132,18 @@ def main():
     trial = Trial(asremote, asrun)
     for name, profile, session in examples():
         trial.compare(name, profile, session)
-    print(f"{trial.compared} sessions of the examples: {trial.asks} asks, {trial.differ} sessions differ")
-    trial.words.clear()
-    before = (trial.compared, trial.asks, trial.differ)
     with tempfile.TemporaryDirectory() as room:
         profile, session = os.path.join(room, "profile"), os.path.join(room, "session")
-        with open(profile, "w") as out:
-            out.write(generated.PROFILE)
+        for name, entries, commands_of in rows():
+            write(profile, entries)
+            write(session, commands_of)
+            trial.compare(name, profile, session)
+        print(f"{trial.compared} sessions of the examples: {trial.asks} asks, {trial.differ} sessions differ")
+        trial.words.clear()
+        before = (trial.compared, trial.asks, trial.differ)
+        write(profile, generated.PROFILE)
         for at in range(count):
-            with open(session, "w") as out:
-                out.write(generated.Session(seed * 1_000_000 + at).text())
+            write(session, generated.Session(seed * 1_000_000 + at).text())
             trial.compare(f"generated session {at} of seed {seed}", profile, session)
     more = [now - then for now, then in zip((trial.compared, trial.asks, trial.differ), before)]
     print(f"{more[0]} generated sessions: {more[1]} asks, {more[2]} sessions differ")

@@ -207,5 +207,9 @@ fn main() -> Result<(), Error> {
     let admin = built(&mut engine, "admin", PLAYERS | STAFF, ADMIN)?;
     tell("wound with 1", engine.call::<i32>(&admin, "int wound(int)", &[&1]))?;
     println!("monsters: {}", engine.objects());
+
+    // A line that no command spells.
+    println!("nonsense: {}", engine.command("nonsense")?.outcome);
+    tell("wound with 1", engine.call::<i32>(&admin, "int wound(int)", &[&1]))?;
     Ok(())
 }

@@ -7,7 +7,7 @@ use Rattle.ang_tree.specs.declared.type_name.TypeName.{TypeName}
 use Rattle.ang_tree.specs.Declarations.{SuperTree}
 use Rattle.ang_tree.specs.Stmt.{Init, Body, Stmts}
 use Rattle.ang_types.specs.declared.arg_type.ArgType.{ArgType}
-use Rattle.ang_typed.specs.declared.program.Parameter.{Parameter}
+use Rattle.ang_typed.specs.declared.program.TypedParameter.{TypedParameter}
 use Rattle.ang_typed.specs.Typed as t
 use Rattle.ang_names_known.specs.declared.names.Default.{Default}
 use Rattle.ang_names_known.specs.declared.names.Default.TheVariants as default
@@ -15,7 +15,7 @@ use Rattle.ang_names_known.specs.declared.names.Names.{Names}
 use Rattle.ang_names_known.specs.declared.names.ScriptFunction.{ScriptFunction}
 use Rattle.ang_names_known.specs.declared.names.ScriptGlobal.{ScriptGlobal}
 use Rattle.ang_names_known.specs.Lookup.{default_of}
-use Rattle.ang_check_operand.specs.Operands.{Operand}
+use Rattle.ang_check_operators.specs.Operands.{Operand}
 use Rattle.ang_check_context.specs.declared.scope.LocalVariable.{LocalVariable}
 use Rattle.ang_check_context.specs.declared.scope.Within.{Within}
 use Rattle.ang_check_context.specs.Scope.{BodyContext}
@@ -23,15 +23,15 @@ use Rattle.ang_check_uses.specs.declared.uses.Resolution.{Resolution}
 use Rattle.ang_check_uses.specs.declared.uses.Resolution.TheVariants as resolution
 use Rattle.ang_check_typing.specs.Calls.{arguments_for}
 use Rattle.ang_check_typing.specs.Typing.{typing_of_args}
-use Rattle.ang_check_statements.specs.Typing.{block_typing, stmts_typing, initializer_typing}
-use Rattle.ang_check_body.specs.Typing.{parameter_local, typed_parameters, this_local, this_parameter, is_void, ending, frame_of, function_typing, method_body_typing, super_chosen, super_by, super_typing, default_base, implicit_super, base_typing, maker_frame, constructor_typing, global_typing}
+use Rattle.ang_check_stmt.specs.Typing.{block_typing, stmts_typing, initializer_typing}
+use Rattle.ang_check.specs.Typing.{parameter_local, typed_parameters, this_local, this_parameter, is_void, ending, frame_of, function_typing, method_body_typing, super_chosen, super_by, super_typing, default_base, implicit_super, base_typing, maker_frame, constructor_typing, global_typing}
 use Rattle.ang_check_asked.proofs.Judged.{Silent, silent_in, either_silent}
 use Rattle.ang_check_asked.proofs.Calls.{arguments_silent}
 use Rattle.ang_check_asked.proofs.Expressions.{args_use}
 use Rattle.ang_check_asked.proofs.Statements.{BodyUses, here, none_here, then_here, block_use, statements_use}
 use Rattle.ang_check_asked.proofs.Variables.{initializer_uses}
 
-ending_silent : (ty : ArgType) (x : Token) (ends : Bool) (ps : List Parameter) (ss : t.Stmts) → Silent (ending ty x ends ps ss)
+ending_silent : (ty : ArgType) (x : Token) (ends : Bool) (ps : List TypedParameter) (ss : t.Stmts) → Silent (ending ty x ends ps ss)
 ending_silent ty x ends ps ss = either_silent (ends || is_void ty) _ _ tt refl
 
 default_base_silent : (place : Place) (base : Token) (d : Default) → Silent (default_base place base d)

@@ -10,12 +10,12 @@ use Rattle.ang_types.specs.declared.arg_type.ArgType.{ArgType}
 use Rattle.ang_types.specs.declared.asks.Asks.{Asks}
 use Rattle.ang_types.specs.declared.asks.Asks.TheVariants as asks
 use Rattle.ang_types.specs.Ranks.{Ancestors}
-use Rattle.ang_typed.specs.declared.expression.Variable.{Variable}
+use Rattle.ang_typed.specs.declared.expression.TypedVariable.{TypedVariable}
 use Rattle.ang_names_known.specs.Lookup.{FoundMethod, may_use}
 use Rattle.ang_names_known.specs.Spaces.{family_type, family_of_type}
-use Rattle.ang_names_written.specs.Sources.{text_of}
-use Rattle.ang_check_operand.specs.Operands.{Operand, fit, integer, object_of, site_in}
-use Rattle.ang_check_operand.specs.Refusals.{Typing, fault}
+use Rattle.ang_lex.specs.Text.{text_of}
+use Rattle.ang_check_operators.specs.Operands.{Operand, fit, integer, object_of, site_in}
+use Rattle.ang_check_operators.specs.Refusals.{Typing, fault}
 use Rattle.ang_check_context.specs.declared.scope.LocalVariable.{LocalVariable}
 use Rattle.ang_check_context.specs.declared.scope.Within.{Within}
 use Rattle.ang_check_context.specs.Access.{if_in_reach}
@@ -36,7 +36,7 @@ use Rattle.ang_check_asked.proofs.Names.{Uses, no_use, refused_use}
 
 -- ---- arguments
 
-out_or_silent : (place : Place) (x : Option Variable) → Silent (out_or place x)
+out_or_silent : (place : Place) (x : Option TypedVariable) → Silent (out_or place x)
 out_or_silent place None = refl
 out_or_silent place (Some x) = tt
 

@@ -1,21 +1,20 @@
 //! What the expressions of a body stand in.
 ghost use Rattle.std.specs.Prelude.{◌≡◌, ◌≤◌, ◌<◌, bytes_eq, length, IfOk, IfSome};
 ghost use Rattle.std.specs.List.{list_any};
-ghost use Rattle.ang_check_operand.specs.Refusals.{Gives};
+ghost use Rattle.ang_check_operators.specs.Refusals.{Gives};
 ghost use Rattle.ang_check_context.specs.Access as accesses;
 ghost use Rattle.ang_check_context.specs.Casts as casts;
 ghost use Rattle.ang_check_context.specs.Scope as scopes;
 ghost use Rattle.ang_check_uses.specs.Uses as uses;
 ghost use Rattle.ang_names_known.specs.Lookup as lookup;
-ghost use Rattle.ang_names_written.specs.Sources as sources;
+ghost use Rattle.ang_lex.specs.Text.{text_of};
 
 use crate::scope::{Locals, Within};
-use ang_check_operand::{Stop, refused, use_refused};
+use ang_check_operators::{TypingError, refused, use_refused};
 use ang_check_uses::{Callables, Resolution, Scope, makers_of, resolution_of};
 use ang_kinds::ErrorKind;
-use ang_lex::Token;
+use ang_lex::{Token, text_of};
 use ang_names_known::{Access, Family, Names, may_use};
-use ang_names_written::text_at;
 use ang_types::{ArgType, Asks, Lineage};
 use ang_view::View;
 use std::alloc::{AllocError, Global};
@@ -123,9 +122,9 @@ impl<'a> BodyContext<'a> {
 
     /// The bytes of a token.
     pub fn text_of(&self, token: &Token) -> &'a [u8]
-        ensures exact { result.now ≡ sources.text_of self.now.text token.now }
+        ensures exact { result.now ≡ text_of self.now.text token.now }
     {
-        text_at(self.text, token)
+        text_of(self.text, token)
     }
 
     /// What uses are asked over.
@@ -146,7 +145,7 @@ pub fn resolved(
     asks: &Asks,
 ) -> Result<Resolution, AllocError>
     ensures exact { IfOk result (λ r. r ≡ uses.resolution_of (scopes.scope_of context.now)
-        (sources.text_of context.now.text name.now) asks.now) }
+        (text_of context.now.text name.now) asks.now) }
 {
     resolution_of(alloc, &context.scope(), context.text_of(name), asks)
 }
@@ -228,7 +227,7 @@ pub fn type_or_refusal(
     locals: &Locals<'_>,
     name: &Token,
     written: Result<ArgType, ErrorKind>,
-) -> Result<ArgType, Stop>
+) -> Result<ArgType, TypingError>
     ensures exact { Gives (λ ty. ty) result
         (casts.type_or_refusal context.now locals.now name.now written) }
 {

@@ -1,18 +1,18 @@
 //! Values of enumerations.
 ghost use Rattle.std.specs.Prelude.{◌≡◌, IfOk};
-ghost use Rattle.ang_check_operand.specs.Refusals.{Gives, use_refused as refusal_of};
-ghost use Rattle.ang_check_operand.specs.View.{view_operand};
+ghost use Rattle.ang_check_operators.specs.Refusals.{Gives, use_refused as refusal_of};
+ghost use Rattle.ang_check_operators.specs.View.{view_operand};
 ghost use Rattle.ang_check_context.specs.Names as spec;
 ghost use Rattle.ang_check_context.specs.Scope as scopes;
-ghost use Rattle.ang_names_written.specs.Sources as sources;
+ghost use Rattle.ang_lex.specs.Text.{text_of};
 
 use crate::context::{BodyContext, is_there, resolved};
 use crate::scope::Locals;
-use ang_check_operand::{Operand, Stop, boxed, plain_operand, refused, use_refused};
+use ang_check_operators::{Operand, TypingError, boxed, plain_operand, refused, use_refused};
 use ang_check_uses::{EnumerationValue, Resolution, value_of};
 use ang_kinds::{ErrorKind, Place, Prim};
 use ang_lex::Token;
-use ang_typed::Expression;
+use ang_typed::TypedExpression;
 use ang_types::{ArgType, Asks};
 use std::alloc::{AllocError, Global};
 
@@ -38,7 +38,7 @@ pub(crate) fn value_operand(
     };
     let tree = boxed(
         alloc,
-        Expression::Number {
+        TypedExpression::Number {
             ty: Prim::I32,
             value: int_bits(value.number),
         },
@@ -51,7 +51,7 @@ fn value_or_unknown(
     enumeration: &Token,
     name: &Token,
     found: Option<EnumerationValue>,
-) -> Result<Operand, Stop>
+) -> Result<Operand, TypingError>
     ensures exact { Gives view_operand result
         (spec.value_or_unknown enumeration.now name.now found) }
 {
@@ -67,9 +67,9 @@ fn enumeration_refused(
     locals: &Locals<'_>,
     kind: ErrorKind,
     name: &Token,
-) -> Stop
-    ensures exact { result ≡ Stop.Refused (refusal_of kind name.now Asks.Enumeration
-        (scopes.is_there context.now locals.now (sources.text_of context.now.text name.now))) }
+) -> TypingError
+    ensures exact { result ≡ TypingError.Refused (refusal_of kind name.now Asks.Enumeration
+        (scopes.is_there context.now locals.now (text_of context.now.text name.now))) }
 {
     let is_there = is_there(context, locals, context.text_of(name));
     use_refused(kind, name, Asks::Enumeration, is_there)
@@ -82,11 +82,11 @@ fn scoped_name_use(
     enumeration: &Token,
     name: &Token,
     resolution: Resolution,
-) -> Result<Operand, Stop>
+) -> Result<Operand, TypingError>
     ensures exact { Gives view_operand result
         (spec.scoped_name_use context.now enumeration.now name.now
         (scopes.is_there context.now locals.now
-        (sources.text_of context.now.text enumeration.now)) resolution) }
+        (text_of context.now.text enumeration.now)) resolution) }
 {
     match resolution {
         Resolution::Enumeration(number) => {
@@ -121,7 +121,7 @@ pub fn scoped_name(
     locals: &Locals<'_>,
     enumeration: &Token,
     name: &Token,
-) -> Result<Operand, Stop>
+) -> Result<Operand, TypingError>
     ensures exact { Gives view_operand result
         (spec.scoped_name_typing context.now locals.now enumeration.now name.now) }
 {

@@ -4,21 +4,21 @@ use Rattle.std.proofs.Common.{ap}
 use Rattle.ang_view.specs.Registration.{RegistrationList}
 use Rattle.ang_view.specs.Values.{TakesValues}
 use Rattle.ang_names_known.specs.declared.names.Family.{Family}
-use Rattle.ang_names_known.specs.declared.names.Method.{Method}
+use Rattle.ang_names_known.specs.declared.names.ScriptMethod.{ScriptMethod}
 use Rattle.ang_names_known.specs.declared.names.Names.{Names}
 use Rattle.ang_names_known.specs.Spaces.{first_family}
-use Rattle.ang_names_written.specs.Sources.{Source}
+use Rattle.ang_names_listed.specs.Sources.{Source}
 use Rattle.ang_names_listed.specs.Declarations.{declarations_of}
-use Rattle.ang_names_resolved.specs.Resolved.{names_of}
+use Rattle.ang_names_classes.specs.Resolved.{names_of}
 use Rattle.ang_check_context.specs.declared.scope.Within.{Within}
-use Rattle.ang_check_bodies.specs.Bodies.{context_in}
+use Rattle.ang_check.specs.Bodies.{context_in}
 use Rattle.ang_check_sound.specs.Checked.{module_in}
 use Rattle.ang_check_sound.specs.Built.{IsMethodIn, IsFamilyIn, IsBuiltContext}
 use Rattle.ang_check_sound.proofs.Slots.{has_slot}
 use Rattle.ang_check_sound.proofs.Standing.{has_bodies_in}
 
 module _ (V : RegistrationList) (names : Names) (sources : List Source) (same : names ≡ names_of V (declarations_of sources)) where
-  method_built : (c : ℕ) (f : Family) → slice_get names.families c ≡ Some f → (m : ℕ) (y : Method) → slice_get f.methods m ≡ Some y
+  method_built : (c : ℕ) (f : Family) → slice_get names.families c ≡ Some f → (m : ℕ) (y : ScriptMethod) → slice_get f.methods m ≡ Some y
       → IsMethodIn (module_in V names) c y
   method_built c f there m y at =
       let slot = has_slot V names sources same c f there m y at in

@@ -4,14 +4,14 @@ ghost use Rattle.std.specs.Prelude.{Some, IfOk, IfSome, map as list_map};
 ghost use Rattle.std.specs.List.{flat_map, position};
 ghost use Rattle.ang_names_known.specs.Lookup as lookup;
 ghost use Rattle.ang_names_known.specs.Spaces as spaces;
-ghost use Rattle.ang_check_operand.specs.Refusals.{Gives};
-ghost use Rattle.ang_check_operand.specs.View.{view_operand, view_operands};
+ghost use Rattle.ang_check_operators.specs.Refusals.{Gives};
+ghost use Rattle.ang_check_operators.specs.View.{view_operand, view_operands};
 ghost use Rattle.ang_check_typing.specs.Calls as spec;
 ghost use Rattle.ang_check_context.specs.Names.{this_operand as own_operand};
 ghost use Rattle.ang_check_context.specs.Operands.{types_of as all_types};
 ghost use Rattle.ang_check_context.specs.Scope as scopes;
 ghost use Rattle.ang_check_uses.specs.Uses as uses;
-ghost use Rattle.ang_names_written.specs.Sources as sources;
+ghost use Rattle.ang_lex.specs.Text.{text_of};
 
 use crate::called::{CallSite, called_bare};
 use crate::enumerated::enumerated_of;
@@ -19,7 +19,7 @@ use crate::methods::{called_on, direct_meant, own_method};
 use ang_check_context::{
     BodyContext, Locals, Receiver, Within, receiver_within, resolved, this_operand, types_of,
 };
-use ang_check_operand::{Operand, Stop, refused};
+use ang_check_operators::{Operand, TypingError, refused};
 use ang_check_uses::Resolution;
 use ang_kinds::{ErrorKind, List};
 use ang_lex::Token;
@@ -57,9 +57,9 @@ fn bare_use(
     asks: Asks,
     operands: Vec<Operand>,
     resolution: Resolution,
-) -> Result<Operand, Stop>
+) -> Result<Operand, TypingError>
     ensures exact { Gives view_operand result (spec.bare_use context.now name.now asks
-        (scopes.is_there context.now locals.now (sources.text_of context.now.text name.now))
+        (scopes.is_there context.now locals.now (text_of context.now.text name.now))
         (view_operands operands.items) resolution) }
 {
     match resolution {
@@ -82,13 +82,13 @@ fn function_call(
     locals: &Locals<'_>,
     name: &Token,
     operands: Vec<Operand>,
-) -> Result<Operand, Stop>
+) -> Result<Operand, TypingError>
     ensures exact { Gives view_operand result (spec.bare_use context.now name.now
         (Asks.Call (all_types (view_operands operands.items)))
-        (scopes.is_there context.now locals.now (sources.text_of context.now.text name.now))
+        (scopes.is_there context.now locals.now (text_of context.now.text name.now))
         (view_operands operands.items)
         (uses.resolution_of (scopes.scope_of context.now)
-        (sources.text_of context.now.text name.now)
+        (text_of context.now.text name.now)
         (Asks.Call (all_types (view_operands operands.items))))) }
 {
     let types = types_of(alloc, operands.as_slice())?;
@@ -105,7 +105,7 @@ fn method_of_this(
     methods: &[FoundMethod<'_>],
     name: &Token,
     operands: Vec<Operand>,
-) -> Result<Operand, Stop>
+) -> Result<Operand, TypingError>
     requires few { within.family < 256 }
     ensures exact { Gives view_operand result (spec.called_own context.now name.now.place name.now
         (own_operand name.now.place within ∷ view_operands operands.items)
@@ -129,7 +129,7 @@ pub fn call(
     locals: &Locals<'_>,
     token: &Token,
     operands: Vec<Operand>,
-) -> Result<Operand, Stop>
+) -> Result<Operand, TypingError>
     ensures exact { Gives view_operand result
         (spec.call_typing context.now locals.now token.now (view_operands operands.items)) }
 {
@@ -184,7 +184,7 @@ fn method_above(
     ensures exact { IfOk result (λ r. r ≡ uses.best_method context.now.ancestors
         (flat_map (spec.direct_method on.number)
         (lookup.methods_named context.now.names.families family
-        (sources.text_of context.now.text name.now)))
+        (text_of context.now.text name.now)))
         on.number on.read_only (all_types (view_operands operands.now))) }
 {
     let methods = context
@@ -201,7 +201,7 @@ pub fn scoped_call(
     class: &Token,
     name: &Token,
     operands: Vec<Operand>,
-) -> Result<Operand, Stop>
+) -> Result<Operand, TypingError>
     ensures exact { Gives view_operand result
         (spec.scoped_typing context.now class.now name.now (view_operands operands.items)) }
 {

@@ -1,8 +1,8 @@
 //! The typing of expressions.
 ghost use Rattle.std.specs.Prelude.{◌≡◌, IfOk, true, ◌++◌, ◌∷◌, []};
 ghost use Rattle.ang_tree.specs.View as trees;
-ghost use Rattle.ang_check_operand.specs.Refusals.{Gives};
-ghost use Rattle.ang_check_operand.specs.View.{view_operand, view_operands};
+ghost use Rattle.ang_check_operators.specs.Refusals.{Gives};
+ghost use Rattle.ang_check_operators.specs.View.{view_operand, view_operands};
 ghost use Rattle.ang_check_typing.specs.Operands.{has_one_operand, has_two_operands};
 ghost use Rattle.ang_check_typing.specs.Operands.{has_three_operands, is_of_object};
 ghost use Rattle.ang_check_typing.specs.Typing as spec;
@@ -12,9 +12,8 @@ use crate::object_methods::method_call;
 use ang_check_context::{
     BodyContext, Locals, cast, cast_type, member_of, named, scoped_name, this,
 };
-use ang_check_operand::{Operand, Stop};
 use ang_check_operators::{
-    assignment, binary, conditional, convert, group, literal, postfix, prefix,
+    Operand, TypingError, assignment, binary, conditional, convert, group, literal, postfix, prefix,
 };
 use ang_lex::{Token, TokenKind};
 use ang_tree::{Argument, Expression};
@@ -31,7 +30,7 @@ fn with_operand(first: Vec<Operand>, operand: Operand) -> Result<Vec<Operand>, A
 }
 
 /// A number, `true`, `false`, `null` or `this`.
-fn word(alloc: Global, context: &BodyContext<'_>, token: &Token) -> Result<Operand, Stop>
+fn word(alloc: Global, context: &BodyContext<'_>, token: &Token) -> Result<Operand, TypingError>
     ensures exact { Gives view_operand result
         (spec.word_by context.now token.now token.now.kind) }
 {
@@ -54,7 +53,7 @@ pub fn typing_of_all(
     context: &BodyContext<'_>,
     locals: &Locals<'_>,
     items: &[Argument],
-) -> Result<Vec<Operand>, Stop>
+) -> Result<Vec<Operand>, TypingError>
     ensures exact { Gives (λ v. view_operands v.items) result
         (spec.typing_of_all context.now locals.now (trees.view_items items.now)) }
 {
@@ -93,7 +92,7 @@ pub fn typing(
     context: &BodyContext<'_>,
     locals: &Locals<'_>,
     expression: &Expression,
-) -> Result<Operand, Stop>
+) -> Result<Operand, TypingError>
     ensures exact { Gives view_operand result
         (spec.typing_of context.now locals.now (trees.view_expr expression.now)) }
 {
@@ -139,7 +138,7 @@ fn typing_over_object(
     context: &BodyContext<'_>,
     locals: &Locals<'_>,
     expression: &Expression,
-) -> Result<Operand, Stop>
+) -> Result<Operand, TypingError>
     requires kind { is_of_object (trees.view_expr expression.now) ≡ true }
     ensures exact { Gives view_operand result
         (spec.typing_of context.now locals.now (trees.view_expr expression.now)) }
@@ -180,7 +179,7 @@ fn typing_over_one(
     context: &BodyContext<'_>,
     locals: &Locals<'_>,
     expression: &Expression,
-) -> Result<Operand, Stop>
+) -> Result<Operand, TypingError>
     requires kind { has_one_operand (trees.view_expr expression.now) ≡ true }
     ensures exact { Gives view_operand result
         (spec.typing_of context.now locals.now (trees.view_expr expression.now)) }
@@ -217,7 +216,7 @@ fn typing_over_two(
     context: &BodyContext<'_>,
     locals: &Locals<'_>,
     expression: &Expression,
-) -> Result<Operand, Stop>
+) -> Result<Operand, TypingError>
     requires kind { has_two_operands (trees.view_expr expression.now) ≡ true }
     ensures exact { Gives view_operand result
         (spec.typing_of context.now locals.now (trees.view_expr expression.now)) }
@@ -252,7 +251,7 @@ fn typing_over_three(
     context: &BodyContext<'_>,
     locals: &Locals<'_>,
     expression: &Expression,
-) -> Result<Operand, Stop>
+) -> Result<Operand, TypingError>
     requires kind { has_three_operands (trees.view_expr expression.now) ≡ true }
     ensures exact { Gives view_operand result
         (spec.typing_of context.now locals.now (trees.view_expr expression.now)) }

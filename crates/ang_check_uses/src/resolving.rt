@@ -1,7 +1,7 @@
 //! What any use means.
 ghost use Rattle.std.specs.Prelude.{◌≡◌, IfOk};
-ghost use Rattle.ang_names_host.specs.declared.host.WantedProperty.TheVariants as property;
-ghost use Rattle.ang_names_host.specs.Host as host;
+ghost use Rattle.ang_names_known.specs.declared.host.WantedProperty.TheVariants as property;
+ghost use Rattle.ang_names_known.specs.Host as host;
 ghost use Rattle.ang_names_known.specs.Spaces as spaces;
 ghost use Rattle.ang_check_uses.specs.Uses as spec;
 
@@ -13,9 +13,11 @@ use crate::scripts::functions_of;
 use crate::uses::Resolution;
 use crate::values::{enumeration_called, value_meant};
 use ang_kinds::ErrorKind;
-use ang_names_host::{HostProperty, WantedProperty, property_where};
-use ang_names_known::{Named, ScriptGlobal, Space, Text, is_read_only};
-use ang_typed::Variable;
+use ang_names_known::{
+    BorrowedText, Named, ScriptGlobal, SeenProperty, Space, WantedProperty, is_read_only,
+    property_where,
+};
+use ang_typed::TypedVariable;
 use ang_types::{ArgType, Asks};
 use ang_view::View;
 use std::alloc::{AllocError, Global};
@@ -35,13 +37,13 @@ pub fn why(resolution: Resolution) -> ErrorKind
     }
 }
 
-fn host_meant(view: &View, name: &[u8], found: Option<HostProperty>) -> Resolution
+fn host_meant(view: &View, name: &[u8], found: Option<SeenProperty>) -> Resolution
     ensures exact { result ≡ spec.host_meant (spec.value_meant view.now name.now) found }
 {
     match found {
         None => value_meant(view, name),
         Some(found) => {
-            let variable = Variable::Property(entity_of(found));
+            let variable = TypedVariable::Property(entity_of(found));
             Resolution::Variable(variable, found.ty, found.read_only)
         }
     }
@@ -52,7 +54,7 @@ fn global_or_host(
     name: &[u8],
     globals: &[ScriptGlobal],
     number: Option<usize>,
-    hosts: Option<HostProperty>,
+    hosts: Option<SeenProperty>,
 ) -> Resolution
     ensures exact { result ≡ spec.global_or_host (spec.value_meant view.now name.now) globals.now
         number hosts }
@@ -64,7 +66,7 @@ fn global_or_host(
         None => host_meant(view, name, hosts),
         Some(global) => {
             let read_only = is_read_only(global.written);
-            Resolution::Variable(Variable::Global(number), global.written.ty, read_only)
+            Resolution::Variable(TypedVariable::Global(number), global.written.ty, read_only)
         }
     }
 }
@@ -75,7 +77,7 @@ fn global_meant(scope: &Scope<'_>, name: &[u8]) -> Resolution
 {
     let names = scope.names();
     let view = scope.view();
-    let hosts = property_where(view, &WantedProperty::Global(Text::new(name)));
+    let hosts = property_where(view, &WantedProperty::Global(BorrowedText::new(name)));
     global_or_host(view, name, names.globals(), names.global_named(name), hosts)
 }
 
@@ -108,7 +110,7 @@ fn enumeration_meant(named: Named) -> Resolution
     }
 }
 
-fn property_meant(found: Option<HostProperty>) -> Resolution
+fn property_meant(found: Option<SeenProperty>) -> Resolution
     ensures exact { result ≡ spec.property_meant found }
 {
     match found {
@@ -117,12 +119,12 @@ fn property_meant(found: Option<HostProperty>) -> Resolution
     }
 }
 
-fn property_of(scope: &Scope<'_>, number: u32, name: &[u8]) -> Option<HostProperty>
+fn property_of(scope: &Scope<'_>, number: u32, name: &[u8]) -> Option<SeenProperty>
     ensures exact { result ≡ host.property_where (property.Member number name.now) scope.now.view }
 {
     property_where(
         scope.view(),
-        &WantedProperty::Member(number, Text::new(name)),
+        &WantedProperty::Member(number, BorrowedText::new(name)),
     )
 }
 

@@ -9,8 +9,10 @@ use Rattle.ang_tree.specs.Kinds.{Is, IsComma, IfWritten, IfWrittenA, optional, t
 use Rattle.ang_tree.specs.Stmt.{each, Every}
 use Rattle.ang_tree.specs.Declarations.{spelled_reference, FitsReference}
 use Rattle.ang_parse_read.specs.Read.{and_then, pure, ◌>>=◌, repeat}
+use Rattle.ang_parse_read.specs.References.{a_reference}
 use Rattle.ang_parse_read.specs.Tokens.{a_token, perhaps, is_name, is_left_paren, is_right_paren, is_const}
 use Rattle.ang_parse_read.proofs.Tokens.{begins, look_is, look_at, a_token_is, perhaps_is, perhaps_not}
+use Rattle.ang_parse_read.proofs.Referred.{is_ampersand, perhaps_read, reference_read}
 use Rattle.ang_parse_read.proofs.Loops.{repeat_stops, repeat_goes_on}
 use Rattle.ang_decl.specs.declared.tree.HostType.{HostType}
 use Rattle.ang_decl.specs.declared.tree.HostHandle.{HostHandle}
@@ -26,19 +28,11 @@ abbrev pub is_at : TokenKind → Bool
 is_at k.At = true
 is_at _ = false
 
-abbrev pub is_ampersand : TokenKind → Bool
-is_ampersand k.Ampersand = true
-is_ampersand _ = false
-
 abbrev pub is_comma : TokenKind → Bool
 is_comma k.Comma = true
 is_comma _ = false
 
 -- ---- tokens that may be left out
-
-perhaps_read : (test : TokenKind → Bool) (o : Option Token) (ts : List Token) → IfWrittenA test o → begins test ts ≡ false → perhaps test (optional o ts) ≡ Ok (o, ts)
-perhaps_read test None ts f h = perhaps_not test ts h
-perhaps_read test (Some t) ts f h = perhaps_is test t ts f
 
 -- of one kind
 if_of : (test : TokenKind → Bool) (kind : TokenKind) (o : Option Token) → test kind ≡ true → IfWritten kind o → IfWrittenA test o
@@ -113,29 +107,11 @@ record EndsParam (ts : List Token) : Type 0 where
   pub no_direction : begins direction_kind ts ≡ false
   pub no_name : begins is_name ts ≡ false
 
-reference_stops_by : (kind : TokenKind) → is_ampersand kind ≡ false → r.reference_by kind ≡ None
-reference_stops_by k.Ampersand h = absurd cc
-reference_stops_by _ h = refl
-
-reference_stops : (ts : List Token) → begins is_ampersand ts ≡ false → r.a_reference ts ≡ Ok (None, ts)
-unfolding r.a_reference
-reference_stops [] h = refl
-reference_stops (t ∷ ts) h = look_at r.reference_by (pure None) None t ts (reference_stops_by t.kind h)
-
-reference_done : (sign : Token) (d : Option Token) (ts us : List Token) → Is k.Ampersand sign → perhaps direction_kind ts ≡ Ok (d, us) → r.a_reference (sign ∷ ts) ≡ Ok (Some (r.reference_of sign d), us)
-unfolding r.a_reference
-reference_done sign d ts us is h =
-    look_is r.reference_by (pure None) k.Ampersand sign ts is ∙ ap (λ v. and_then v (λ d. pure (Some (r.reference_of sign d)))) h
-
-reference_read : (q : Option Reference) (ts : List Token) → FitsReference q → begins is_ampersand ts ≡ false → begins direction_kind ts ≡ false → r.a_reference (spelled_reference q ts) ≡ Ok (q, ts)
-reference_read None ts f a b = reference_stops ts a
-reference_read (Some q) ts f a b = reference_done q.ampersand q.direction (optional q.direction ts) ts f.0 (perhaps_read direction_kind q.direction ts f.1 b)
-
 param_done : (comma : Option Token) (y : HostType) (q : Option Reference) (x : Option Token) (ts us vs ws : List Token)
-    → r.a_type ts ≡ Ok (y, us) → r.a_reference us ≡ Ok (q, vs) → perhaps is_name vs ≡ Ok (x, ws) → r.a_param comma ts ≡ Ok (r.parameter_of comma y q x, ws)
+    → r.a_type ts ≡ Ok (y, us) → a_reference us ≡ Ok (q, vs) → perhaps is_name vs ≡ Ok (x, ws) → r.a_param comma ts ≡ Ok (r.parameter_of comma y q x, ws)
 unfolding r.a_param
 param_done comma y q x ts us vs ws a b c =
-    ap (λ v. and_then v (λ y. r.a_reference >>= (λ q. perhaps is_name >>= (λ x. pure (r.parameter_of comma y q x))))) a
+    ap (λ v. and_then v (λ y. a_reference >>= (λ q. perhaps is_name >>= (λ x. pure (r.parameter_of comma y q x))))) a
     ∙ ap (λ v. and_then v (λ q. perhaps is_name >>= (λ x. pure (r.parameter_of comma y q x)))) b
     ∙ ap (λ v. and_then v (λ x. pure (r.parameter_of comma y q x))) c
 

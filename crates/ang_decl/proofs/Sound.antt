@@ -9,6 +9,7 @@ use Rattle.ang_tree.specs.Kinds.{Is, IsComma, IfWritten, IfWrittenA, optional, t
 use Rattle.ang_tree.specs.Stmt.{each, Every, Parted, Filled}
 use Rattle.ang_tree.specs.Declarations.{spelled_reference, FitsReference}
 use Rattle.ang_parse_read.specs.Read.{pure, repeat}
+use Rattle.ang_parse_read.specs.References.{reference_of, reference_by, a_reference}
 use Rattle.ang_parse_read.specs.Tokens.{a_token, perhaps, is_name, is_left_paren, is_right_paren, is_const}
 use Rattle.ang_parse_read.proofs.Tokens.{name_is, left_paren_is, right_paren_is, const_is}
 use Rattle.ang_decl.specs.declared.tree.HostHandle.{HostHandle}
@@ -72,15 +73,15 @@ a_type_found ts =
 
 -- ---- parameters
 
-reference_by_found : ChoiceFound (Reads spelled_reference FitsReference) r.reference_by
+reference_by_found : ChoiceFound (Reads spelled_reference FitsReference) reference_by
 reference_by_found k.Ampersand t u is =
-    and_found (Perhaps_found direction_kind u) (Reads spelled_reference FitsReference (t ∷ u)) (perhaps direction_kind u) (λ d. pure (Some (r.reference_of t d))) (perhaps_found direction_kind u)
+    and_found (Perhaps_found direction_kind u) (Reads spelled_reference FitsReference (t ∷ u)) (perhaps direction_kind u) (λ d. pure (Some (reference_of t d))) (perhaps_found direction_kind u)
     (λ d s a. record { text = ap (λ x. t ∷ x) (perhaps_text direction_kind u s d a); fits = (is, perhaps_is_a direction_kind u s d a) })
 reference_by_found _ t u is = tt
 
-a_reference_found : (ts : List Token) → Found (Reads spelled_reference FitsReference ts) (r.a_reference ts)
-unfolding r.a_reference
-a_reference_found ts = look_found (Reads spelled_reference FitsReference) r.reference_by (pure None) reference_by_found (λ ts. record { text = refl; fits = tt }) ts
+a_reference_found : (ts : List Token) → Found (Reads spelled_reference FitsReference ts) (a_reference ts)
+unfolding a_reference
+a_reference_found ts = look_found (Reads spelled_reference FitsReference) reference_by (pure None) reference_by_found (λ ts. record { text = refl; fits = tt }) ts
 
 -- a parameter with this comma in front
 pub record Param_read (comma : Option Token) (w : List Token) (p : HostParameter) (s : List Token) : Type 0 where
@@ -92,7 +93,7 @@ a_param_found : (comma : Option Token) (ts : List Token) → Found (Param_read c
 unfolding r.a_param
 a_param_found comma ts =
     and_found (Reads spelled_type FitsType ts) (Param_read comma ts) (r.a_type ts) _ (a_type_found ts)
-    (λ y s a. and_found (Reads spelled_reference FitsReference s) (Param_read comma ts) (r.a_reference s) _ (a_reference_found s)
+    (λ y s a. and_found (Reads spelled_reference FitsReference s) (Param_read comma ts) (a_reference s) _ (a_reference_found s)
     (λ q u b. and_found (Perhaps_found is_name u) (Param_read comma ts) (perhaps is_name u) (λ x. pure (r.parameter_of comma y q x)) (perhaps_found is_name u)
     (λ x v d. record {
       text = ap (optional comma) (a.text ∙ ap (spelled_type y) (b.text ∙ ap (spelled_reference q) (perhaps_text is_name u v x d)));

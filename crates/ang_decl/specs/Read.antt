@@ -4,8 +4,9 @@ use Rattle.ang_lex.specs.declared.token.Token.{Token}
 use Rattle.ang_lex.specs.declared.token.TokenKind.{TokenKind}
 use Rattle.ang_lex.specs.declared.token.TokenKind.TheVariants as k
 use Rattle.ang_tree.specs.declared.declaration.Reference.{Reference}
-use Rattle.ang_tree.specs.Kinds.{type_kind, direction_kind}
+use Rattle.ang_tree.specs.Kinds.{type_kind}
 use Rattle.ang_parse_read.specs.Read.{Parser, ◌>>=◌, pure, Choice, look, Turn, ready, repeat}
+use Rattle.ang_parse_read.specs.References.{a_reference}
 use Rattle.ang_parse_read.specs.Tokens.{a_token, perhaps, is_const, is_name, is_left_paren, is_right_paren}
 use Rattle.ang_decl.specs.declared.tree.HostType.{HostType}
 use Rattle.ang_decl.specs.declared.tree.HostHandle.{HostHandle}
@@ -39,17 +40,6 @@ unfoldable pub a_type : Parser HostType
 a_type = do c ← perhaps is_const; x ← a_token type_kind; h ← a_handle; pure (host_type_of c x h)
 
 -- ---- parameters
-
-abbrev pub reference_of : Token → Option Token → Reference
-reference_of sign direction = record { ampersand = sign; direction = direction }
-
-abbrev pub reference_by : TokenKind → Choice (Option Reference)
-reference_by k.Ampersand = Some (λ sign. do d ← perhaps direction_kind; pure (Some (reference_of sign d)))
-reference_by _ = None
-
--- [ "&" [ "in" | "out" | "inout" ] ]
-unfoldable pub a_reference : Parser (Option Reference)
-a_reference = look reference_by (pure None)
 
 abbrev pub parameter_of : Option Token → HostType → Option Reference → Option Token → HostParameter
 parameter_of comma y r x = record { comma = comma; declared_type = y; reference = r; name = x }

@@ -1,6 +1,6 @@
 -- Which declarations hosts can use, and what they declare (docs/EMBEDDING.md, "Declarations"; the AngelScript manual,
 -- "Registering a function" and "Object handles to the application").
-use Rattle.std.specs.Prelude.{ℕ, Bool, false, not, ◌&&◌, ◌||◌, is_some, is_none, if◌then◌else◌, List, [], map, slice_range, Option, Some, None}
+use Rattle.std.specs.Prelude.{ℕ, Bool, false, not, ◌&&◌, ◌||◌, is_some, is_none, if◌then◌else◌, List, [], map, Option, Some, None}
 use Rattle.std.specs.List.{list_all}
 use Rattle.ang_kinds.specs.declared.types.Param.{Param}
 use Rattle.ang_kinds.specs.declared.types.Pass.TheVariants as pass
@@ -12,6 +12,7 @@ use Rattle.ang_kinds.specs.declared.types.TypeRef.TheVariants as type
 use Rattle.ang_lex.specs.declared.token.Token.{Token}
 use Rattle.ang_lex.specs.declared.token.TokenKind.{TokenKind}
 use Rattle.ang_lex.specs.declared.token.TokenKind.TheVariants as k
+use Rattle.ang_lex.specs.Text.{text_of}
 use Rattle.ang_tree.specs.Kinds.{primitive_kind}
 use Rattle.ang_parse_read.specs.Tokens.{is_name}
 use Rattle.ang_decl.specs.declared.tree.HostType.{HostType}
@@ -69,10 +70,6 @@ abbrev pub is_type_left_out : HostType → Bool
 is_type_left_out y = not (is_result_type y || is_property_type y || is_plain_handle y)
 
 -- ---- what is declared
-
--- a token's text
-abbrev pub text_of : List ℕ → Token → List ℕ
-text_of text t = slice_range text t.span.start t.span.end
 
 -- empty where no name is written
 abbrev pub name_of : List ℕ → Option Token → List ℕ

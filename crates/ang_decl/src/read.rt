@@ -3,11 +3,10 @@
 //! `limit` bounds the turns of the loop over parameters. One more than the number of tokens is always
 //! enough.
 ghost use Rattle.std.specs.Prelude.{◌≡◌, [], Ok};
-ghost use Rattle.ang_tree.specs.Kinds.{direction_kind};
 ghost use Rattle.ang_parse_read.specs.Gives.{Gives};
 ghost use Rattle.ang_parse_read.specs.Law.{all_of};
 ghost use Rattle.ang_parse_read.specs.Read.{repeat};
-ghost use Rattle.ang_parse_read.specs.Tokens.{perhaps, is_name};
+ghost use Rattle.ang_parse_read.specs.Tokens.{perhaps};
 ghost use Rattle.ang_decl.specs.Grammar.{is_bare_void};
 ghost use Rattle.ang_decl.specs.Read as read;
 
@@ -16,8 +15,9 @@ use crate::tree::{
 };
 use ang_kinds::List;
 use ang_lex::{Token, TokenKind};
-use ang_parse_read::{ReadError, a_left_paren, a_name, a_right_paren, perhaps_const};
-use ang_tree::Reference;
+use ang_parse_read::{
+    ReadError, a_left_paren, a_name, a_right_paren, perhaps_const, perhaps_name, perhaps_reference,
+};
 use std::alloc::Global;
 
 #[tactic(auto, unfolding(ang_parse_read::specs::Tokens::perhaps))]
@@ -26,30 +26,6 @@ fn perhaps_plus(tokens: &[Token]) -> (Option<Token>, &[Token])
 {
     match tokens {
         [token, rest @ ..] if matches!(token.kind, TokenKind::Plus) => (Some(*token), rest),
-        _ => (None, tokens),
-    }
-}
-
-#[tactic(auto, unfolding(ang_parse_read::specs::Tokens::perhaps))]
-fn perhaps_name(tokens: &[Token]) -> (Option<Token>, &[Token])
-    ensures reads { perhaps is_name tokens.now ≡ Ok (result.0, result.1.now) }
-{
-    match tokens {
-        [token, rest @ ..] if matches!(token.kind, TokenKind::Name) => (Some(*token), rest),
-        _ => (None, tokens),
-    }
-}
-
-#[tactic(auto, unfolding(ang_parse_read::specs::Tokens::perhaps))]
-fn perhaps_direction(tokens: &[Token]) -> (Option<Token>, &[Token])
-    ensures reads { perhaps direction_kind tokens.now ≡ Ok (result.0, result.1.now) }
-{
-    match tokens {
-        [token, rest @ ..]
-            if matches!(
-                token.kind,
-                TokenKind::In | TokenKind::Out | TokenKind::InOut
-            ) => { (Some(*token), rest) }
         _ => (None, tokens),
     }
 }
@@ -100,24 +76,6 @@ fn host_type(tokens: &[Token]) -> Result<(HostType, &[Token]), ReadError<'_>>
     }
 }
 
-/// Reads `[ "&" [ "in" | "out" | "inout" ] ]`.
-#[tactic(auto, unfolding(crate::specs::Read::a_reference))]
-fn reference(tokens: &[Token]) -> (Option<Reference>, &[Token])
-    ensures reads { read.a_reference tokens.now ≡ Ok (result.0, result.1.now) }
-{
-    match tokens {
-        [ampersand, rest @ ..] if matches!(ampersand.kind, TokenKind::Ampersand) => {
-            let (direction, rest) = perhaps_direction(rest);
-            let reference = Reference {
-                ampersand: *ampersand,
-                direction,
-            };
-            (Some(reference), rest)
-        }
-        _ => (None, tokens),
-    }
-}
-
 /// Reads a parameter, after its comma.
 #[tactic(auto, unfolding(crate::specs::Read::a_param))]
 fn parameter(
@@ -127,7 +85,7 @@ fn parameter(
     ensures reads { Gives (λ x. (x.0, x.1.now)) result (read.a_param comma tokens.now) }
 {
     let (declared_type, rest) = host_type(tokens)?;
-    let (reference, rest) = reference(rest);
+    let (reference, rest) = perhaps_reference(rest);
     let (name, rest) = perhaps_name(rest);
     let parameter = HostParameter {
         comma,

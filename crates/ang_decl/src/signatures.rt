@@ -5,24 +5,15 @@ ghost use Rattle.ang_decl.specs.Signatures as spec;
 use crate::taken::is_value_kind;
 use crate::tree::{HostFunction, HostHandle, HostParameter, HostProperty, HostType};
 use ang_kinds::{List, Param, Pass, Shape, Signature, TypeRef};
-use ang_lex::{Token, TokenKind};
+use ang_lex::{Token, TokenKind, text_of};
 use std::alloc::{AllocError, Global};
-
-/// The bytes of a token of the text.
-fn text_of(text: &[u8], token: Token) -> &[u8]
-    ensures exact { result.now ≡ spec.text_of text.now token }
-{
-    let end = text.len().min(token.span.end as usize);
-    let start = end.min(token.span.start as usize);
-    &text[start..end]
-}
 
 fn name_of(alloc: Global, text: &[u8], name: &Option<Token>) -> Result<List<u8>, AllocError>
     ensures exact { IfOk result (λ x. x ≡ spec.name_of text.now name.now) }
 {
     match name {
         None => Ok(List::from_vec(Vec::new(alloc))),
-        Some(token) => Ok(List::from_vec(Vec::from_slice(alloc, text_of(text, *token))?)),
+        Some(token) => Ok(List::from_vec(Vec::from_slice(alloc, text_of(text, token))?)),
     }
 }
 
@@ -53,7 +44,7 @@ fn is_const_handle(handle: &Option<HostHandle>) -> bool
 fn object_of(alloc: Global, text: &[u8], host_type: &HostType) -> Result<TypeRef, AllocError>
     ensures exact { IfOk result (λ t. t ≡ spec.object_of text.now host_type.now) }
 {
-    let name = Vec::from_slice(alloc, text_of(text, host_type.name))?;
+    let name = Vec::from_slice(alloc, text_of(text, &host_type.name))?;
     Ok(TypeRef::Object {
         name: List::from_vec(name),
         shape: shape_of(&host_type.handle),
@@ -104,7 +95,7 @@ pub fn function_signature(
 ) -> Result<Signature, AllocError>
     ensures exact { IfOk result (λ s. s ≡ spec.function_signature text.now function.now) }
 {
-    let name = Vec::from_slice(alloc, text_of(text, function.name))?;
+    let name = Vec::from_slice(alloc, text_of(text, &function.name))?;
     let result = type_of(alloc, text, &function.result)?;
     let params = params_of(alloc, text, function.parameters.items.as_slice())?;
     Ok(Signature {
@@ -129,7 +120,7 @@ pub fn property_signature(
 ) -> Result<Signature, AllocError>
     ensures exact { IfOk result (λ s. s ≡ spec.property_signature text.now property.now) }
 {
-    let name = Vec::from_slice(alloc, text_of(text, property.name))?;
+    let name = Vec::from_slice(alloc, text_of(text, &property.name))?;
     let result = type_of(alloc, text, &property.declared_type)?;
     Ok(Signature {
         name: List::from_vec(name),

@@ -6,3 +6,5 @@ pub mod Counting
 pub mod Celling
 pub mod Cores
 pub mod Trials
+pub mod Limiting
+pub mod Spent

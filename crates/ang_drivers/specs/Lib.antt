@@ -8,5 +8,7 @@ pub mod Counter
 pub mod CounterState
 pub mod Faulty
 pub mod FaultyState
+pub mod Limited
+pub mod LimitedEvents
 pub mod Cell
 pub mod CellState

@@ -14,13 +14,13 @@ use Rattle.ang_meaning.specs.World.{World as RunWorld, ScriptObjects}
 use Rattle.ang_meaning.specs.Counting.{IsCounted, counts_by}
 use Rattle.ang_meaning.proofs.Roots.{nothing_counted}
 use Rattle.ang_heap.specs.Parts.{world_by, AreReady}
-use Rattle.ang_engine_world.specs.declared.module.Module.{Module}
-use Rattle.ang_engine_world.specs.declared.module.ModuleList.{ModuleList}
-use Rattle.ang_engine_world.specs.World.{no_modules, running, left_to}
-use Rattle.ang_engine_world.specs.States.{places_of, states_in}
-use Rattle.ang_engine_world.specs.Sound.{HaveGlobals}
+use Rattle.ang_engine_modules.specs.declared.module.Module.{Module}
+use Rattle.ang_engine_modules.specs.declared.module.ModuleList.{ModuleList}
+use Rattle.ang_engine_modules.specs.World.{no_modules, running, left_to}
+use Rattle.ang_engine_modules.specs.States.{places_of, states_in}
+use Rattle.ang_engine_modules.specs.Sound.{HaveGlobals}
 use Rattle.ang_engine.specs.Sound.{IsSoundPlace, AreSoundModules}
-use Rattle.ang_engine.proofs.States.{counts-fresh, ready-fresh}
+use Rattle.ang_engine.proofs.States.{counts_fresh, ready_fresh}
 
 -- ---- a machine on fresh drivers, without script objects and globals
 
@@ -28,7 +28,7 @@ pub fresh_world : (ss : List State) (os : ScriptObjects) (gs : List (List Slot))
     → world_by os (counts_by ss) gs es [] ≡ running no_modules []
 fresh_world ss os gs es fresh objects globals events =
     ap (λ o. world_by o (counts_by ss) gs es []) objects
-    ∙ ap (λ h. world_by map.empty h gs es []) (counts-fresh ss fresh)
+    ∙ ap (λ h. world_by map.empty h gs es []) (counts_fresh ss fresh)
     ∙ ap (λ g. world_by map.empty (λ d. map.empty) g es []) globals
     ∙ ap (λ l. world_by map.empty (λ d. map.empty) [] l []) events
 
@@ -39,7 +39,7 @@ pub fresh_counted : (w : RunWorld) → w ≡ running no_modules [] → IsCounted
 fresh_counted w e = subst (λ u. IsCounted [] u) (sym e) empty_counted
 
 pub room_fresh : (ss : List State) (len capacity : ℕ) → AreFresh ss → len ≡ 0 → AreReady ss len capacity
-room_fresh ss len capacity fresh e = subst (λ n. AreReady ss n capacity) (sym e) (ready-fresh ss capacity fresh)
+room_fresh ss len capacity fresh e = subst (λ n. AreReady ss n capacity) (sym e) (ready_fresh ss capacity fresh)
 
 -- ---- an engine without modules
 

@@ -16,13 +16,13 @@ use Rattle.ang_meaning.specs.declared.slot.Slot.{Slot}
 use Rattle.ang_meaning.specs.World.{World as RunWorld}
 use Rattle.ang_meaning.specs.Counting.{IsCounted, counts_by}
 use Rattle.ang_heap.specs.Parts.{PartsMove}
-use Rattle.ang_engine_world.specs.declared.module.Module.{Module}
-use Rattle.ang_engine_world.specs.declared.module.ModuleList.{ModuleList}
-use Rattle.ang_engine_world.specs.Sound.{HaveGlobals}
-use Rattle.ang_engine_world.specs.World.{all_ended}
+use Rattle.ang_engine_modules.specs.declared.module.Module.{Module}
+use Rattle.ang_engine_modules.specs.declared.module.ModuleList.{ModuleList}
+use Rattle.ang_engine_modules.specs.Sound.{HaveGlobals}
+use Rattle.ang_engine_modules.specs.World.{all_ended}
 use Rattle.ang_engine.specs.Sound.{AreSoundModules}
 use Rattle.ang_engine.proofs.GlobalsEnd.{all_given_back}
-use Rattle.ang_engine.proofs.States.{All-state_at, fresh-balanced}
+use Rattle.ang_engine.proofs.States.{All-state_at, fresh_balanced}
 
 -- nothing of the drivers is alive
 pub record AreGivenBack (ss : List State) : Type 0 where
@@ -56,7 +56,7 @@ pub discarded : (ss : List State) (is : List ℕ) (r x : RunWorld) → IsCounted
     → ((i : ℕ) → i < length ss → IsSound (state_at ss i)) → AreGivenBack ss
 discarded ss is r x counted listed ended hosts sound =
     let each : (i : ℕ) → i < length ss → IsBalanced (state_at ss i) = λ i lt. all_given_back ss is r counted listed (ap (λ w. w.hosts) ended ∙ hosts) i (sound i lt) in
-    record { balanced = All-state_at IsBalanced ss each; fresh = fresh-balanced ss sound each }
+    record { balanced = All-state_at IsBalanced ss each; fresh = fresh_balanced ss sound each }
 
 -- the drivers follow the ends, which are all that was listed
 pub discarded-follow : {V : Type 0} {P : V → Type 0} (m : Meanings P) (roles : List Role) (xs ys : List (DynBox V Global P)) (es fs gs : List HostEvent)

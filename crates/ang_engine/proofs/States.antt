@@ -24,8 +24,8 @@ none_option (Some n) p h = absurd (omega (arith, p n refl, h))
 no_keys : (s : State) → IsSound s → IsBalanced s → s.counts ≡ map.empty
 no_keys s sound b = same_map nat_cmp_total nat_cmp-IsAntisymmetric s.counts map.empty (λ q. none_option (map.get s.counts q) (sound.positive q) (b.none q) ∙ sym (get-empty nat_cmp q))
 
-pub fresh-balanced : (ss : List State) → ((i : ℕ) → i < length ss → IsSound (state_at ss i)) → ((i : ℕ) → i < length ss → IsBalanced (state_at ss i)) → AreFresh ss
-fresh-balanced ss sound balanced = record { idle = λ i lt. no_keys (state_at ss i) (sound i lt) (balanced i lt); sound = sound }
+pub fresh_balanced : (ss : List State) → ((i : ℕ) → i < length ss → IsSound (state_at ss i)) → ((i : ℕ) → i < length ss → IsBalanced (state_at ss i)) → AreFresh ss
+fresh_balanced ss sound balanced = record { idle = λ i lt. no_keys (state_at ss i) (sound i lt) (balanced i lt); sound = sound }
 
 -- ---- drivers without live keys
 
@@ -34,15 +34,15 @@ counts_none [] d h = refl
 counts_none (s ∷ ss) zero h = h 0 (omega arith)
 counts_none (s ∷ ss) (suc d) h = counts_none ss d (λ i lt. h (suc i) (omega (arith, lt)))
 
-pub counts-fresh : (ss : List State) → AreFresh ss → counts_by ss ≡ λ d. map.empty
-counts-fresh ss f = λ j d. counts_none ss d f.idle j
+pub counts_fresh : (ss : List State) → AreFresh ss → counts_by ss ≡ λ d. map.empty
+counts_fresh ss f = λ j d. counts_none ss d f.idle j
 
 live_none : (ss : List State) → ((i : ℕ) → i < length ss → (state_at ss i).counts ≡ map.empty) → live_in ss ≡ 0
 live_none [] h = refl
 live_none (s ∷ ss) h = omega (arith, ap map.len (h 0 (omega arith)), len-empty nat_cmp ℕ, live_none ss (λ i lt. h (suc i) (omega (arith, lt))))
 
-pub live-fresh : (ss : List State) → AreFresh ss → live_in ss ≡ 0
-live-fresh ss f = live_none ss f.idle
+pub live_fresh : (ss : List State) → AreFresh ss → live_in ss ≡ 0
+live_fresh ss f = live_none ss f.idle
 
-pub ready-fresh : (ss : List State) (capacity : ℕ) → AreFresh ss → AreReady ss 0 capacity
-ready-fresh ss capacity f = record { sound = f.sound; room = omega (arith, live-fresh ss f) }
+pub ready_fresh : (ss : List State) (capacity : ℕ) → AreFresh ss → AreReady ss 0 capacity
+ready_fresh ss capacity f = record { sound = f.sound; room = omega (arith, live_fresh ss f) }

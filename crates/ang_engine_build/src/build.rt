@@ -1,14 +1,14 @@
 //! Builds a program from its sections: the declarations first, then the bodies over the names that they give.
 ghost use Rattle.std.specs.Prelude.{◌≡◌, ◌<◌, ◌^◌, length, option_copied, map as list_map};
 ghost use Rattle.ang_view.specs.Registration.{seen};
-ghost use Rattle.ang_names_written.specs.Sources.{source_of};
+ghost use Rattle.ang_names_listed.specs.Sources.{source_of};
 ghost use Rattle.ang_check.specs.Denials.{denials_of};
 ghost use Rattle.ang_engine_build.specs.Build.{build_of_scripts, build_of, denials_in};
 ghost use Rattle.ang_engine_build.specs.Answer.{IsBuilt, HasDenials, IsOneError, HasErrorsOf, IsDenied};
 
 use crate::program::{NoProgram, Program};
 use crate::section::read_sections;
-use crate::stop::Stop;
+use crate::stop::SourceError;
 use ang_check::{check, denials};
 use ang_kinds::{List, Mask, Unbuilt};
 use ang_names::declare;
@@ -19,10 +19,10 @@ use ang_view::View;
 use std::alloc::Global;
 
 /// The one error at which a build stops. It has no denials.
-fn one_error(alloc: Global, stop: Stop) -> NoProgram
+fn one_error(alloc: Global, stop: SourceError) -> NoProgram
     ensures exact { IsOneError result stop }
 {
-    let Stop::Fault(error) = stop else {
+    let SourceError::Fault(error) = stop else {
         return NoProgram::Memory;
     };
     let mut errors = Vec::new(alloc);

@@ -6,16 +6,15 @@ use Rattle.std.specs.List.{list_all}
 use Rattle.std.specs.declared.alloc.Global.{Global}
 use Rattle.ang_kinds.specs.declared.primitive.Primitive.{Primitive}
 use Rattle.ang_kinds.specs.declared.primitive.Primitive.TheVariants.{I32}
-use Rattle.ang_kinds.specs.declared.types.Pass.{Pass}
-use Rattle.ang_kinds.specs.declared.types.Pass.TheVariants as pass
 use Rattle.ang_kinds.specs.declared.value.Value.{Value}
 use Rattle.ang_meaning.specs.declared.slot.Slot.{Slot}
-use Rattle.ang_meaning.specs.declared.host.HostType.TheVariants.{Plain as PlainType}
+use Rattle.ang_meaning.specs.declared.host.HostValueType.TheVariants.{Plain as PlainType}
 use Rattle.ang_meaning.specs.Hosts.{slot_of, value_of}
 use Rattle.ang_types.specs.declared.arg_type.ArgType.{ArgType}
 use Rattle.ang_types.specs.declared.arg_type.ArgType.TheVariants.{Void, Null, Plain, Enumeration, Object, Handle}
 use Rattle.ang_names_known.specs.declared.names.ScriptFunction.{ScriptFunction}
 use Rattle.ang_names_known.specs.declared.names.ScriptParameter.{ScriptParameter}
+use Rattle.ang_names_listed.specs.Types.{is_by_value}
 
 -- the primitive type that it is, if it is one; an enumeration counts as `int`
 abbrev pub primitive_of : ArgType → Option Primitive
@@ -33,12 +32,6 @@ is_void (Plain p) = false
 is_void (Enumeration n) = false
 is_void (Object n r) = false
 is_void (Handle n r) = false
-
-abbrev pub is_by_value : Pass → Bool
-is_by_value pass.Value = true
-is_by_value pass.RefIn = false
-is_by_value pass.RefOut = false
-is_by_value pass.RefInOut = false
 
 -- a primitive by value
 abbrev pub is_plain_parameter : ScriptParameter → Bool

@@ -3,8 +3,9 @@ ghost use Rattle.std.specs.Prelude.{◌≡◌, is_some};
 ghost use Rattle.std.specs.List.{list_all};
 ghost use Rattle.ang_engine_call.specs.Calls as spec;
 
-use ang_kinds::{Pass, Prim};
+use ang_kinds::Prim;
 use ang_names_known::{ScriptFunction, ScriptParameter};
+use ang_names_listed::is_by_value;
 use ang_types::ArgType;
 
 /// The driver of values that are no driver's. For a primitive type a driver's number plays no part.
@@ -28,12 +29,6 @@ fn is_void(ty: ArgType) -> bool
     ensures exact { result ≡ spec.is_void ty }
 {
     matches!(ty, ArgType::Void)
-}
-
-fn is_by_value(pass: Pass) -> bool
-    ensures exact { result ≡ spec.is_by_value pass }
-{
-    matches!(pass, Pass::Value)
 }
 
 /// Whether it is a primitive or an enumeration by value.

@@ -24,4 +24,4 @@ pub use lexer::lex;
 pub use names::is_name;
 pub use numbers::number;
 pub use numeral::Number;
-pub use token::{Span, Token, TokenKind};
+pub use token::{Span, Token, TokenKind, text_of};

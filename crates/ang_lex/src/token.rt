@@ -1,9 +1,11 @@
 //! Tokens: what they are, and where they stand in a section.
+ghost use Rattle.std.specs.Prelude.{◌≡◌};
+ghost use Rattle.ang_lex.specs.Text as spec;
 
 use ang_kinds::{Place, Prim};
 
 /// The bytes of a section from `start` up to, and without, `end`. Both count from 0.
-#[derive(Clone, Copy, PartialEq, Eq, Debug)]
+#[derive(Clone, Copy, PartialEq, Eq)]
 pub struct Span {
     /// The number of the first byte: how many bytes of the section stand before it.
     pub start: u32,
@@ -13,8 +15,8 @@ pub struct Span {
 
 /// A token of a section: what the grammar asks of it, its bytes, and the place of its first byte.
 ///
-/// Its text is the slice of the section at `span`.
-#[derive(Clone, Copy, PartialEq, Eq, Debug)]
+/// Its text is the slice of the section at `span`, which `text_of` gives.
+#[derive(Clone, Copy, PartialEq, Eq)]
 pub struct Token {
     /// What the grammar asks of it.
     pub kind: TokenKind,
@@ -194,4 +196,13 @@ pub enum TokenKind {
     RightBrace,
     /// `@`
     At,
+}
+
+/// The text of a token in its section's bytes: those of its span, as far as there are any.
+pub fn text_of<'a>(text: &'a [u8], token: &Token) -> &'a [u8]
+    ensures exact { result.now ≡ spec.text_of text.now token.now }
+{
+    let start = text.len().min(token.span.start as usize);
+    let end = text.len().min(token.span.end as usize).max(start);
+    &text[start..end]
 }

@@ -3,8 +3,8 @@ use ang_host::Role;
 use ang_kinds::{List, Prim};
 
 /// How a declared type of a host entity passes between the script and its driver.
-#[derive(Clone, Copy, PartialEq, Eq, Debug)]
-pub enum HostType {
+#[derive(Clone, Copy)]
+pub enum HostValueType {
     /// `void`
     Nothing,
     /// A primitive type.
@@ -14,7 +14,7 @@ pub enum HostType {
 }
 
 /// What code has to know of a registered entity to ask it.
-#[derive(Debug, Drop)]
+#[derive(Drop)]
 pub struct HostUse {
     /// The driver's number in the list, from 0.
     pub driver: u32,
@@ -23,9 +23,9 @@ pub struct HostUse {
     /// Whether it is asked of an object: a method, or a type's property.
     pub member: bool,
     /// The parameters' types, in order; of a property none.
-    pub params: List<HostType>,
+    pub params: List<HostValueType>,
     /// The result's type, or the property's.
-    pub result: HostType,
+    pub result: HostValueType,
     /// Whether it is a property that is declared `const`, which is never written.
     pub read_only: bool,
 }

@@ -11,23 +11,24 @@ use Rattle.ang_kinds.specs.declared.error.ErrorKind.TheVariants as kind
 use Rattle.ang_lex.specs.declared.token.Token.{Token}
 use Rattle.ang_types.specs.declared.asks.Refused.{Refused}
 use Rattle.ang_view.specs.Registration.{RegistrationList}
-use Rattle.ang_names_heritage.specs.Graphs.{leads, order_of, reach_of, IsWithin, Way}
-use Rattle.ang_names_heritage.proofs.Closure.{falls, least}
+use Rattle.ang_names_graph.specs.Graphs.{leads, order_of, reach_of, IsWithin, Way}
+use Rattle.ang_names_graph.proofs.Closure.{falls, least}
 use Rattle.ang_names_known.specs.declared.names.Family.{Family}
 use Rattle.ang_names_known.specs.declared.names.ScriptFunction.{ScriptFunction}
 use Rattle.ang_names_known.specs.declared.names.Written.{Written}
 use Rattle.ang_names_known.specs.Items.{each_after, list_or}
 use Rattle.ang_names_known.specs.Spaces.{Space}
-use Rattle.ang_names_listed.specs.declared.listed.Declared.{Declared}
+use Rattle.ang_names_listed.specs.declared.listed.ListedDeclaration.{ListedDeclaration}
 use Rattle.ang_names_listed.specs.Declarations.{Declaring, declarations_of, families_of, family_name}
 use Rattle.ang_names_listed.specs.Taken.{each_refused}
-use Rattle.ang_names_tables.specs.Headings.{signatures_of}
-use Rattle.ang_names_tables.specs.Hierarchy.{field_types_at, held_by, holds, is_base, is_parent, is_place, is_under_or, names_place, place_of}
-use Rattle.ang_names_resolved.specs.Resolved.{families_after, families_in, functions_in, names_of, space_of_declared}
-use Rattle.ang_names_written.specs.Sources.{Source, text_of}
+use Rattle.ang_names_classes.specs.Headings.{signatures_of}
+use Rattle.ang_names_classes.specs.Hierarchy.{field_types_at, held_by, holds, is_base, is_parent, is_place, is_under_or, names_place, place_of}
+use Rattle.ang_names_classes.specs.Resolved.{families_after, families_in, functions_in, names_of, space_of_declared}
+use Rattle.ang_lex.specs.Text.{text_of}
+use Rattle.ang_names_listed.specs.Sources.{Source}
 use Rattle.ang_names.specs.Phases as phase
-use Rattle.ang_names_heirs.specs.Heirs.{ancestor_refusal, at_name, cycle_refusal}
-use Rattle.ang_names_heirs.specs.ByNumber.{refused_from}
+use Rattle.ang_names.specs.Heirs.{ancestor_refusal, at_name, cycle_refusal}
+use Rattle.ang_names.specs.ByNumber.{refused_from}
 use Rattle.ang_names.specs.Phases.{all_phases, families, first_refusals, of_family, refusals, refusals_of}
 use Rattle.ang_names.specs.Ranks.{can_hold, family_at, is_own_ancestor, reaches_itself}
 use Rattle.ang_names.proofs.Few.{family_number}
@@ -124,13 +125,13 @@ not_named why true f e = cc
 not_named why false f e = refl
 
 -- a phase over families that refuses none says nothing of any
-passes : (p : ℕ → Family → Option Refused) (fs : List Family) (all : List Declared) → length fs ≡ length (families_of all)
+passes : (p : ℕ → Family → Option Refused) (fs : List Family) (all : List ListedDeclaration) → length fs ≡ length (families_of all)
     → each_refused (λ before d. of_family p fs before d.part) all ≡ [] → (c : ℕ) → c < length (families_of all) → (f : Family) × (p c f ≡ None)
 passes p fs all same e c lt =
     let there = some_at fs c (subst (λ n. c < n) (sym same) lt) in
     (there.0, each_passes p fs 0 c c there.0 (by_number p fs all same ∙ e) (omega arith) there.1)
 
-module _ (V : RegistrationList) (all : List Declared) (e : first_refusals V all all_phases ≡ []) where
+module _ (V : RegistrationList) (all : List ListedDeclaration) (e : first_refusals V all all_phases ≡ []) where
   later_pass : first_refusals V all (phase.Ancestors ∷ phase.Heirs ∷ phase.Cycles ∷ []) ≡ []
   later_pass =
       let types = (both_empty (refusals V all phase.Names) (first_refusals V all (phase.Types ∷ phase.Ancestors ∷ phase.Heirs ∷ phase.Cycles ∷ [])) e).1 in
@@ -173,7 +174,7 @@ module _ (E : Space) (ds : List Declaring) (methods : List (ScriptFunction × Bo
       let longer = length-append before (x ∷ []) in
       rank_after (before ++ x ∷ []) xs k n f (omega (arith, s, longer)) there
 
-rank_is : (V : RegistrationList) (all : List Declared) (c : ℕ) (f : Family) → slice_get (names_of V all).families c ≡ Some f
+rank_is : (V : RegistrationList) (all : List ListedDeclaration) (c : ℕ) (f : Family) → slice_get (names_of V all).families c ≡ Some f
     → f.rank ≡ reach_of (holds (space_of_declared V all) (families_of all)) (length (families_of all)) c
 unfolding names_of families_in
 rank_is V all c f there =

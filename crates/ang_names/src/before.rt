@@ -5,8 +5,8 @@ ghost use Rattle.ang_names.specs.Before as spec;
 ghost use Rattle.ang_names.specs.Refusals.{clashes_with_member};
 
 use ang_index::Index;
-use ang_names_listed::Member;
-use ang_names_written::text_at;
+use ang_lex::text_of;
+use ang_names_listed::ListedMember;
 use std::alloc::{AllocError, Global};
 use std::marker::Model;
 
@@ -17,7 +17,7 @@ const MEMBERS: u64 = 0;
 #[derive(Drop)]
 pub struct Before<'t, 'm, 'a> {
     text: &'t [u8],
-    items: &'m [Member<'a>],
+    items: &'m [ListedMember<'a>],
     places: Index<usize>,
 }
 
@@ -54,18 +54,18 @@ impl<'t, 'm, 'a> Before<'t, 'm, 'a> {
     }
 
     /// The members.
-    pub fn items(&self) -> &'m [Member<'a>]
+    pub fn items(&self) -> &'m [ListedMember<'a>]
         ensures same { result.now ≡ self.now.items }
     {
         self.items
     }
 
     /// The numbers of those that have this one's name. It takes no memory.
-    pub fn row(&self, member: &Member<'_>) -> &[usize]
+    pub fn row(&self, member: &ListedMember<'_>) -> &[usize]
         ensures all { list_any (spec.clashes_at self.now member.now) result.now
             ≡ list_any (clashes_with_member self.now.text member.now) self.now.items }
     {
-        self.places.find(MEMBERS, text_at(self.text, &member.name))
+        self.places.find(MEMBERS, text_of(self.text, &member.name))
     }
 
     /// Goes on to these, which are one member more.
@@ -74,8 +74,8 @@ impl<'t, 'm, 'a> Before<'t, 'm, 'a> {
     pub fn grow(
         &mut self,
         alloc: Global,
-        items: &'m [Member<'a>],
-        member: &Member<'a>,
+        items: &'m [ListedMember<'a>],
+        member: &ListedMember<'a>,
     ) -> Result<(), AllocError>
         requires one_more { items.now ≡ self.old.items ++ member.now ∷ [] }
         ensures text { OnOk result (self.new.text ≡ self.old.text) }
@@ -83,7 +83,7 @@ impl<'t, 'm, 'a> Before<'t, 'm, 'a> {
     {
         let number = self.items.len();
         self.places
-            .push(alloc, MEMBERS, text_at(self.text, &member.name), number)?;
+            .push(alloc, MEMBERS, text_of(self.text, &member.name), number)?;
         self.items = items;
         Ok(())
     }

@@ -2,7 +2,7 @@
 ghost use Rattle.std.specs.Prelude.{◌≡◌, [], true, false, not, bytes_eq, IfOk};
 ghost use Rattle.std.specs.List.{list_any};
 ghost use Rattle.std.specs.Option.{option_or};
-ghost use Rattle.ang_names_written.specs.Sources.{text_of};
+ghost use Rattle.ang_lex.specs.Text.{text_of};
 ghost use Rattle.ang_names.specs.Before as earlier;
 ghost use Rattle.ang_names.specs.Refusals as spec;
 
@@ -10,11 +10,13 @@ use crate::before::Before;
 use crate::families::base_named;
 use crate::headings::{parameter_list_refusal, refusal_if, type_refusal_of};
 use ang_kinds::ErrorKind;
-use ang_lex::Token;
+use ang_lex::{Token, text_of};
+use ang_names_classes::Placed;
 use ang_names_known::Space;
-use ang_names_listed::{Attributes, Declared, Member, MemberKind, Shape};
-use ang_names_tables::Placed;
-use ang_names_written::{Role, have_same_types, text_at};
+use ang_names_listed::{
+    Attributes, ListedDeclaration, ListedFamily, ListedMember, MemberKind, TypePosition,
+    have_same_types,
+};
 use ang_tree::Parameter;
 use ang_types::Refused;
 use std::alloc::{AllocError, Global};
@@ -47,15 +49,19 @@ fn excludes_member(text: &[u8], kind: &MemberKind<'_>, other: &MemberKind<'_>) -
     }
 }
 
-fn clashes(text: &[u8], member: &Member<'_>, earlier: &Member<'_>) -> bool
+fn clashes(text: &[u8], member: &ListedMember<'_>, earlier: &ListedMember<'_>) -> bool
     ensures exact { result ≡ spec.clashes_with_member text.now member.now earlier.now }
 {
-    text_at(text, &member.name) == text_at(text, &earlier.name)
+    text_of(text, &member.name) == text_of(text, &earlier.name)
         && excludes_member(text, &member.kind, &earlier.kind)
 }
 
 /// Whether a member clashes with the earlier one of this number.
-fn clashes_with_earlier(before: &Before<'_, '_, '_>, number: usize, member: &Member<'_>) -> bool
+fn clashes_with_earlier(
+    before: &Before<'_, '_, '_>,
+    number: usize,
+    member: &ListedMember<'_>,
+) -> bool
     ensures exact { result ≡ earlier.clashes_at before.now member.now number }
 {
     match before.items().get(number) {
@@ -65,14 +71,14 @@ fn clashes_with_earlier(before: &Before<'_, '_, '_>, number: usize, member: &Mem
 }
 
 /// Whether a member clashes with one of the earlier ones of these numbers.
-fn clashes_with_one(before: &Before<'_, '_, '_>, row: &[usize], member: &Member<'_>) -> bool
+fn clashes_with_one(before: &Before<'_, '_, '_>, row: &[usize], member: &ListedMember<'_>) -> bool
     ensures exact { result ≡ list_any (earlier.clashes_at before.now member.now) row.now }
 {
     row.iter()
         .any(|number| clashes_with_earlier(before, *number, member))
 }
 
-fn is_duplicate(before: &Before<'_, '_, '_>, member: &Member<'_>) -> bool
+fn is_duplicate(before: &Before<'_, '_, '_>, member: &ListedMember<'_>) -> bool
     ensures exact { result
         ≡ list_any (spec.clashes_with_member before.now.text member.now) before.now.items }
 {
@@ -82,7 +88,7 @@ fn is_duplicate(before: &Before<'_, '_, '_>, member: &Member<'_>) -> bool
 fn duplicate(
     alloc: Global,
     before: &Before<'_, '_, '_>,
-    member: &Member<'_>,
+    member: &ListedMember<'_>,
 ) -> Result<Option<Refused>, AllocError>
     ensures exact { IfOk result
         (λ r. r ≡ spec.duplicate before.now.text before.now.items member.now) }
@@ -102,7 +108,7 @@ fn name_refusal(
     alloc: Global,
     space: &Space<'_>,
     before: &Before<'_, '_, '_>,
-    member: &Member<'_>,
+    member: &ListedMember<'_>,
     params: &[Parameter],
 ) -> Result<Option<Refused>, AllocError>
     ensures exact { IfOk result (λ r. r
@@ -126,7 +132,7 @@ fn misnamed(
         (not (bytes_eq (text_of text.now name.now) family.now)) ErrorKind.BadType text.now
         name.now) }
 {
-    let is_refused = text_at(text, name) != family;
+    let is_refused = text_of(text, name) != family;
     refusal_if(alloc, is_refused, ErrorKind::BadType, text, name)
 }
 
@@ -136,7 +142,7 @@ fn member_refusal(
     space: &Space<'_>,
     family: &[u8],
     before: &Before<'_, '_, '_>,
-    member: &Member<'_>,
+    member: &ListedMember<'_>,
 ) -> Result<Option<Refused>, AllocError>
     ensures exact { IfOk result (λ r. r ≡ spec.member_refusal space.now before.now.text
         family.now before.now.items member.now member.now.kind) }
@@ -144,13 +150,13 @@ fn member_refusal(
     let text = before.text();
     match &member.kind {
         MemberKind::Field(declared) => {
-            match type_refusal_of(alloc, space, text, Role::Field, declared)? {
+            match type_refusal_of(alloc, space, text, TypePosition::Field, declared)? {
                 Some(refused) => Ok(Some(refused)),
                 None => duplicate(alloc, before, member),
             }
         }
         MemberKind::Method(declared, params, _) => {
-            match type_refusal_of(alloc, space, text, Role::Result, declared)? {
+            match type_refusal_of(alloc, space, text, TypePosition::Result, declared)? {
                 Some(refused) => Ok(Some(refused)),
                 None => name_refusal(alloc, space, before, member, params.items()),
             }
@@ -168,7 +174,7 @@ fn members_refusal(
     space: &Space<'_>,
     text: &[u8],
     family: &[u8],
-    members: &[Member<'_>],
+    members: &[ListedMember<'_>],
 ) -> Result<Option<Refused>, AllocError>
     ensures exact { IfOk result (λ r. r
         ≡ spec.members_refusal space.now text.now family.now [] members.now) }
@@ -197,7 +203,7 @@ fn bases_refusal(
 {
     let mut has_class = false;
     for base in bases {
-        let (is_bad, names_class) = base_named(families, is_class, has_class, text_at(text, base));
+        let (is_bad, names_class) = base_named(families, is_class, has_class, text_of(text, base));
         let refused = refusal_if(alloc, is_bad, ErrorKind::BadBase, text, base)?;
         if refused.is_some() {
             return Ok(refused);
@@ -209,8 +215,8 @@ fn bases_refusal(
 
 fn member_limit(
     alloc: Global,
-    declared: &Declared<'_>,
-    shape: &Shape<'_>,
+    declared: &ListedDeclaration<'_>,
+    shape: &ListedFamily<'_>,
 ) -> Result<Option<Refused>, AllocError>
     ensures exact { IfOk result (λ r. r ≡ spec.member_limit declared.now shape.now) }
 {
@@ -231,8 +237,8 @@ pub fn family_refusal(
     alloc: Global,
     space: &Space<'_>,
     families: &Placed<'_, '_, '_>,
-    declared: &Declared<'_>,
-    shape: &Shape<'_>,
+    declared: &ListedDeclaration<'_>,
+    shape: &ListedFamily<'_>,
 ) -> Result<Option<Refused>, AllocError>
     ensures exact { IfOk result (λ r. r
         ≡ spec.family_refusal space.now families.now declared.now shape.now) }
@@ -250,6 +256,6 @@ pub fn family_refusal(
     )? {
         return Ok(Some(refused));
     }
-    let name = text_at(text, &declared.name);
+    let name = text_of(text, &declared.name);
     members_refusal(alloc, space, text, name, shape.members.as_slice())
 }

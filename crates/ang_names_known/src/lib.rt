@@ -1,14 +1,17 @@
-//! What names mean before any text is read: what a module sees of the host, by name and by type, and what its scripts
-//! declare.
+//! Looks names up: what a module sees of the host, by name and by type, what its scripts declare, and
+//! what a hidden entry would add.
 //!
-//! `Names` is what `ang_names` makes of the scripts: lists, which contracts see, and an index of them. All look-ups in it and in the
-//! view stand here, so that each of them has one contract (docs/LANGUAGE.md, "Names of a build").
+//! `Names` is what `ang_names` makes of the scripts: lists, which contracts see, and an index of them.
+//! All look-ups in it and in the view stand here, so that each of them has one contract
+//! (docs/LANGUAGE.md, "Names of a build").
 #![tactic(auto)]
 
 mod borrowed;
 mod family_types;
 mod functions;
+mod host;
 mod indexed;
+pub mod laws;
 mod lineage;
 mod lookup;
 mod members;
@@ -17,9 +20,13 @@ mod names;
 mod places;
 mod space;
 
-pub use borrowed::Text;
+pub use borrowed::BorrowedText;
 pub use family_types::{FIRST_FAMILY, family_of_type, family_type};
 pub use functions::parameters_of;
+pub use host::{
+    SeenFunction, SeenProperty, Wanted, WantedProperty, found_at, host_where, property_at,
+    property_where,
+};
 pub use indexed::IndexedNames as Names;
 pub use lineage::lineage_of;
 pub use lookup::{
@@ -28,7 +35,7 @@ pub use lookup::{
 };
 pub use methods::FoundMethod;
 pub use names::{
-    Access, Constructor, Default, Family, Field, FoundField, Method, Names as NameLists, Origin,
-    ScriptFunction, ScriptGlobal, ScriptParameter, Written,
+    Access, Default, Family, Field, FoundField, Names as NameLists, Origin, ScriptConstructor,
+    ScriptFunction, ScriptGlobal, ScriptMethod, ScriptParameter, Written,
 };
 pub use space::{Named, Space, enumeration_number, family_or_host, type_number};

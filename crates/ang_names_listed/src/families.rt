@@ -2,10 +2,9 @@
 ghost use Rattle.std.specs.Prelude.{◌≡◌, IfOk};
 ghost use Rattle.ang_names_listed.specs.Declarations as spec;
 
-use crate::listed::{Declared, Part, Shape};
-use ang_lex::Token;
+use crate::listed::{ListedDeclaration, ListedFamily, Part};
+use ang_lex::{Token, text_of};
 use ang_names_known::Origin;
-use ang_names_written::text_at;
 use std::alloc::{AllocError, Global};
 use std::marker::Model;
 
@@ -15,7 +14,7 @@ pub struct Declaring<'l, 'a> {
     origin: Origin,
     text: &'a [u8],
     name: Token,
-    shape: &'l Shape<'a>,
+    shape: &'l ListedFamily<'a>,
 }
 
 impl<'l, 'a> Model for Declaring<'l, 'a> {
@@ -49,7 +48,7 @@ impl<'l, 'a> Declaring<'l, 'a> {
     }
 
     /// What it declares.
-    pub fn shape(&self) -> &'l Shape<'a>
+    pub fn shape(&self) -> &'l ListedFamily<'a>
         ensures same { result.now ≡ self.now.shape }
     {
         self.shape
@@ -59,12 +58,12 @@ impl<'l, 'a> Declaring<'l, 'a> {
     pub fn family_name(&self) -> &'a [u8]
         ensures exact { result.now ≡ spec.family_name self.now }
     {
-        text_at(self.text, &self.name)
+        text_of(self.text, &self.name)
     }
 }
 
 /// The class or interface that a declaration declares, if it declares one.
-fn declaring_of<'l, 'a>(declared: &'l Declared<'a>) -> Option<Declaring<'l, 'a>>
+fn declaring_of<'l, 'a>(declared: &'l ListedDeclaration<'a>) -> Option<Declaring<'l, 'a>>
     ensures exact { result ≡ spec.declaring_of declared.now }
 {
     match &declared.part {
@@ -86,7 +85,7 @@ fn declaring_of<'l, 'a>(declared: &'l Declared<'a>) -> Option<Declaring<'l, 'a>>
 #[tactic(auto, unfolding(crate::specs::Declarations::families_of))]
 pub fn families_of<'l, 'a>(
     alloc: Global,
-    all: &'l [Declared<'a>],
+    all: &'l [ListedDeclaration<'a>],
 ) -> Result<Vec<Declaring<'l, 'a>>, AllocError>
     ensures exact { IfOk result (λ found. found.items ≡ spec.families_of all.now) }
 {

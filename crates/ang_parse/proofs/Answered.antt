@@ -5,7 +5,6 @@ use Rattle.ang_kinds.specs.declared.place.Place.{Place}
 use Rattle.ang_lex.specs.declared.token.Token.{Token}
 use Rattle.ang_tree.specs.Depth.{too_deep}
 use Rattle.ang_tree.specs.Declarations.{Decl, SpellsScript}
-use Rattle.ang_parse_read.specs.From.{From}
 use Rattle.ang_parse_read.specs.Read.{Outcome, at, deep}
 use Rattle.ang_parse_read.specs.Law.{all_of}
 use Rattle.ang_parse_read.proofs.Whole.{all_complete, all_found, all_refused, never_deep}
@@ -146,10 +145,6 @@ module _ (text : List ℕ) (tokens : List Token) where
       let same = g rest is in
       let err : f ≡ e.TooDeep (place_at tokens rest) = cc in
       ap (λ v. Err v) err
-
--- the rest at which nothing is read is an end of the tokens
-pub rest_from : (tokens rest : List Token) → all_of r.script tokens ≡ Err (at rest) → From tokens rest
-rest_from tokens rest h = (all_refused (List Decl) r.script IsShallow AreDecls SpellsScript scripts_exact tokens rest h).from
 
 pub not_too_small : (tokens : List Token) → all_of r.script tokens ≡ Err deep → ⊥
 not_too_small tokens h = never_deep (List Decl) r.script IsShallow AreDecls SpellsScript scripts_exact tokens h

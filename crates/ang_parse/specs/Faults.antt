@@ -1,17 +1,14 @@
 -- Where a section's tokens cannot be read. (docs/LANGUAGE.md, "Grammar": `TooDeep` and `Syntax`.)
-use Rattle.std.specs.Prelude.{◌≡◌, ℕ, ◌+◌, ◌-◌, ◌^◌, ◌<◌, ◌≤◌, List, [], ◌∷◌, length, Option, Some, None, Ok, slice_range, slice_get}
+use Rattle.std.specs.Prelude.{◌≡◌, ℕ, ◌+◌, ◌-◌, ◌^◌, ◌<◌, ◌≤◌, List, [], ◌∷◌, length, Option, Some, None, Ok, slice_get}
 use Rattle.ang_kinds.specs.declared.place.Place.{Place}
 use Rattle.ang_lex.specs.declared.token.Token.{Token}
+use Rattle.ang_lex.specs.Text.{text_of}
 use Rattle.ang_lex.specs.Tokens.{tokens_of, start_of}
 
 -- These are the tokens of the section with this text, whatever its number.
 pub record AreTokensOf (text : List ℕ) (tokens : List Token) : Type 0 where
   pub sect : ℕ
   pub are : tokens_of sect text ≡ Ok tokens
-
--- the bytes of a token
-abbrev pub text_of : List ℕ → Token → List ℕ
-text_of text t = slice_range text t.span.start t.span.end
 
 -- The columns of a token can be counted, the one past it too.
 abbrev pub HasColumns : Token → Type 0

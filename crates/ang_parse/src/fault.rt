@@ -1,20 +1,12 @@
 //! Errors of the grammar: their places and names.
-ghost use Rattle.std.specs.Prelude.{◌≡◌, ◌+◌, ◌^◌, ◌<◌, ◌≤◌, [], ◌∷◌, length, All, IfOk};
-ghost use Rattle.ang_lex.specs.Tokens.{IsWithin};
-ghost use Rattle.ang_parse.specs.Faults.{text_of, place_past, place_at, name_at, HasColumns};
+ghost use Rattle.std.specs.Prelude.{◌≡◌, ◌+◌, ◌^◌, ◌<◌, ◌≤◌, [], ◌∷◌, All, IfOk};
+ghost use Rattle.ang_lex.specs.Text.{text_of};
+ghost use Rattle.ang_parse.specs.Faults.{place_past, place_at, name_at, HasColumns};
 
 use crate::error::ParseError;
 use ang_kinds::{List, Place};
-use ang_lex::Token;
+use ang_lex::{Token, text_of};
 use std::alloc::{AllocError, Global};
-
-/// The bytes of a token.
-fn text_of_token<'a>(text: &'a [u8], token: &Token) -> &'a [u8]
-    requires within { IsWithin (length text.now) token.now }
-    ensures exact { result.now ≡ text_of text.now token.now }
-{
-    &text[token.span.start as usize..token.span.end as usize]
-}
 
 /// The place one column past the last token.
 fn place_past(tokens: &[Token]) -> Place
@@ -41,7 +33,6 @@ pub(crate) fn syntax_error(
     tokens: &[Token],
     rest: &[Token],
 ) -> Result<ParseError, AllocError>
-    requires within { All (IsWithin (length text.now)) rest.now }
     requires columns { All HasColumns tokens.now }
     ensures exact { IfOk result (λ f. f ≡ ParseError.Syntax (place_at tokens.now rest.now)
         (name_at text.now rest.now)) }
@@ -50,6 +41,6 @@ pub(crate) fn syntax_error(
         let name = List::from_vec(Vec::new(alloc));
         return Ok(ParseError::Syntax(place_past(tokens), name));
     };
-    let name = Vec::from_slice(alloc, text_of_token(text, first))?;
+    let name = Vec::from_slice(alloc, text_of(text, first))?;
     Ok(ParseError::Syntax(first.place, List::from_vec(name)))
 }

@@ -1,7 +1,6 @@
 //! Parsing a section.
-ghost use Rattle.std.specs.Prelude.{◌≡◌, ◌≢◌, ◌^◌, ◌<◌, List, [], map, length, Result, Ok, Err, All, IfOk, IfErr, MatchOption, MatchResult};
+ghost use Rattle.std.specs.Prelude.{◌≡◌, ◌≢◌, ◌^◌, ◌<◌, List, [], map, Result, Ok, Err, All, IfOk, IfErr, MatchOption, MatchResult};
 ghost use Rattle.ang_kinds.specs.declared.place.Place.{Place};
-ghost use Rattle.ang_lex.specs.Tokens.{IsWithin};
 ghost use Rattle.ang_tree.specs.Depth as depth;
 ghost use Rattle.ang_tree.specs.Declarations.{Decl, SpellsScript};
 ghost use Rattle.ang_tree.specs.View.{view_decl, view_script};
@@ -40,7 +39,6 @@ fn declarations(
     text: &[u8],
     tokens: &[Token],
 ) -> Result<Vec<Declaration>, ParseError>
-    requires within { All (IsWithin (length text.now)) tokens.now }
     requires columns { All HasColumns tokens.now }
     ensures script { IfOk result (λ v. script_of text.now tokens.now ≡ Ok (map view_decl v.items)) }
     ensures fault { IfErr result (λ f. f ≢ ParseError.Memory →

@@ -209,3 +209,14 @@ pub fn perhaps_const(tokens: &[Token]) -> (Option<Token>, &[Token])
         _ => (None, tokens),
     }
 }
+
+/// Reads a name, if one stands there. Else it answers none, and all of the tokens are left.
+#[tactic(auto, unfolding(crate::specs::Tokens::perhaps))]
+pub fn perhaps_name(tokens: &[Token]) -> (Option<Token>, &[Token])
+    ensures reads { perhaps is_name tokens.now ≡ Ok (result.0, result.1.now) }
+{
+    match tokens {
+        [token, rest @ ..] if matches!(token.kind, TokenKind::Name) => (Some(*token), rest),
+        _ => (None, tokens),
+    }
+}

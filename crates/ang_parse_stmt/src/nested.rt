@@ -2,11 +2,12 @@
 //! are left.
 //!
 //! `limit` bounds the nested calls of expressions and the turns of each loop, `depth` the nested calls
-//! of statements.
+//! of statements. `levels` is how many more statements the stack is taken to have room for, one inside
+//! the other: a statement beyond them is want of memory (docs/SECURITY.md, "The stack").
 //!
-//! Statements nest as deep as a script is long, and the stack has to do for all of them. So what has no
-//! statement inside is read by functions that are never inlined, and a part that waits for a statement
-//! inside is in a box, which is let go by a call and not by a `?`: see `parts`.
+//! The stack has to do for all statements that stand inside one another. So what has no statement inside
+//! is read by functions that are never inlined, and a part that waits for a statement inside is in a box,
+//! which is let go by a call and not by a `?`: see `parts`.
 ghost use Rattle.std.specs.Prelude.{◌≡◌, option_map, IfOk};
 ghost use Rattle.ang_parse_read.specs.Gives.{Gives};
 ghost use Rattle.ang_parse_read.specs.Read.{repeat};
@@ -14,12 +15,11 @@ ghost use Rattle.ang_tree.specs.View.{view_stmt, view_stmts, view_body, view_els
 ghost use Rattle.ang_parse_stmt.specs.Parts.{view_condition, view_ending, view_head, view_guarded};
 ghost use Rattle.ang_parse_stmt.specs.ReadStmt as read;
 
-use crate::build;
 use crate::parts::{Guarded, let_go_of_guard, let_go_of_guarded, let_go_of_head};
+use crate::{build, ended, start};
 use ang_lex::{Token, TokenKind};
 use ang_parse_expr::{expression, expressions};
 use ang_parse_read::{ReadError, a_left_paren, a_right_brace, a_right_paren, a_semicolon, a_while};
-use ang_parse_variables::{ended, start};
 use ang_tree::{Argument, Block, Else, Ending, Guard, Head, Jump, Returned, Statement};
 use std::alloc::Global;
 
@@ -238,6 +238,7 @@ fn other_statement(
     first: Vec<Statement>,
     tokens: &[Token],
     depth: usize,
+    levels: usize,
     limit: usize,
 ) -> Result<((Vec<Statement>, bool), &[Token]), ReadError<'_>>
     ensures reads { Gives (λ x. ((view_stmts x.0.0.items, x.0.1), x.1.now)) result
@@ -248,7 +249,7 @@ fn other_statement(
     {
         return Ok(((first, false), tokens));
     }
-    let (next, rest) = statement(alloc, tokens, depth, limit)?;
+    let (next, rest) = statement(alloc, tokens, depth, levels, limit)?;
     let longer = build::with_statement(first, next)?;
     Ok(((longer, true), rest))
 }
@@ -260,6 +261,7 @@ pub(crate) fn statements(
     alloc: Global,
     tokens: &[Token],
     depth: usize,
+    levels: usize,
     limit: usize,
 ) -> Result<(Vec<Statement>, &[Token]), ReadError<'_>>
     ensures reads { Gives (λ x. (view_stmts x.0.items, x.1.now)) result
@@ -268,7 +270,7 @@ pub(crate) fn statements(
     let mut found = Vec::new(alloc);
     let mut rest = tokens;
     for _ in 0..limit {
-        let ((longer, goes_on), after) = other_statement(alloc, found, rest, depth, limit)?;
+        let ((longer, goes_on), after) = other_statement(alloc, found, rest, depth, levels, limit)?;
         if !goes_on {
             return Ok((longer, after));
         }
@@ -286,12 +288,13 @@ pub(crate) fn block<'a>(
     open: Token,
     tokens: &'a [Token],
     depth: usize,
+    levels: usize,
     limit: usize,
 ) -> Result<(Block, &'a [Token]), ReadError<'a>>
     ensures reads { Gives (λ x. (view_body x.0, x.1.now)) result
         (read.a_body (read.stmt depth limit) limit «open» tokens.now) }
 {
-    let (statements, rest) = statements(alloc, tokens, depth, limit)?;
+    let (statements, rest) = statements(alloc, tokens, depth, levels, limit)?;
     let (close, rest) = a_right_brace(rest)?;
     Ok((
         Block {
@@ -309,12 +312,13 @@ fn inner_statement(
     alloc: Global,
     tokens: &[Token],
     depth: usize,
+    levels: usize,
     limit: usize,
 ) -> Result<(Box<Statement>, &[Token]), ReadError<'_>>
     ensures reads { Gives (λ x. (view_stmt x.0.value, x.1.now)) result
         (read.stmt depth limit tokens.now) }
 {
-    let (found, rest) = statement(alloc, tokens, depth, limit)?;
+    let (found, rest) = statement(alloc, tokens, depth, levels, limit)?;
     let found = Box::new(alloc, found)?;
     Ok((found, rest))
 }
@@ -327,6 +331,7 @@ fn guarded<'a>(
     word: &Token,
     tokens: &'a [Token],
     depth: usize,
+    levels: usize,
     limit: usize,
 ) -> Result<(Guarded, &'a [Token]), ReadError<'a>>
     ensures reads { Gives (λ x. (view_guarded x.0, x.1.now)) result
@@ -334,7 +339,7 @@ fn guarded<'a>(
     ensures same { IfOk result (λ x. x.0.head.value.word ≡ word.now) }
 {
     let (head, rest) = guard(alloc, word, tokens, limit)?;
-    match inner_statement(alloc, rest, depth, limit) {
+    match inner_statement(alloc, rest, depth, levels, limit) {
         Ok((statement, rest)) => Ok((Guarded { head, statement }, rest)),
         Err(error) => {
             let_go_of_guard(head);
@@ -350,6 +355,7 @@ fn otherwise(
     alloc: Global,
     tokens: &[Token],
     depth: usize,
+    levels: usize,
     limit: usize,
 ) -> Result<(Option<Box<Else>>, &[Token]), ReadError<'_>>
     ensures reads { Gives (λ x. (option_map (λ e. view_else e.value) x.0, x.1.now)) result
@@ -357,7 +363,7 @@ fn otherwise(
 {
     match tokens {
         [word, rest @ ..] if matches!(word.kind, TokenKind::Else) => {
-            let (branch, rest) = inner_statement(alloc, rest, depth, limit)?;
+            let (branch, rest) = inner_statement(alloc, rest, depth, levels, limit)?;
             Ok((Some(build::other_branch(alloc, word, branch)?), rest))
         }
         _ => Ok((None, tokens)),
@@ -372,13 +378,14 @@ fn conditional<'a>(
     word: &Token,
     tokens: &'a [Token],
     depth: usize,
+    levels: usize,
     limit: usize,
 ) -> Result<(Statement, &'a [Token]), ReadError<'a>>
     ensures reads { Gives (λ x. (view_stmt x.0, x.1.now)) result
         (read.conditional (read.stmt depth limit) limit word.now tokens.now) }
 {
-    let (guarded, rest) = guarded(alloc, word, tokens, depth, limit)?;
-    match otherwise(alloc, rest, depth, limit) {
+    let (guarded, rest) = guarded(alloc, word, tokens, depth, levels, limit)?;
+    match otherwise(alloc, rest, depth, levels, limit) {
         Ok((otherwise, rest)) => Ok((
             build::conditional(guarded.head, guarded.statement, otherwise),
             rest,
@@ -398,12 +405,13 @@ fn while_loop<'a>(
     word: &Token,
     tokens: &'a [Token],
     depth: usize,
+    levels: usize,
     limit: usize,
 ) -> Result<(Statement, &'a [Token]), ReadError<'a>>
     ensures reads { Gives (λ x. (view_stmt x.0, x.1.now)) result
         (read.while_loop (read.stmt depth limit) limit word.now tokens.now) }
 {
-    let (Guarded { head, statement }, rest) = guarded(alloc, word, tokens, depth, limit)?;
+    let (Guarded { head, statement }, rest) = guarded(alloc, word, tokens, depth, levels, limit)?;
     Ok((build::while_loop(head, statement), rest))
 }
 
@@ -415,12 +423,13 @@ fn do_loop<'a>(
     word: &Token,
     tokens: &'a [Token],
     depth: usize,
+    levels: usize,
     limit: usize,
 ) -> Result<(Statement, &'a [Token]), ReadError<'a>>
     ensures reads { Gives (λ x. (view_stmt x.0, x.1.now)) result
         (read.do_loop (read.stmt depth limit) limit word.now tokens.now) }
 {
-    let (body, rest) = inner_statement(alloc, tokens, depth, limit)?;
+    let (body, rest) = inner_statement(alloc, tokens, depth, levels, limit)?;
     let (ending, rest) = ending(alloc, word, rest, limit)?;
     Ok((build::do_loop(body, ending), rest))
 }
@@ -433,13 +442,14 @@ fn for_loop<'a>(
     word: &Token,
     tokens: &'a [Token],
     depth: usize,
+    levels: usize,
     limit: usize,
 ) -> Result<(Statement, &'a [Token]), ReadError<'a>>
     ensures reads { Gives (λ x. (view_stmt x.0, x.1.now)) result
         (read.for_loop (read.stmt depth limit) limit word.now tokens.now) }
 {
     let (head, rest) = head(alloc, word, tokens, limit)?;
-    match inner_statement(alloc, rest, depth, limit) {
+    match inner_statement(alloc, rest, depth, levels, limit) {
         Ok((body, rest)) => Ok((build::for_loop(head, body), rest)),
         Err(error) => {
             let_go_of_head(head);
@@ -456,12 +466,13 @@ fn braced<'a>(
     open: &Token,
     tokens: &'a [Token],
     depth: usize,
+    levels: usize,
     limit: usize,
 ) -> Result<(Statement, &'a [Token]), ReadError<'a>>
     ensures reads { Gives (λ x. (view_stmt x.0, x.1.now)) result
         (read.braced (read.stmt depth limit) limit open.now tokens.now) }
 {
-    let (whole, rest) = block(alloc, *open, tokens, depth, limit)?;
+    let (whole, rest) = block(alloc, *open, tokens, depth, levels, limit)?;
     Ok((build::whole_block(alloc, whole)?, rest))
 }
 
@@ -472,6 +483,7 @@ fn chosen<'a>(
     alloc: Global,
     tokens: &'a [Token],
     depth: usize,
+    levels: usize,
     limit: usize,
 ) -> Result<(Statement, &'a [Token]), ReadError<'a>>
     ensures reads { Gives (λ x. (view_stmt x.0, x.1.now)) result
@@ -481,11 +493,11 @@ fn chosen<'a>(
         return simple(alloc, tokens, limit);
     };
     match token.kind {
-        TokenKind::LeftBrace => braced(alloc, token, rest, depth, limit),
-        TokenKind::If => conditional(alloc, token, rest, depth, limit),
-        TokenKind::While => while_loop(alloc, token, rest, depth, limit),
-        TokenKind::Do => do_loop(alloc, token, rest, depth, limit),
-        TokenKind::For => for_loop(alloc, token, rest, depth, limit),
+        TokenKind::LeftBrace => braced(alloc, token, rest, depth, levels, limit),
+        TokenKind::If => conditional(alloc, token, rest, depth, levels, limit),
+        TokenKind::While => while_loop(alloc, token, rest, depth, levels, limit),
+        TokenKind::Do => do_loop(alloc, token, rest, depth, levels, limit),
+        TokenKind::For => for_loop(alloc, token, rest, depth, levels, limit),
         TokenKind::Break => broken(alloc, token, rest),
         TokenKind::Continue => continued(alloc, token, rest),
         TokenKind::Return => returned(alloc, token, rest, limit),
@@ -500,6 +512,7 @@ pub(crate) fn statement(
     alloc: Global,
     tokens: &[Token],
     depth: usize,
+    levels: usize,
     limit: usize,
 ) -> Result<(Statement, &[Token]), ReadError<'_>>
     ensures reads { Gives (λ x. (view_stmt x.0, x.1.now)) result
@@ -508,5 +521,8 @@ pub(crate) fn statement(
     if depth == 0 {
         return Err(ReadError::Deep);
     }
-    chosen(alloc, tokens, depth - 1, limit)
+    if levels == 0 {
+        return Err(ReadError::Memory);
+    }
+    chosen(alloc, tokens, depth - 1, levels - 1, limit)
 }

@@ -16,6 +16,10 @@ use ang_parse_read::ReadError;
 use ang_tree::{Block, Statement};
 use std::alloc::Global;
 
+/// The most statements that stand one inside the other, an `else if` as one inside its `if`. A build of
+/// them takes less than 6 MiB of stack, whatever stands in the innermost (docs/SECURITY.md, "The stack").
+const LEVELS: usize = 4000;
+
 /// Reads a statement.
 ///
 /// `limit` bounds the nested calls of expressions and the turns of each loop, `depth` the nested calls
@@ -25,7 +29,7 @@ use std::alloc::Global;
 ///
 /// `Syntax` with the tokens from the first that cannot stand there, or with none where they end too
 /// soon. `Deep` where `depth` or `limit` is too small, as a `depth` of 0 always is. `Memory` where a growth
-/// was refused.
+/// was refused, or at a statement that stands inside 4,000 others.
 pub fn statement(
     alloc: Global,
     tokens: &[Token],
@@ -35,7 +39,7 @@ pub fn statement(
     ensures reads { Gives (λ x. (view_stmt x.0, x.1.now)) result
         (read.stmt depth limit tokens.now) }
 {
-    nested::statement(alloc, tokens, depth, limit)
+    nested::statement(alloc, tokens, depth, LEVELS, limit)
 }
 
 /// Reads statements, up to a right brace, which is left. There may be none.
@@ -47,7 +51,7 @@ pub fn statement(
 ///
 /// `Syntax` with the tokens from the first that cannot stand there, or with none where they end too
 /// soon. `Deep` where `depth` or `limit` is too small, as a `limit` of 0 always is. `Memory` where a growth
-/// was refused.
+/// was refused, or at a statement that stands inside 4,000 others.
 pub fn statements(
     alloc: Global,
     tokens: &[Token],
@@ -57,7 +61,7 @@ pub fn statements(
     ensures reads { Gives (λ x. (view_stmts x.0.items, x.1.now)) result
         (read.statements (read.stmt depth limit) limit tokens.now) }
 {
-    nested::statements(alloc, tokens, depth, limit)
+    nested::statements(alloc, tokens, depth, LEVELS, limit)
 }
 
 /// Reads the statements of a block and the right brace, after the left one `open`, which is none of
@@ -70,7 +74,7 @@ pub fn statements(
 ///
 /// `Syntax` with the tokens from the first that cannot stand there, or with none where they end too
 /// soon. `Deep` where `depth` or `limit` is too small, as a `limit` of 0 always is. `Memory` where a growth
-/// was refused.
+/// was refused, or at a statement that stands inside 4,000 others.
 pub fn block<'a>(
     alloc: Global,
     open: Token,
@@ -81,5 +85,5 @@ pub fn block<'a>(
     ensures reads { Gives (λ x. (view_body x.0, x.1.now)) result
         (read.a_body (read.stmt depth limit) limit «open» tokens.now) }
 {
-    nested::block(alloc, open, tokens, depth, limit)
+    nested::block(alloc, open, tokens, depth, LEVELS, limit)
 }

@@ -11,28 +11,15 @@ use Rattle.ang_view.specs.declared.entry.Entry.{Entry}
 use Rattle.ang_view.specs.declared.entry.EntryKind.{EntryKind}
 use Rattle.ang_view.specs.declared.entry.EntryKind.TheVariants as entry
 use Rattle.ang_view.specs.Hidden.{numbers_of}
-use Rattle.ang_view.specs.Named.{find, has_name, is_bare, is_maker, is_member, is_member_kind, makers, makes, owned}
+use Rattle.ang_view.specs.Named.{find, has_name, is_bare, is_factory, is_member, is_member_kind, is_value, makers, makes, owned}
 use Rattle.ang_view.specs.Registration.{RegistrationList, entry_at, is_number, is_spelled_with, is_host_type}
 use Rattle.ang_view.proofs.Among.{among, no_number}
 use Rattle.ang_view.proofs.Lists.{and_gives, and_from}
 use Rattle.ang_registry.specs.Among.{is_spelled_foreign, rivals, spelled}
-use Rattle.ang_registry.specs.Overloads.{clashes, excludes_function, excludes_method, is_factory, is_global_name, is_member_name, is_taken, is_value, same_name, same_owner, same_parameters}
+use Rattle.ang_registry.specs.Overloads.{clashes, excludes_function, excludes_method, is_member_name, is_taken, same_name, same_owner, same_parameters}
 use Rattle.ang_registry.specs.Types.{is_foreign}
 
 -- ---- what can take a name
-
-wider : (b c d : Bool) → (b ≡ true → d ≡ true) → (b && c) ≡ true → (d && c) ≡ true
-wider b c d h e = let r = and_gives b c e in and_from d c (h r.0) r.1
-
-global_is_bare : (k : EntryKind) → is_global_name k ≡ true → is_bare k ≡ true
-global_is_bare entry.HostType e = refl
-global_is_bare entry.Factory e = cc
-global_is_bare entry.Method e = cc
-global_is_bare entry.Property e = cc
-global_is_bare entry.Function e = refl
-global_is_bare entry.Global e = refl
-global_is_bare entry.Enumeration e = refl
-global_is_bare (entry.EnumValue v) e = cc
 
 excludes_is_bare : (k : EntryKind) (x s : Signature) → excludes_function k x s ≡ true → is_bare k ≡ true
 excludes_is_bare entry.HostType x s e = refl
@@ -74,16 +61,6 @@ value_is_member entry.Global e = cc
 value_is_member entry.Enumeration e = cc
 value_is_member (entry.EnumValue v) e = refl
 
-factory_is_maker : (k : EntryKind) → is_factory k ≡ true → is_maker k ≡ true
-factory_is_maker entry.HostType e = cc
-factory_is_maker entry.Factory e = refl
-factory_is_maker entry.Method e = cc
-factory_is_maker entry.Property e = cc
-factory_is_maker entry.Function e = cc
-factory_is_maker entry.Global e = cc
-factory_is_maker entry.Enumeration e = cc
-factory_is_maker (entry.EnumValue v) e = cc
-
 own_number : (t : EntityNo) (owner : Option EntityNo) → same_owner owner (Some t) ≡ true → is_number t.0 owner ≡ true
 own_number t None e = cc
 own_number t (Some o) e = e
@@ -94,15 +71,15 @@ no_owner (Some o) e = e
 
 type_named : (owner : Option EntityNo) (s : Signature) (o : Option Entry) → clashes entry.HostType owner s o ≡ true → has_name s.name o ≡ true
 type_named owner s None e = cc
-type_named owner s (Some x) e = wider (is_global_name x.kind) (same_name x.signature s) (is_bare x.kind) (global_is_bare x.kind) e
+type_named owner s (Some x) e = e
 
 global_named : (owner : Option EntityNo) (s : Signature) (o : Option Entry) → clashes entry.Global owner s o ≡ true → has_name s.name o ≡ true
 global_named owner s None e = cc
-global_named owner s (Some x) e = wider (is_global_name x.kind) (same_name x.signature s) (is_bare x.kind) (global_is_bare x.kind) e
+global_named owner s (Some x) e = e
 
 enumeration_named : (owner : Option EntityNo) (s : Signature) (o : Option Entry) → clashes entry.Enumeration owner s o ≡ true → has_name s.name o ≡ true
 enumeration_named owner s None e = cc
-enumeration_named owner s (Some x) e = wider (is_global_name x.kind) (same_name x.signature s) (is_bare x.kind) (global_is_bare x.kind) e
+enumeration_named owner s (Some x) e = e
 
 function_named : (owner : Option EntityNo) (s : Signature) (o : Option Entry) → clashes entry.Function owner s o ≡ true → has_name s.name o ≡ true
 function_named owner s None e = cc
@@ -139,7 +116,7 @@ factory_made t s None e = cc
 factory_made t s (Some x) e =
     let r = and_gives (is_factory x.kind && same_owner x.owner (Some t)) (same_parameters x.signature.params s.params) e in
     let two = and_gives (is_factory x.kind) (same_owner x.owner (Some t)) r.0 in
-    and_from (is_maker x.kind) (is_number t.0 x.owner) (factory_is_maker x.kind two.0) (own_number t x.owner two.1)
+    and_from (is_factory x.kind) (is_number t.0 x.owner) two.0 (own_number t x.owner two.1)
 
 no_method : (s : Signature) (o : Option Entry) → clashes entry.Method None s o ≡ true → false ≡ true
 no_method s None e = e

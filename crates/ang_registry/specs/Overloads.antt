@@ -14,6 +14,7 @@ use Rattle.ang_kinds.specs.declared.types.TypeRef.TheVariants as ref
 use Rattle.ang_view.specs.declared.entry.Entry.{Entry}
 use Rattle.ang_view.specs.declared.entry.EntryKind.{EntryKind}
 use Rattle.ang_view.specs.declared.entry.EntryKind.TheVariants.{HostType, Factory, Method, Property, Function, Global, Enumeration, EnumValue}
+use Rattle.ang_view.specs.Named.{is_bare, is_factory, is_value}
 use Rattle.ang_view.specs.Numbers.{primitive_number, pass_number}
 use Rattle.ang_view.specs.Registration.{RegistrationList}
 
@@ -52,17 +53,6 @@ same_parameters = pointwise same_parameter
 
 -- ---- what can't stand beside what
 
--- types, enumerations, functions and global properties share one space of names
-abbrev pub is_global_name : EntryKind → Bool
-is_global_name HostType = true
-is_global_name Factory = false
-is_global_name Method = false
-is_global_name Property = false
-is_global_name Function = true
-is_global_name Global = true
-is_global_name Enumeration = true
-is_global_name (EnumValue v) = false
-
 -- a type's methods and properties share its names
 abbrev pub is_member_name : EntryKind → Bool
 is_member_name HostType = false
@@ -73,27 +63,6 @@ is_member_name Function = false
 is_member_name Global = false
 is_member_name Enumeration = false
 is_member_name (EnumValue v) = false
-
-abbrev pub is_factory : EntryKind → Bool
-is_factory HostType = false
-is_factory Factory = true
-is_factory Method = false
-is_factory Property = false
-is_factory Function = false
-is_factory Global = false
-is_factory Enumeration = false
-is_factory (EnumValue v) = false
-
--- an enumeration's values share no names but one another's
-abbrev pub is_value : EntryKind → Bool
-is_value HostType = false
-is_value Factory = false
-is_value Method = false
-is_value Property = false
-is_value Function = false
-is_value Global = false
-is_value Enumeration = false
-is_value (EnumValue v) = true
 
 abbrev pub same_name : Signature → Signature → Bool
 same_name x y = bytes_eq x.name y.name
@@ -130,13 +99,13 @@ excludes_method (EnumValue v) x s = false
 -- Whether something of this kind, owner and signature can't stand beside the entry. Factories of one type differ in their
 -- parameters, whatever their names.
 abbrev pub clashes_with : EntryKind → Option EntityNo → Signature → Entry → Bool
-clashes_with HostType owner s x = is_global_name x.kind && same_name x.signature s
+clashes_with HostType owner s x = is_bare x.kind && same_name x.signature s
 clashes_with Factory owner s x = is_factory x.kind && same_owner x.owner owner && same_parameters x.signature.params s.params
 clashes_with Method owner s x = same_owner x.owner owner && same_name x.signature s && excludes_method x.kind x.signature s
 clashes_with Property owner s x = is_member_name x.kind && same_owner x.owner owner && same_name x.signature s
 clashes_with Function owner s x = same_name x.signature s && excludes_function x.kind x.signature s
-clashes_with Global owner s x = is_global_name x.kind && same_name x.signature s
-clashes_with Enumeration owner s x = is_global_name x.kind && same_name x.signature s
+clashes_with Global owner s x = is_bare x.kind && same_name x.signature s
+clashes_with Enumeration owner s x = is_bare x.kind && same_name x.signature s
 clashes_with (EnumValue v) owner s x = is_value x.kind && same_owner x.owner owner && same_name x.signature s
 
 abbrev pub clashes : EntryKind → Option EntityNo → Signature → Option Entry → Bool

@@ -7,9 +7,10 @@ use Rattle.ang_view.specs.declared.entry.EntryKind.{EntryKind}
 use Rattle.ang_view.specs.declared.entry.EntryKind.TheVariants.{HostType, Factory, Method, Property, Function, Global, Enumeration, EnumValue}
 use Rattle.ang_registry.specs.declared.error.RegError.{RegError}
 use Rattle.ang_registry.specs.declared.error.RegError.TheVariants.{Limit, EmptyMask, BadDeclaration, UnknownType, WrongDriver, Duplicate}
+use Rattle.ang_view.specs.Named.{is_factory}
 use Rattle.ang_view.specs.Registration.{RegistrationList, is_spelled_with}
 use Rattle.ang_registry.specs.Registrations.{Registrations}
-use Rattle.ang_registry.specs.Overloads.{is_factory, is_taken}
+use Rattle.ang_registry.specs.Overloads.{is_taken}
 use Rattle.ang_registry.specs.Types.{settled, is_misused, names_unknown, is_wrong_driver, mask_at}
 use Rattle.ang_view.specs.Types.{type_named, enumeration_named, number_at, driver_at}
 

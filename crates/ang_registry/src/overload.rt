@@ -1,6 +1,7 @@
 //! What can stand beside what.
 ghost use Rattle.std.specs.Prelude.{◌≡◌, map};
 ghost use Rattle.std.specs.List.{list_any};
+ghost use Rattle.ang_view.specs.Named.{is_bare};
 ghost use Rattle.ang_view.specs.Registration.{entry_at};
 ghost use Rattle.ang_registry.specs.Among as among;
 ghost use Rattle.ang_registry.specs.Overloads as spec;
@@ -65,7 +66,7 @@ fn clash_with(entry: &Entry, other: &Entry) -> bool
     let own = &entry.signature;
     match entry.kind {
         EntryKind::HostType | EntryKind::Global | EntryKind::Enumeration => {
-            is_global_name(other.kind) && is_same_name(&other.signature, own)
+            is_bare(other.kind) && is_same_name(&other.signature, own)
         }
         EntryKind::Factory => {
             matches!(other.kind, EntryKind::Factory)
@@ -93,8 +94,8 @@ fn clash_with(entry: &Entry, other: &Entry) -> bool
     }
 }
 
-fn is_global_name(kind: EntryKind) -> bool
-    ensures exact { result ≡ spec.is_global_name kind }
+fn is_bare(kind: EntryKind) -> bool
+    ensures exact { result ≡ is_bare kind }
 {
     match kind {
         EntryKind::HostType | EntryKind::Function | EntryKind::Global | EntryKind::Enumeration =>

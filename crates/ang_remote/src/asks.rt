@@ -1,15 +1,14 @@
 //! The text of an ask.
 ghost use Rattle.std.specs.Prelude.{◌≡◌, ◌++◌, OnOk, IfOk, codes, decimal, flat_map};
-ghost use Rattle.std.specs.Fmt.{signed_decimal};
-ghost use Rattle.ang_remote.specs.Asks.{key_text, value_text, values_text, object_text, kind_text, line_text};
+ghost use Rattle.ang_remote.specs.Asks.{value_text, values_text, kind_text, line_text};
 
 use ang_kinds::Value;
-use itoa::Buffer;
+use asrun_lines::{push_key, push_number, push_object, push_signed, push_text};
 use std::alloc::{AllocError, Global};
 
 /// What is asked.
-#[derive(Clone, Copy, PartialEq, Eq, Debug)]
-pub enum Kind {
+#[derive(Clone, Copy)]
+pub enum AskKind {
     /// A factory, for an object.
     Make,
     /// A function or a method.
@@ -18,34 +17,6 @@ pub enum Kind {
     Read,
     /// A property, to change it.
     Write,
-}
-
-fn push_text(out: &mut Vec<u8>, text: &str) -> Result<(), AllocError>
-    ensures added { OnOk result (out.new.items ≡ out.old.items ++ text.now) }
-{
-    out.extend_from_slice(text.as_bytes())
-}
-
-fn push_number(out: &mut Vec<u8>, n: u64) -> Result<(), AllocError>
-    ensures added { OnOk result (out.new.items ≡ out.old.items ++ decimal n) }
-{
-    let mut digits = Buffer::new();
-    push_text(out, digits.format(n))
-}
-
-fn push_signed(out: &mut Vec<u8>, n: i64) -> Result<(), AllocError>
-    ensures added { OnOk result (out.new.items ≡ out.old.items ++ signed_decimal n) }
-{
-    let mut buffer = Buffer::new();
-    push_text(out, buffer.format(n))
-}
-
-#[tactic(auto, using(crate::proofs::Texts::texts))]
-fn push_key(out: &mut Vec<u8>, key: u64) -> Result<(), AllocError>
-    ensures added { OnOk result (out.new.items ≡ out.old.items ++ key_text key) }
-{
-    push_text(out, "#")?;
-    push_number(out, key)
 }
 
 #[tactic(auto, using(crate::proofs::Texts::texts))]
@@ -95,25 +66,15 @@ fn push_values(out: &mut Vec<u8>, values: &[Value]) -> Result<(), AllocError>
     }
 }
 
-#[tactic(auto, using(crate::proofs::Texts::texts), unfolding(crate::specs::Asks::object_text))]
-fn push_object(out: &mut Vec<u8>, object: Option<u64>) -> Result<(), AllocError>
-    ensures added { OnOk result (out.new.items ≡ out.old.items ++ object_text object) }
-{
-    match object {
-        None => push_text(out, "-"),
-        Some(key) => push_key(out, key),
-    }
-}
-
 #[tactic(auto, unfolding(crate::specs::Asks::kind_text))]
-fn kind_name(kind: Kind) -> &'static str
+fn kind_name(kind: AskKind) -> &'static str
     ensures exact { result.now ≡ kind_text kind }
 {
     match kind {
-        Kind::Make => "make",
-        Kind::Call => "call",
-        Kind::Read => "read",
-        Kind::Write => "write",
+        AskKind::Make => "make",
+        AskKind::Call => "call",
+        AskKind::Read => "read",
+        AskKind::Write => "write",
     }
 }
 
@@ -125,7 +86,7 @@ fn kind_name(kind: Kind) -> &'static str
 pub fn ask_line(
     alloc: Global,
     driver: u32,
-    kind: Kind,
+    kind: AskKind,
     f: u32,
     object: Option<u64>,
     values: &[Value],

@@ -17,8 +17,8 @@ mod program;
 mod statement;
 
 pub use expression::{
-    Argument, Callee, Comparison, Expression, HostEntity, Member, Operator, Site, StepKind,
-    Variable,
+    Comparison, HostEntity, Operator, StepKind, TypedArgument, TypedCallee, TypedExpression,
+    TypedMember, TypedSite, TypedVariable,
 };
-pub use program::{Class, Function, Global, Heading, Parameter, Typed};
-pub use statement::{Block, Choice, For, Local, Loop, Statement};
+pub use program::{Global, Heading, Typed, TypedClass, TypedFunction, TypedParameter};
+pub use statement::{Local, TypedBlock, TypedChoice, TypedFor, TypedLoop, TypedStatement};

@@ -14,7 +14,7 @@ use Rattle.ang_view.specs.Registration.{RegistrationList, entry_at, function_nam
 use Rattle.ang_view.specs.Hidden.{numbers_of}
 use Rattle.ang_view.specs.Types.{enumeration_named, is_enumeration, is_enumeration_named, is_type_named, type_named}
 use Rattle.ang_view.proofs.Lists.{position-map}
-use Rattle.ang_view.specs.Named.{find, FindsSame, first_of, has_name, Indexes, is_bare, is_maker, is_member, is_member_kind, is_scope, is_value, is_value_named, makers, makes, name_by, name_in, numbers_at, numbers_under, owned, PutsEntry, scope_by, scope_in, Scopes, shifted, stands_under, value_scope_by, value_scope_in, values_named}
+use Rattle.ang_view.specs.Named.{find, FindsSame, first_of, has_name, Indexes, is_bare, is_factory, is_member, is_member_kind, is_scope, is_value, is_value_named, makers, makes, name_by, name_in, numbers_at, numbers_under, owned, PutsEntry, scope_by, scope_in, Scopes, shifted, stands_under, value_scope_by, value_scope_in, values_named}
 
 -- ---- one entry more
 
@@ -234,7 +234,7 @@ is_owned : (t : ℕ) (name : List ℕ) (o : Option Entry) → stands_under scope
 is_owned t name None = refl
 is_owned t name (Some x) = owned_by t name x.signature.name x.owner x.kind
 
-made_by : (t : ℕ) (own : List ℕ) (owner : Option EntityNo) (k : EntryKind) → (is_scope (2 * t + 2) (scope_by k owner) && bytes_eq (name_by k own) []) ≡ (is_maker k && is_number t owner)
+made_by : (t : ℕ) (own : List ℕ) (owner : Option EntityNo) (k : EntryKind) → (is_scope (2 * t + 2) (scope_by k owner) && bytes_eq (name_by k own) []) ≡ (is_factory k && is_number t owner)
 made_by t own owner entry.HostType = ap (λ b. b && bytes_eq own []) (none_above t 2 (omega arith))
 made_by t own owner entry.Factory = and_true (is_scope (2 * t + 2) (shifted 2 owner)) ∙ in_own t 2 owner
 made_by t own owner entry.Method = ap (λ b. b && bytes_eq own []) (no_member t owner)

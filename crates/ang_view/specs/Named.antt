@@ -34,15 +34,15 @@ is_member_kind Global = false
 is_member_kind Enumeration = false
 is_member_kind (EnumValue v) = true
 
-abbrev pub is_maker : EntryKind → Bool
-is_maker HostType = false
-is_maker Factory = true
-is_maker Method = false
-is_maker Property = false
-is_maker Function = false
-is_maker Global = false
-is_maker Enumeration = false
-is_maker (EnumValue v) = false
+abbrev pub is_factory : EntryKind → Bool
+is_factory HostType = false
+is_factory Factory = true
+is_factory Method = false
+is_factory Property = false
+is_factory Function = false
+is_factory Global = false
+is_factory Enumeration = false
+is_factory (EnumValue v) = false
 
 abbrev pub is_value : EntryKind → Bool
 is_value HostType = false
@@ -67,7 +67,7 @@ is_member t name (Some x) = is_member_kind x.kind && (is_number t x.owner && byt
 -- a factory of the type of number t
 abbrev pub makes : ℕ → Option Entry → Bool
 makes t None = false
-makes t (Some x) = is_maker x.kind && is_number t x.owner
+makes t (Some x) = is_factory x.kind && is_number t x.owner
 
 -- a value of this name, of whatever enumeration
 abbrev pub is_value_named : List ℕ → Option Entry → Bool

@@ -1,11 +1,17 @@
-//! Operations of a script on the host, done by real drivers over the store of a run: calls of functions and
-//! methods, makings of objects, and the reads and writes of properties (docs/MEANING.md, "Operations";
-//! docs/EMBEDDING.md, "Drivers").
+//! Does a script's operations over the store of a run, without a stack: on the host, by real drivers
+//! (calls, makings of objects, reads and writes of properties), and on globals, script objects and
+//! handles.
+//!
+//! Each says what `perform` comes to on the values of its operands (docs/MEANING.md, "Operations";
+//! docs/EMBEDDING.md, "Drivers"); `ang_vm_steps` has the operands on its stack.
 #![tactic(auto)]
 
 mod asking;
+pub mod fields;
 mod fitting;
+pub mod globals;
 mod handing;
+pub mod handles;
 mod operation;
 mod replies;
 mod rooms;

@@ -1,80 +1,49 @@
 -- A conversation, turn by turn.
-use Rattle.std.proofs.Common.{◌≡◌, ℕ, zero, suc, ◌+◌, ◌≤◌, ◌⊎◌, Bool, true, false, cond, if◌then◌else◌, nat_le, unwrap_or, codes, ◌&&◌, List, [], ◌∷◌, ◌++◌, length, take, Option, Some, None, Result, Ok, Err, IfOk, OnOk, refl, sym, ap, ◌∙◌, subst, inl, inr, arith, append_assoc, length-append}
+use Rattle.std.proofs.Common.{◌≡◌, ℕ, zero, suc, ◌+◌, ◌-◌, ◌≤◌, ◌<◌, ◌⊎◌, Bool, true, false, cond, if◌then◌else◌, nat_le, unwrap_or, codes, ◌&&◌, List, [], ◌∷◌, ◌++◌, length, take, drop, map, Option, Some, None, Result, Ok, Err, IfOk, OnOk, OnErr, refl, sym, ap, ◌∙◌, subst, inl, inr, arith, append_assoc, length-append, add-zero}
 use Rattle.std.specs.Option.{option_and_then}
-use Rattle.std.specs.List.{concat}
-use Rattle.std.specs.Io.KnownBytes.{Appends, Keeps, Consumes}
+use Rattle.std.specs.List.{concat, list_all}
+use Rattle.std.specs.Io.KnownBytes.{Appends, Consumes}
 use Rattle.std.specs.declared.alloc.Global.{Global}
 use Rattle.std.specs.declared.dyn_box.DynBox.{DynBox}
 use Rattle.std.proofs.lemmas.Bool.{cases_Bool, leb-true, le-leb}
 use Rattle.std.proofs.lemmas.List.{append-nil, take-append-le, drop_at}
-use Rattle.ang_host.specs.Meanings.{Meanings}
+use Rattle.std.proofs.Math.Seq.{take-append_seam, take-append-add}
+use Rattle.ang_host.specs.Events.{DriversFollow}
+use Rattle.ang_host.specs.Meanings.{Meanings, state_in}
+use Rattle.ang_host.specs.declared.event.HostEvent.{HostEvent}
+use Rattle.ang_host.proofs.Events.{AllFollow-join}
 use Rattle.ang_engine.specs.declared.engine.Engine.{Engine}
 use Rattle.ang_engine.specs.Engines.{registrations, world_in, drivers_in}
-use Rattle.ang_engine_world.specs.World.{World}
+use Rattle.ang_engine.specs.Step.{Runs}
+use Rattle.ang_engine_modules.specs.World.{World}
+use Rattle.ang_registry.specs.Roles.{roles_of}
 use Rattle.ang_view.specs.Registration.{RegistrationList}
-use Rattle.ang_remote.proofs.Streams.{appends_kept, consumes_both, consumes_nothing}
+use Rattle.ang_remote.proofs.Streams.{consumes_both, consumes_nothing}
 use Rattle.asrun_lines.specs.Lines.{lines_of, shown_of, is_skipped}
-use Rattle.asrun_lines.specs.SessionLines.{session_line_of}
+use Rattle.asrun_lines.specs.SessionLines.{session_line_of, is_header}
 use Rattle.asrun_lines.specs.declared.session_lines.SessionLine.{SessionLine}
 use Rattle.asrun_lines.specs.declared.session_lines.SessionLine.TheVariants as line
-use Rattle.ang_host.specs.declared.event.HostEvent.{HostEvent}
-use Rattle.asrun_session.specs.Deeds.{text_in, events_in, bad_line_text, IsPrinted, IsDone}
+use Rattle.asrun_lines.proofs.Headers.{may_head, no_header}
+use Rattle.asrun_session.specs.Deeds.{Deed, Ran, Set, Does as DoesDeed, commands_in, replies_in, deed_events, events_in, bad_line_text}
 use Rattle.asrun_session.specs.Drivers.{ByEvents}
-use Rattle.asrun_session.specs.Session.{Act, Session, act_of, section_act, session_from, behind_action, budget_after}
+use Rattle.asrun_session.specs.Session.{Act, act_of, section_act, budget_after}
 use Rattle.asrun_session.specs.Whole.{long_session_text}
-use Rattle.ang_engine_world.specs.declared.command.Command.TheVariants.{AddSection}
+use Rattle.asrun_session.specs.Writing.{HasFront}
+use Rattle.ang_engine_modules.specs.declared.command.Command.TheVariants.{AddSection}
 use Rattle.asrun_session.specs.declared.action.Action.TheVariants as action
 use Rattle.asrun_session.specs.declared.ending.Status.{Status}
-use Rattle.asrun_session.specs.declared.ending.Stop.{Stop}
+use Rattle.asrun_session.specs.declared.ending.SessionError.{SessionError}
 use Rattle.asrun_session.specs.declared.ending.Status.TheVariants.{AllOk, SomeRefused, BadInput}
 use Rattle.asrun_session.proofs.Appending.{appends_both}
-use Rattle.asrun_session.proofs.Doing.{HasDone, done_nothing, done_more, done_bad, done_all}
-use Rattle.asrun_session.proofs.Turns.{session_end, session_skipped, session_bad, session_act}
-use Rattle.asremote.specs.Commands.{section_lines, lines_told, lines_behind, turns_of, done_text, AreLines, IsCommand, ReadsCommand}
+use Rattle.asrun_session.proofs.Doing.{follow_nothing, front_none}
+use Rattle.asremote.specs.Commands.{section_lines, lines_told, lines_behind, AreLines, IsCommand, ReadsCommand, most_command}
 use Rattle.asremote.specs.declared.commands.Next.{Next}
 use Rattle.asremote.specs.declared.commands.Next.TheVariants as next
-use Rattle.asremote.specs.Turns.{Passes, Performs, Refuses, Goes, TakesOne}
+use Rattle.asremote.specs.Talk.{Says, Nothing, Does, Wrong, Talk, talk_from, behind_turn, ticks_after, Turned, Passed, Did, Unread, says_of, deed_in, deeds_in, is_right, turn_text, turns_text, done_line, status_of}
+use Rattle.asremote.specs.Turns.{said_by, IsSaid, IsEnding, IsTaken, Comes, Goes, Ends, GoesHalf, EndsHalf, Stays, TurnsHalf, TakesHalf, TakesOne}
 use Rattle.asremote.specs.declared.turns.At.{At}
-use Rattle.asremote.specs.Conversation.{Converses, untold}
+use Rattle.asremote.specs.Conversation.{but_last, IsHeld, IsTold, IsTooLong, Converses, IsCutShort}
 use Rattle.asremote.proofs.Lining.{lines_both, lines_here, no_lines}
-
--- ---- turns are counted
-
-no_turns : (lines : ℕ) → turns_of lines [] ≡ 0
-unfolding turns_of
-no_turns zero = refl
-no_turns (suc n) = refl
-
--- the lines of a section, whole or to the end
-section_passed : (k : ℕ) (section future : List (List ℕ)) → length section ≡ k → turns_of k (section ++ future) ≡ turns_of zero future
-unfolding turns_of
-section_passed zero [] future e = refl
-section_passed zero (l ∷ ls) future e = absurd (omega (arith, e))
-section_passed (suc k) [] future e = absurd (omega (arith, e))
-section_passed (suc k) (l ∷ ls) future e = section_passed k ls future (omega (arith, e))
-
-section_short : (k : ℕ) (section : List (List ℕ)) → length section ≤ k → turns_of k section ≡ 0
-unfolding turns_of
-section_short k [] le = no_turns k
-section_short zero (l ∷ ls) le = absurd (omega (arith, le))
-section_short (suc k) (l ∷ ls) le = section_short k ls (omega (arith, le))
-
-one_turn : (l : List ℕ) (ls : List (List ℕ)) → turns_of zero (l ∷ ls) ≡ 1 + turns_of (lines_behind (shown_of l)) ls
-unfolding turns_of
-one_turn l ls = refl
-
-abbrev done_line : List ℕ
-done_line = codes "done\n"
-
-done_line_more : (n : ℕ) → done_text n ++ done_line ≡ done_text (suc n)
-done_line_more zero = sym (append-nil done_line)
-done_line_more (suc n) = append_assoc done_line (done_text n) done_line ∙ ap (λ t. done_line ++ t) (done_line_more n)
-
-done_more_text : (n : ℕ) → done_text n ++ done_text 1 ≡ done_text (n + 1)
-done_more_text n =
-    let one : done_text 1 ≡ done_line = append-nil done_line in
-    let next : suc n ≡ n + 1 = omega arith in
-    ap (λ t. done_text n ++ t) one ∙ done_line_more n ∙ ap done_text next
 
 -- ---- what a command says does not depend on what follows its section
 
@@ -146,309 +115,602 @@ empty : (section : List (List ℕ)) → length section ≤ 0 → section ≡ []
 empty [] le = refl
 empty (l ∷ ls) le = absurd (omega (arith, le))
 
--- ---- what was done so far with the lines that were read
+-- a line that is no head has no lines of a section after it
+told_none : (o : Option SessionLine) → may_head o ≡ false → lines_told o ≡ 0
+told_none None e = refl
+told_none (Some (line.Module name mask)) e = refl
+told_none (Some (line.Section name lines)) e = absurd (let no : true ≡ false = e in cc)
+told_none (Some (line.Mask name mask)) e = refl
+told_none (Some (line.Build name)) e = refl
+told_none (Some (line.Bind name index exporter decl)) e = refl
+told_none (Some (line.Unbind name index)) e = refl
+told_none (Some (line.Discard name)) e = refl
+told_none (Some (line.Call name args decl)) e = refl
+told_none (Some (line.Budget ticks)) e = refl
 
-pub record HasCome {V : Type 0} {P : V → Type 0} (m : Meanings P) (R : RegistrationList) (w : World) (xs : List (DynBox V Global P)) (budget : ℕ)
-    (rold rnow wold wnow dold dnow : Option (List ℕ)) (text : List ℕ) (lines : List (List ℕ)) (number ticks : ℕ) (ok : Bool) (after : World)
-    (ys : List (DynBox V Global P)) : Type 0 where
-  pub read : Consumes rold rnow text
-  pub here : lines_of text ≡ lines
-  pub done : (future : List (List ℕ)) → HasDone m R w xs (session_from 1 budget zero (lines ++ future)) (session_from number ticks zero future) wold wnow ok after ys
-  pub count : ℕ
-  pub turns : (future : List (List ℕ)) → turns_of zero (lines ++ future) ≡ count + turns_of zero future
-  pub told : Appends dold dnow (done_text count)
+-- and where it does nothing, it is no line of a session
+no_line : (b : ℕ) (section : List (List ℕ)) (o : Option SessionLine) → may_head o ≡ false → option_and_then (act_of b section) o ≡ None → o ≡ None
+no_line b section None e f = refl
+no_line b section (Some (line.Module name mask)) e f = absurd (none_some _ (sym f))
+no_line b section (Some (line.Section name lines)) e f = absurd (let no : true ≡ false = e in cc)
+no_line b section (Some (line.Mask name mask)) e f = absurd (none_some _ (sym f))
+no_line b section (Some (line.Build name)) e f = absurd (none_some _ (sym f))
+no_line b section (Some (line.Bind name index exporter decl)) e f = absurd (none_some _ (sym f))
+no_line b section (Some (line.Unbind name index)) e f = absurd (none_some _ (sym f))
+no_line b section (Some (line.Discard name)) e f = absurd (none_some _ (sym f))
+no_line b section (Some (line.Call name args decl)) e f = absurd (none_some _ (sym f))
+no_line b section (Some (line.Budget ticks)) e f = absurd (none_some _ (sym f))
 
-appends_none : (o : Option (List ℕ)) → Appends o o []
-appends_none None = tt
-appends_none (Some xs) = sym (append-nil xs)
+-- ---- the lines of a conversation, one after the other
 
-from_none : (a b : Option (List ℕ)) (n : ℕ) → Appends a b (done_text n) → Appends a b (done_text (0 + n))
-from_none a b n h = let e : n ≡ 0 + n = omega arith in subst (λ k. Appends a b (done_text k)) e h
+talk_behind : (n b k : ℕ) (ls : List (List ℕ)) → k ≤ length ls → talk_from n b k ls ≡ talk_from (n + k) b zero (drop k ls)
+unfolding talk_from
+talk_behind n b zero ls h = ap (λ x. talk_from x b zero ls) (sym (add-zero n))
+talk_behind n b (suc k) [] h = absurd (omega arith)
+talk_behind n b (suc k) (l ∷ ls) h =
+    let e : (n + 1) + k ≡ n + suc k = omega arith in
+    talk_behind (n + 1) b k ls (omega arith) ∙ ap (λ x. talk_from x b zero (drop k ls)) e
 
-kept_appends : (a b c : Option (List ℕ)) (xs : List ℕ) → Keeps a b → Appends b c xs → Appends a c xs
-kept_appends None b c xs k p = tt
-kept_appends (Some ys) None c xs k p = absurd k
-kept_appends (Some ys) (Some zs) None xs k p = absurd p
-kept_appends (Some ys) (Some zs) (Some us) xs k p = p ∙ ap (λ z. z ++ xs) k
+talk_end : (n b : ℕ) → talk_from n b zero [] ≡ record { turns = []; bad_line = None }
+unfolding talk_from
+talk_end n b = refl
+
+talk_passed : (n b : ℕ) (l shown : List ℕ) (ls : List (List ℕ)) → shown ≡ shown_of l → is_skipped shown ≡ true
+    → talk_from n b zero (l ∷ ls) ≡ behind_turn Nothing (talk_from (n + 1) b zero ls)
+unfolding talk_from
+talk_passed n b l shown ls s e = rw (← s, e) refl
+
+talk_wrong : (n b : ℕ) (l shown : List ℕ) (ls : List (List ℕ)) → shown ≡ shown_of l → is_skipped shown ≡ false
+    → option_and_then (act_of b ls) (session_line_of shown) ≡ None → is_header shown ≡ false
+    → talk_from n b zero (l ∷ ls) ≡ behind_turn Wrong (talk_from (n + 1) b zero ls)
+unfolding talk_from
+talk_wrong n b l shown ls s e f h = rw (← s, e, f, h) refl
+
+talk_bad : (n b : ℕ) (l shown : List ℕ) (ls : List (List ℕ)) → shown ≡ shown_of l → is_skipped shown ≡ false
+    → option_and_then (act_of b ls) (session_line_of shown) ≡ None → is_header shown ≡ true
+    → talk_from n b zero (l ∷ ls) ≡ record { turns = []; bad_line = Some n }
+unfolding talk_from
+talk_bad n b l shown ls s e f h = rw (← s, e, f, h) refl
+
+talk_act : (n b : ℕ) (l shown : List ℕ) (ls : List (List ℕ)) (act : Act) → shown ≡ shown_of l → is_skipped shown ≡ false
+    → option_and_then (act_of b ls) (session_line_of shown) ≡ Some act → act.lines ≤ length ls
+    → talk_from n b zero (l ∷ ls) ≡ behind_turn (Does act.action) (talk_from (n + (1 + act.lines)) (budget_after b act.action) zero (drop act.lines ls))
+unfolding talk_from
+talk_act n b l shown ls act s e f h =
+    let place : (n + 1) + act.lines ≡ n + (1 + act.lines) = omega arith in
+    rw (← s, e, f) (ap (behind_turn (Does act.action)) (talk_behind (n + 1) (budget_after b act.action) act.lines ls h
+    ∙ ap (λ x. talk_from x (budget_after b act.action) zero (drop act.lines ls)) place))
+
+-- what a line says, whatever follows the lines of its section
+leads_on : (n b : ℕ) (line : List ℕ) (section future : List (List ℕ)) (says : Says) (lines : ℕ) → length section ≤ lines_behind (shown_of line)
+    → IsSaid b line section says lines
+    → talk_from n b zero (line ∷ (section ++ future)) ≡ behind_turn says (talk_from (n + (1 + lines)) (ticks_after b says) zero future)
+leads_on n b line section future Nothing lines within h =
+    let none : section ≡ [] = empty section (omega (arith, within, behind_none (shown_of line) h.0)) in
+    let place : n + 1 ≡ n + (1 + lines) = omega (arith, h.1) in
+    talk_passed n b line (shown_of line) (section ++ future) refl h.0
+    ∙ ap (λ ls. behind_turn Nothing (talk_from (n + 1) b zero (ls ++ future))) none
+    ∙ ap (λ k. behind_turn Nothing (talk_from k b zero future)) place
+leads_on n b line section future (Does a) lines within h =
+    let told : lines_told (session_line_of (shown_of line)) ≡ lines = option_lines b section (session_line_of (shown_of line)) (record { action = a; lines = lines }) h.1 in
+    let behind : lines_behind (shown_of line) ≡ lines = behind_told (shown_of line) h.0 ∙ told in
+    let whole : length section ≡ lines = omega (arith, within, h.2, behind) in
+    talk_act n b line (shown_of line) (section ++ future) (record { action = a; lines = lines }) refl h.0
+    (option_told b section future (session_line_of (shown_of line)) (record { action = a; lines = lines }) h.1) (omega (arith, whole, length-append section future))
+    ∙ ap (λ ls. behind_turn (Does a) (talk_from (n + (1 + lines)) (budget_after b a) zero ls)) (drop_at section future lines whole)
+leads_on n b line section future Wrong lines within h =
+    let head : may_head (session_line_of (shown_of line)) ≡ false = no_header (shown_of line) h.2 in
+    let behind : lines_behind (shown_of line) ≡ 0 = behind_told (shown_of line) h.0 ∙ told_none (session_line_of (shown_of line)) head in
+    let none : section ≡ [] = empty section (omega (arith, within, behind)) in
+    let line_is : session_line_of (shown_of line) ≡ None = no_line b section (session_line_of (shown_of line)) head h.1 in
+    let place : n + 1 ≡ n + (1 + lines) = omega (arith, h.3) in
+    talk_wrong n b line (shown_of line) (section ++ future) refl h.0 (ap (λ o. option_and_then (act_of b (section ++ future)) o) line_is) h.2
+    ∙ ap (λ ls. behind_turn Wrong (talk_from (n + 1) b zero (ls ++ future))) none
+    ∙ ap (λ k. behind_turn Wrong (talk_from k b zero future)) place
+
+-- ---- turns one after the other
+
+abbrev TurnDoes : RegistrationList → World → Turned → World → Type 0
+TurnDoes R w Passed after = w ≡ after
+TurnDoes R w (Did d) after = DoesDeed R w d after
+TurnDoes R w Unread after = w ≡ after
+
+abbrev DoAll : RegistrationList → World → List Turned → World → Type 0
+DoAll R w [] after = w ≡ after
+DoAll R w (t ∷ ts) after = (v : World) × TurnDoes R w t v × DoAll R v ts after
+
+do_more : (R : RegistrationList) (w v after : World) (ts : List Turned) (t : Turned) → DoAll R w ts v → TurnDoes R v t after → DoAll R w (ts ++ t ∷ []) after
+do_more R w v after [] t h e = (after, subst (λ x. TurnDoes R x t after) (sym h) e, refl)
+do_more R w v after (x ∷ xs) t h e = (h.0, h.1, do_more R h.0 v after xs t h.2 e)
+
+runs_all : (R : RegistrationList) (w after : World) (ts : List Turned) → DoAll R w ts after → Runs R w (commands_in (deeds_in ts)) (replies_in (deeds_in ts)) after
+runs_all R w after [] h = h
+runs_all R w after (Passed ∷ ts) h = rw h.1 (runs_all R h.0 after ts h.2)
+runs_all R w after (Unread ∷ ts) h = rw h.1 (runs_all R h.0 after ts h.2)
+runs_all R w after (Did (Ran c r) ∷ ts) h = (h.0, h.1, runs_all R h.0 after ts h.2)
+runs_all R w after (Did (Set ticks) ∷ ts) h = rw h.1 (runs_all R h.0 after ts h.2)
+
+text_more : (ts : List Turned) (t : Turned) → turns_text (ts ++ t ∷ []) ≡ turns_text ts ++ turn_text t
+text_more [] t = append-nil (turn_text t)
+text_more (x ∷ xs) t = ap (λ y. turn_text x ++ y) (text_more xs t) ∙ sym (append_assoc (turn_text x) (turns_text xs) (turn_text t))
+
+events_more : (ts : List Turned) (t : Turned) → events_in (deeds_in (ts ++ t ∷ [])) ≡ events_in (deeds_in ts) ++ events_in (deed_in t)
+events_more [] t = ap events_in (append-nil (deed_in t))
+events_more (Passed ∷ xs) t = events_more xs t
+events_more (Unread ∷ xs) t = events_more xs t
+events_more (Did d ∷ xs) t =
+    ap (λ y. deed_events d ++ y) (events_more xs t) ∙ sym (append_assoc (deed_events d) (events_in (deeds_in xs)) (events_in (deed_in t)))
+
+says_more : (ts : List Turned) (t : Turned) (left : List Says) → map says_of (ts ++ t ∷ []) ++ left ≡ map says_of ts ++ says_of t ∷ left
+says_more [] t left = refl
+says_more (x ∷ xs) t left = ap (λ y. says_of x ∷ y) (says_more xs t left)
 
 and_true : (b : Bool) → (b && true) ≡ b
 and_true true = refl
 and_true false = refl
 
-module _ {V : Type 0} {P : V → Type 0} (m : Meanings P) (R : RegistrationList) (w : World) (xs : List (DynBox V Global P)) (budget : ℕ) (rold wold dold : Option (List ℕ)) where
-  done_kept : (w1 w2 : Option (List ℕ)) (whole left : Session) (ok : Bool) (after : World) (ys : List (DynBox V Global P))
-      → HasDone m R w xs whole left wold w1 ok after ys → Keeps w1 w2 → HasDone m R w xs whole left wold w2 ok after ys
-  done_kept w1 w2 whole left ok after ys d k = record {
-    deeds = d.deeds;
-    actions = d.actions;
-    bad_line = d.bad_line;
-    does = d.does;
-    follow = d.follow;
-    printed = appends_kept wold w1 w2 (text_in d.deeds) d.printed k;
-    all_ok = d.all_ok;
-  }
+and_assoc : (a b c : Bool) → (a && (b && c)) ≡ ((a && b) && c)
+and_assoc true b c = refl
+and_assoc false b c = refl
 
-  -- the writer of replies keeps what it has
-  pub come_kept : (r1 w1 w2 d1 : Option (List ℕ)) (text : List ℕ) (lines : List (List ℕ)) (number ticks : ℕ) (ok : Bool) (after : World) (ys : List (DynBox V Global P))
-      → HasCome m R w xs budget rold r1 wold w1 dold d1 text lines number ticks ok after ys → Keeps w1 w2
-      → HasCome m R w xs budget rold r1 wold w2 dold d1 text lines number ticks ok after ys
-  come_kept r1 w1 w2 d1 text lines number ticks ok after ys h k = record {
-    read = h.read;
-    here = h.here;
-    done = λ future. done_kept w1 w2 (session_from 1 budget zero (lines ++ future)) (session_from number ticks zero future) ok after ys (h.done future) k;
-    count = h.count;
-    turns = h.turns;
-    told = h.told;
-  }
+all_more : (ts : List Turned) (t : Turned) → list_all is_right (ts ++ t ∷ []) ≡ (list_all is_right ts && is_right t)
+all_more [] t = and_true (is_right t)
+all_more (x ∷ xs) t = ap (λ b. is_right x && b) (all_more xs t) ∙ and_assoc (is_right x) (list_all is_right xs) (is_right t)
 
-  pub come_first : HasCome m R w xs budget rold rold wold wold dold dold [] [] 1 budget true w xs
+-- the first turns have no more text than all
+text_front : (k : ℕ) (ts : List Turned) → length (turns_text (take k ts)) ≤ length (turns_text ts)
+text_front zero ts = omega arith
+text_front (suc k) [] = omega arith
+text_front (suc k) (t ∷ ts) =
+    omega (arith, text_front k ts, length-append (turn_text t) (turns_text (take k ts)), length-append (turn_text t) (turns_text ts))
+
+but_last_is : (ts : List Turned) (t : Turned) → but_last (ts ++ t ∷ []) ≡ ts
+but_last_is ts t =
+    let others : length (ts ++ t ∷ []) - 1 ≡ length ts = omega (arith, length-append ts (t ∷ [])) in
+    ap (λ k. take k (ts ++ t ∷ [])) others ∙ take-append_seam ts (t ∷ [])
+
+appends_none : (o : Option (List ℕ)) → Appends o o []
+appends_none None = tt
+appends_none (Some xs) = sym (append-nil xs)
+
+-- a text, and a front of one more
+front_behind : (old mid new : Option (List ℕ)) (text one : List ℕ) → Appends old mid text → (q : HasFront mid new one)
+    → (p : HasFront old new (text ++ one)) × (p.count ≡ length text + q.count)
+front_behind old mid new text one p q = (
+  record {
+    count = length text + q.count;
+    within = omega (arith, q.within, length-append text one);
+    printed = subst (λ t. Appends old new t) (sym (take-append-add text one q.count)) (appends_both old mid new text (take q.count one) p q.printed);
+  },
+  refl,
+)
+
+-- ---- what a turn does
+
+module _ {V : Type 0} {P : V → Type 0} (m : Meanings P) (e f : Engine V P) where
+  turn_does : (t : Turned) → Comes m e f t → TurnDoes (registrations e) (world_in m e) t (world_in m f)
+  turn_does Passed h = ap (λ g. world_in m g) (sym h)
+  turn_does (Did d) h = h.0
+  turn_does Unread h = ap (λ g. world_in m g) (sym h)
+
+  turn_follows : (t : Turned) → Comes m e f t → DriversFollow m (roles_of (registrations e)) (drivers_in e) (events_in (deed_in t)) (drivers_in f)
+  turn_follows Passed h =
+      subst (λ g. DriversFollow m (roles_of (registrations e)) (drivers_in e) [] (drivers_in g)) (sym h) (follow_nothing m (registrations e) (drivers_in e))
+  turn_follows (Did d) h =
+      subst (λ es. DriversFollow m (roles_of (registrations e)) (drivers_in e) es (drivers_in f)) (sym (append-nil (deed_events d))) h.1
+  turn_follows Unread h =
+      subst (λ g. DriversFollow m (roles_of (registrations e)) (drivers_in e) [] (drivers_in g)) (sym h) (follow_nothing m (registrations e) (drivers_in e))
+
+-- ---- what was done so far with the lines that were read
+
+pub record HasCome {V : Type 0} {P : V → Type 0} (m : Meanings P) (R : RegistrationList) (w : World) (xs : List (DynBox V Global P)) (budget : ℕ)
+    (rold rnow : Option (List ℕ)) (text : List ℕ) (lines : List (List ℕ)) (number ticks : ℕ) (turns : List Turned) (after : World)
+    (ys : List (DynBox V Global P)) : Type 0 where
+  pub read : Consumes rold rnow text
+  pub here : lines_of text ≡ lines
+  pub said : (future : List (List ℕ)) → (talk_from 1 budget zero (lines ++ future)).turns ≡ map says_of turns ++ (talk_from number ticks zero future).turns
+  pub ends : (future : List (List ℕ)) → (talk_from 1 budget zero (lines ++ future)).bad_line ≡ (talk_from number ticks zero future).bad_line
+  pub does : DoAll R w turns after
+  pub follow : DriversFollow m (roles_of R) xs (events_in (deeds_in turns)) ys
+
+-- and what was printed
+pub record HasGone {V : Type 0} {P : V → Type 0} (m : Meanings P) (R : RegistrationList) (w : World) (xs : List (DynBox V Global P)) (budget : ℕ)
+    (rold rnow wold wnow : Option (List ℕ)) (text : List ℕ) (lines : List (List ℕ)) (number ticks : ℕ) (ok : Bool) (after : World)
+    (ys : List (DynBox V Global P)) : Type 0 where
+  pub turns : List Turned
+  pub come : HasCome m R w xs budget rold rnow text lines number ticks turns after ys
+  pub printed : Appends wold wnow (turns_text turns)
+  pub all_ok : ok ≡ list_all is_right turns
+
+module _ {V : Type 0} {P : V → Type 0} (m : Meanings P) (R : RegistrationList) (w : World) (xs : List (DynBox V Global P)) (budget : ℕ) (rold wold : Option (List ℕ)) where
+  pub come_first : HasCome m R w xs budget rold rold [] [] 1 budget [] w xs
   come_first = record {
     read = consumes_nothing rold;
     here = lines_here [] [] no_lines;
-    done = λ future. done_nothing m R w xs (session_from 1 budget zero future) wold;
-    count = 0;
-    turns = λ future. (let e : turns_of zero future ≡ 0 + turns_of zero future = omega arith in e);
-    told = appends_none dold;
+    said = λ future. refl;
+    ends = λ future. refl;
+    does = refl;
+    follow = follow_nothing m R xs;
   }
 
+  pub gone_first : HasGone m R w xs budget rold rold wold wold [] [] 1 budget true w xs
+  gone_first = record { turns = []; come = come_first; printed = appends_none wold; all_ok = refl }
+
   -- nothing more was read
-  pub come_read : (r1 r2 w1 d1 : Option (List ℕ)) (text : List ℕ) (lines : List (List ℕ)) (number ticks : ℕ) (ok : Bool) (after : World) (ys : List (DynBox V Global P))
-      → HasCome m R w xs budget rold r1 wold w1 dold d1 text lines number ticks ok after ys → Consumes r1 r2 []
-      → HasCome m R w xs budget rold r2 wold w1 dold d1 text lines number ticks ok after ys
-  come_read r1 r2 w1 d1 text lines number ticks ok after ys h c =
-      let all : Consumes rold r2 (text ++ []) = consumes_both rold r1 r2 text [] h.read c in
-      record { read = subst (λ x. Consumes rold r2 x) (append-nil text) all; here = h.here; done = h.done; count = h.count; turns = h.turns; told = h.told }
+  pub gone_read : (r1 r2 w1 : Option (List ℕ)) (text : List ℕ) (lines : List (List ℕ)) (number ticks : ℕ) (ok : Bool) (after : World) (ys : List (DynBox V Global P))
+      → HasGone m R w xs budget rold r1 wold w1 text lines number ticks ok after ys → Consumes r1 r2 []
+      → HasGone m R w xs budget rold r2 wold w1 text lines number ticks ok after ys
+  gone_read r1 r2 w1 text lines number ticks ok after ys h c =
+      let all : Consumes rold r2 (text ++ []) = consumes_both rold r1 r2 text [] h.come.read c in
+      record {
+        turns = h.turns;
+        come = record {
+          read = subst (λ x. Consumes rold r2 x) (append-nil text) all;
+          here = h.come.here;
+          said = h.come.said;
+          ends = h.come.ends;
+          does = h.come.does;
+          follow = h.come.follow;
+        };
+        printed = h.printed;
+        all_ok = h.all_ok;
+      }
 
-  -- the session after a command
-  module _ (r1 w1 d1 : Option (List ℕ)) (text : List ℕ) (lines : List (List ℕ)) (number ticks : ℕ) (ok : Bool) (e : Engine V P)
-      (h : HasCome m R w xs budget rold r1 wold w1 dold d1 text lines number ticks ok (world_in m e) (drivers_in e)) (list : registrations e ≡ R)
-      (c line : List ℕ) (section : List (List ℕ)) (is : IsCommand c line section) (r2 : Option (List ℕ)) (read : Consumes r1 r2 c)
-      (cut : lines_of (text ++ c) ≡ lines ++ line ∷ section) where
-    joined : (future : List (List ℕ)) → lines ++ ((line ∷ section) ++ future) ≡ (lines ++ line ∷ section) ++ future
-    joined future = sym (append_assoc lines (line ∷ section) future)
+  -- ---- where the lines that were read are all
 
-    counted : (future : List (List ℕ)) → length section ≡ lines_behind (shown_of line)
-        → turns_of zero ((lines ++ line ∷ section) ++ future) ≡ (h.count + 1) + turns_of zero future
-    counted future e =
-        let here : turns_of zero (line ∷ (section ++ future)) ≡ 1 + turns_of zero future =
-        one_turn line (section ++ future) ∙ ap (λ n. 1 + n) (section_passed (lines_behind (shown_of line)) section future e) in
-        ap (λ ls. turns_of zero ls) (sym (joined future)) ∙ h.turns (line ∷ (section ++ future)) ∙ ap (λ n. h.count + n) here ∙ omega arith
+  module _ (r1 : Option (List ℕ)) (text : List ℕ) (lines : List (List ℕ)) (number ticks : ℕ) (turns : List Turned) (after : World) (ys : List (DynBox V Global P))
+      (h : HasCome m R w xs budget rold r1 text lines number ticks turns after ys) where
+    whole_lines : lines_of text ≡ lines ++ []
+    whole_lines = h.here ∙ sym (append-nil lines)
 
-    told_once : (d2 : Option (List ℕ)) → Appends d1 d2 (done_text 1) → Appends dold d2 (done_text (h.count + 1))
-    told_once d2 d = subst (λ t. Appends dold d2 t) (done_more_text h.count) (appends_both dold d1 d2 (done_text h.count) (done_text 1) h.told d)
+    pub going_on : (talk_from 1 budget 0 (lines_of text)).bad_line ≡ None
+    going_on = ap (λ ls. (talk_from 1 budget 0 ls).bad_line) whole_lines ∙ h.ends [] ∙ ap (λ s. s.bad_line) (talk_end number ticks)
 
-    module _ (f : Engine V P) (w2 : Option (List ℕ)) (one : Bool) (next many : ℕ) where
-      performed : Performs m e f w1 w2 ticks line section one next many → (d2 : Option (List ℕ)) → Appends d1 d2 (done_text 1)
-          → HasCome m R w xs budget rold r2 wold w2 dold d2 (text ++ c) (lines ++ line ∷ section) (number + (1 + many)) next (ok && one) (world_in m f) (drivers_in f)
-      performed p d2 d =
-          let told : lines_told (session_line_of (shown_of line)) ≡ p.act.lines = option_lines ticks section (session_line_of (shown_of line)) p.act p.said in
-          let behind : lines_behind (shown_of line) ≡ p.act.lines = behind_told (shown_of line) p.told ∙ told in
-          let whole : length section ≡ p.act.lines = omega (arith, is.within, p.within, behind) in
-          let left : (future : List (List ℕ)) → session_from number ticks zero (line ∷ (section ++ future)) ≡ behind_action p.act.action (session_from (number + (1 + many)) next zero future) =
-          λ future. session_act number ticks line (shown_of line) (line ∷ (section ++ future)) (section ++ future) p.act refl refl p.told
-          (option_told ticks section future (session_line_of (shown_of line)) p.act p.said) (omega (arith, whole, length-append section future))
-          ∙ ap (λ ls. behind_action p.act.action (session_from (number + (1 + p.act.lines)) (budget_after ticks p.act.action) zero ls)) (drop_at section future p.act.lines whole)
-          ∙ ap (λ n. behind_action p.act.action (session_from (number + (1 + n)) (budget_after ticks p.act.action) zero future)) (sym p.lines_are)
-          ∙ ap (λ t. behind_action p.act.action (session_from (number + (1 + many)) t zero future)) (sym p.budget) in
-          let printed : IsPrinted m R (world_in m e) (drivers_in e) p.act.action w1 w2 one (world_in m f) (drivers_in f) =
-          subst (λ l. IsPrinted m l (world_in m e) (drivers_in e) p.act.action w1 w2 one (world_in m f) (drivers_in f)) list p.printed in
-          record {
-            read = consumes_both rold r1 r2 text c h.read read;
-            here = cut;
-            done = λ future.
-                done_more m R w (world_in m e) (world_in m f) xs (drivers_in e) (drivers_in f) (session_from 1 budget zero ((lines ++ line ∷ section) ++ future))
-                (session_from number ticks zero (line ∷ (section ++ future))) (session_from (number + (1 + many)) next zero future) wold w1 w2 ok one p.act.action
-                (subst (λ ls. HasDone m R w xs (session_from 1 budget zero ls) (session_from number ticks zero (line ∷ (section ++ future))) wold w1 ok (world_in m e) (drivers_in e))
-                (joined future) (h.done (line ∷ (section ++ future)))) (left future) printed;
-            count = h.count + 1;
-            turns = λ future. counted future (omega (arith, whole, behind));
-            told = told_once d2 d;
-          }
+    pub held : IsHeld R w (talk_from 1 budget 0 (lines_of text)) turns (events_in (deeds_in turns)) after
+    held = record {
+      said = ap (λ ls. (talk_from 1 budget 0 ls).turns) whole_lines ∙ h.said [] ∙ ap (λ s. map says_of turns ++ s.turns) (talk_end number ticks) ∙ append-nil (map says_of turns);
+      replies = runs_all R w after turns h.does;
+      events = refl;
+    }
 
-      passed : Passes m e f w1 w2 ticks line one next many → (d2 : Option (List ℕ)) → Appends d1 d2 (done_text 1)
-          → HasCome m R w xs budget rold r2 wold w2 dold d2 (text ++ c) (lines ++ line ∷ section) (number + (1 + many)) next (ok && one) (world_in m f) (drivers_in f)
-      passed p d2 d =
-          let behind : lines_behind (shown_of line) ≡ 0 = behind_none (shown_of line) p.told in
-          let none : section ≡ [] = empty section (omega (arith, is.within, behind)) in
-          let place : number + 1 ≡ number + (1 + many) = omega (arith, p.lines_are) in
-          let left : (future : List (List ℕ)) → session_from number ticks zero (line ∷ (section ++ future)) ≡ session_from (number + (1 + many)) next zero future =
-          λ future. session_skipped number ticks line (shown_of line) (line ∷ (section ++ future)) (section ++ future) refl refl p.told
-          ∙ ap (λ ls. session_from (number + 1) ticks zero (ls ++ future)) none ∙ ap (λ n. session_from n ticks zero future) place
-          ∙ ap (λ t. session_from (number + (1 + many)) t zero future) (sym p.budget) in
-          let same_ok : ok ≡ (ok && one) = sym (and_true ok) ∙ ap (λ b. ok && b) (sym p.is_ok) in
-          let before : (future : List (List ℕ)) → HasDone m R w xs (session_from 1 budget zero ((lines ++ line ∷ section) ++ future))
-          (session_from (number + (1 + many)) next zero future) wold w1 ok (world_in m e) (drivers_in e) =
-          λ future. subst (λ s. HasDone m R w xs (session_from 1 budget zero ((lines ++ line ∷ section) ++ future)) s wold w1 ok (world_in m e) (drivers_in e)) (left future)
-          (subst (λ ls. HasDone m R w xs (session_from 1 budget zero ls) (session_from number ticks zero (line ∷ (section ++ future))) wold w1 ok (world_in m e) (drivers_in e))
-          (joined future) (h.done (line ∷ (section ++ future)))) in
-          record {
-            read = consumes_both rold r1 r2 text c h.read read;
-            here = cut;
-            done = λ future.
-                subst (λ g. HasDone m R w xs (session_from 1 budget zero ((lines ++ line ∷ section) ++ future)) (session_from (number + (1 + many)) next zero future) wold w2 (ok && one) (world_in m g) (drivers_in g))
-                (sym p.engine)
-                (subst (λ b. HasDone m R w xs (session_from 1 budget zero ((lines ++ line ∷ section) ++ future)) (session_from (number + (1 + many)) next zero future) wold w2 b (world_in m e) (drivers_in e)) same_ok
-                (subst (λ o. HasDone m R w xs (session_from 1 budget zero ((lines ++ line ∷ section) ++ future)) (session_from (number + (1 + many)) next zero future) wold o ok (world_in m e) (drivers_in e)) (sym p.nothing)
-                (before future)));
-            count = h.count + 1;
-            turns = λ future. counted future (omega (arith, ap length none, behind));
-            told = told_once d2 d;
-          }
-
-      pub come_on : (Passes m e f w1 w2 ticks line one next many ⊎ Performs m e f w1 w2 ticks line section one next many) → (d2 : Option (List ℕ)) → Appends d1 d2 (done_text 1)
-          → HasCome m R w xs budget rold r2 wold w2 dold d2 (text ++ c) (lines ++ line ∷ section) (number + (1 + many)) next (ok && one) (world_in m f) (drivers_in f)
-      come_on (inl p) d2 d = passed p d2 d
-      come_on (inr p) d2 d = performed p d2 d
-
-    -- a turn that was told
-    pub come_goes : (f : Engine V P) (w3 d2 : Option (List ℕ)) (at : At) → Goes m e f w1 w3 d1 d2 number ticks line section at
-        → HasCome m R w xs budget rold r2 wold w3 dold d2 (text ++ c) (lines ++ line ∷ section) at.number at.ticks (ok && at.ok) (world_in m f) (drivers_in f)
-    come_goes f w3 d2 at g =
-        subst (λ n. HasCome m R w xs budget rold r2 wold w3 dold d2 (text ++ c) (lines ++ line ∷ section) n at.ticks (ok && at.ok) (world_in m f) (drivers_in f)) (sym g.place)
-        (come_kept r2 g.middle w3 d2 (text ++ c) (lines ++ line ∷ section) (number + (1 + g.many)) at.ticks (ok && at.ok) (world_in m f) (drivers_in f)
-        (come_on f g.middle at.ok at.ticks g.many g.turned d2 g.done) g.kept)
-
-    -- a line of another form ends it
-    pub ends_bad : (f : Engine V P) (w2 : Option (List ℕ)) → Refuses m e f w1 w2 number ticks line section
-        → ByEvents m R xs (λ es. Converses R w budget 0 rold r2 wold w2 dold d1 BadInput es (world_in m f)) (drivers_in f)
-    ends_bad f w2 p =
-        let left = session_bad number ticks line (shown_of line) (line ∷ section) section refl refl p.told p.said in
-        let bad = done_bad m R w (world_in m e) xs (drivers_in e) (session_from 1 budget zero (lines ++ line ∷ section)) (session_from number ticks zero (line ∷ section)) wold w1 w2 ok number
-        (h.done (line ∷ section)) left p.printed in
-        let whole : lines ++ line ∷ section ≡ lines_of (text ++ c) = sym cut in
-        let line_is : (session_from 1 budget zero (lines_of (text ++ c))).bad_line ≡ Some number =
-        ap (λ ls. (session_from 1 budget zero ls).bad_line) cut ∙ (h.done (line ∷ section)).bad_line ∙ ap (λ s. s.bad_line) left in
-        let here : turns_of zero (line ∷ section) ≡ 1 =
-        one_turn line section ∙ ap (λ n. 1 + n) (section_short (lines_behind (shown_of line)) section is.within) in
-        let all : turns_of zero (lines_of (text ++ c)) ≡ h.count + 1 = ap (λ ls. turns_of zero ls) cut ∙ h.turns (line ∷ section) ∙ ap (λ n. h.count + n) here in
-        subst (λ g. ByEvents m R xs (λ es. Converses R w budget 0 rold r2 wold w2 dold d1 BadInput es (world_in m g)) (drivers_in g)) (sym p.same) (
-          bad.0,
-          inl (record {
-            text = text ++ c;
-            read = consumes_both rold r1 r2 text c h.read read;
-            replies = subst (λ ls. IsDone R w (session_from 1 budget zero ls) wold w2 BadInput bad.0 (world_in m e)) whole bad.1;
-            turns = h.count;
-            counted = all ∙ ap (λ b. h.count + untold b) (sym line_is);
-            told = from_none dold d1 h.count h.told;
-          }),
-          bad.2,
-        )
-
-  module _ (r1 w1 d1 : Option (List ℕ)) (text : List ℕ) (lines : List (List ℕ)) (number ticks : ℕ) (ok : Bool) (after : World) (ys : List (DynBox V Global P))
-      (h : HasCome m R w xs budget rold r1 wold w1 dold d1 text lines number ticks ok after ys) where
+  module _ (r1 w1 : Option (List ℕ)) (text : List ℕ) (lines : List (List ℕ)) (number ticks : ℕ) (ok : Bool) (after : World) (ys : List (DynBox V Global P))
+      (h : HasGone m R w xs budget rold r1 wold w1 text lines number ticks ok after ys) where
     -- no line is left
-    pub ends_all : ByEvents m R xs (λ es. Converses R w budget 0 rold r1 wold w1 dold d1 (cond ok AllOk SomeRefused) es after) ys
+    pub ends_all : ByEvents m R xs (λ es. Converses R w budget [] rold r1 wold w1 (cond ok AllOk SomeRefused) es after) ys
     ends_all =
-        let left = session_end number ticks [] refl in
-        let end = done_all m R w after xs ys (session_from 1 budget zero (lines ++ [])) (session_from number ticks zero []) wold w1 ok (h.done []) left in
-        let whole : lines ++ [] ≡ lines_of text = append-nil lines ∙ sym h.here in
-        let good : (session_from 1 budget zero (lines_of text)).bad_line ≡ None =
-        ap (λ ls. (session_from 1 budget zero ls).bad_line) (sym whole) ∙ (h.done []).bad_line ∙ ap (λ s. s.bad_line) left in
-        let all : turns_of zero (lines_of text) ≡ h.count + 0 = ap (λ ls. turns_of zero ls) (sym whole) ∙ h.turns [] ∙ ap (λ n. h.count + n) (no_turns zero) in (
-          end.0,
+        let good = going_on r1 text lines number ticks h.turns after ys h.come in
+        let same : turns_text h.turns ≡ turns_text h.turns ++ bad_line_text (talk_from 1 budget 0 (lines_of text)).bad_line =
+        sym (append-nil (turns_text h.turns)) ∙ ap (λ b. turns_text h.turns ++ bad_line_text b) (sym good) in (
+          events_in (deeds_in h.turns),
           inl (record {
             text = text;
-            read = h.read;
-            replies = subst (λ ls. IsDone R w (session_from 1 budget zero ls) wold w1 (cond ok AllOk SomeRefused) end.0 after) whole end.1;
-            turns = h.count;
-            counted = all ∙ ap (λ b. h.count + untold b) (sym good);
-            told = from_none dold d1 h.count h.told;
+            turns = h.turns;
+            read = h.come.read;
+            held = held r1 text lines number ticks h.turns after ys h.come;
+            printed = subst (λ t. Appends wold w1 t) same h.printed;
+            ending = ap (λ b. cond b AllOk SomeRefused) h.all_ok ∙ ap (λ b. status_of b h.turns) (sym good);
           }),
-          end.2,
+          h.come.follow,
         )
 
-    -- a command was too long, whatever was read of it
-    pub ends_long : (r2 w2 : Option (List ℕ)) → Appends w1 w2 long_session_text
-        → ByEvents m R xs (λ es. Converses R w budget 0 rold r2 wold w2 dold d1 BadInput es after) ys
-    ends_long r2 w2 p =
-        let d = h.done [] in (
-          events_in d.deeds,
-          inr (refl, text_in d.deeds, appends_both wold w1 w2 (text_in d.deeds) long_session_text d.printed p),
-          d.follow,
+    -- a command was too long
+    pub ends_long : (r2 w2 : Option (List ℕ)) (more : List ℕ) → Consumes r1 r2 more → most_command < length more → Appends w1 w2 long_session_text
+        → ByEvents m R xs (λ es. Converses R w budget [] rold r2 wold w2 BadInput es after) ys
+    ends_long r2 w2 more c long p = (
+      events_in (deeds_in h.turns),
+      inr (record {
+        text = text;
+        more = more;
+        turns = h.turns;
+        read = consumes_both rold r1 r2 text more h.come.read c;
+        long = long;
+        held = held r1 text lines number ticks h.turns after ys h.come;
+        going_on = going_on r1 text lines number ticks h.turns after ys h.come;
+        printed = appends_both wold w1 w2 (turns_text h.turns) long_session_text h.printed p;
+        ending = refl;
+      }),
+      h.come.follow,
+    )
+
+    pub long_over : (r2 w2 : Option (List ℕ)) (ended : Result Status SessionError) → ((more : List ℕ) × Consumes r1 r2 more × (most_command < length more))
+        → OnOk ended (Appends w1 w2 long_session_text) → IfOk ended (λ status. status ≡ BadInput)
+        → IfOk ended (λ status. ByEvents m R xs (λ es. Converses R w budget [] rold r2 wold w2 status es after) ys)
+    long_over r2 w2 (Err why) c p e = tt
+    long_over r2 w2 (Ok status) c p e =
+        subst (λ t. ByEvents m R xs (λ es. Converses R w budget [] rold r2 wold w2 t es after) ys) (sym e) (ends_long r2 w2 c.0 c.1 c.2 p)
+
+    -- it is cut short after a front of one text more
+    pub cut_after : (r2 w2 : Option (List ℕ)) (last : List ℕ) → ((talk_from 1 budget 0 (lines_of text)).bad_line ≡ None → (last ≡ bad_line_text (talk_from 1 budget 0 (lines_of text)).bad_line)
+        ⊎ (((talk_from 1 budget 0 (lines_of text)).bad_line ≡ None) × (last ≡ long_session_text))) → HasFront w1 w2 last
+        → ByEvents m R xs (λ es. IsCutShort R w budget [] rold r2 wold w2 es after) ys
+    cut_after r2 w2 last can p =
+        let front = front_behind wold w1 w2 (turns_text h.turns) last h.printed p in (
+          events_in (deeds_in h.turns),
+          record {
+            text = text;
+            turns = h.turns;
+            last = last;
+            read = (r1, h.come.read);
+            held = held r1 text lines number ticks h.turns after ys h.come;
+            can_end = can (going_on r1 text lines number ticks h.turns after ys h.come);
+            printed = front.0;
+            whole = omega (arith, front.1, text_front (length h.turns - 1) h.turns);
+          },
+          h.come.follow,
         )
 
-    pub long_over : (r2 w2 : Option (List ℕ)) (ended : Result Status Stop) → OnOk ended (Appends w1 w2 long_session_text) → IfOk ended (λ status. status ≡ BadInput)
-        → IfOk ended (λ status. ByEvents m R xs (λ es. Converses R w budget 0 rold r2 wold w2 dold d1 status es after) ys)
-    long_over r2 w2 (Err why) p e = tt
-    long_over r2 w2 (Ok status) p e =
-        subst (λ t. ByEvents m R xs (λ es. Converses R w budget 0 rold r2 wold w2 dold d1 t es after) ys) (sym e) (ends_long r2 w2 p)
+    -- it is cut short here
+    pub cut_here : (r2 : Option (List ℕ)) → ByEvents m R xs (λ es. IsCutShort R w budget [] rold r2 wold w1 es after) ys
+    cut_here r2 = cut_after r2 w1 [] (λ good. inl (ap bad_line_text (sym good))) (front_none w1 [])
 
-  -- what a turn comes to
-  module _ (r1 w1 d1 : Option (List ℕ)) (number ticks : ℕ) (ok : Bool) (e f : Engine V P) (list : registrations e ≡ R)
-      (come : (text : List ℕ) × (lines : List (List ℕ)) × AreLines text lines × HasCome m R w xs budget rold r1 wold w1 dold d1 text lines number ticks ok (world_in m e) (drivers_in e))
-      (c now : List ℕ) (same : now ≡ c) (x : Next) (r2 w3 d2 : Option (List ℕ)) (read : ReadsCommand r1 r2 x c) (o : Option At)
-      (taken : TakesOne m e f w1 w3 d1 d2 number ticks now o) where
-    taken_as : (p : Option At) → o ≡ p → TakesOne m e f w1 w3 d1 d2 number ticks c p
-    taken_as p is = subst (λ q. TakesOne m e f w1 w3 d1 d2 number ticks c q) is (subst (λ y. TakesOne m e f w1 w3 d1 d2 number ticks y o) same taken)
+    pub cut_long : (r2 w2 : Option (List ℕ)) (ended : Result Status SessionError) → OnErr ended (HasFront w1 w2 long_session_text)
+        → OnErr ended (ByEvents m R xs (λ es. IsCutShort R w budget [] rold r2 wold w2 es after) ys)
+    cut_long r2 w2 (Ok status) p = tt
+    cut_long r2 w2 (Err why) p = cut_after r2 w2 long_session_text (λ good. inr (good, refl)) p
 
-    pub next_on : x ≡ next.Command → (at : At) → o ≡ Some at
-        → (text : List ℕ) × (lines : List (List ℕ)) × AreLines text lines × HasCome m R w xs budget rold r2 wold w3 dold d2 text lines at.number at.ticks (ok && at.ok) (world_in m f) (drivers_in f)
-    next_on is at some =
-        let q : ReadsCommand r1 r2 next.Command c = subst (λ y. ReadsCommand r1 r2 y c) is read in
-        let all : AreLines (come.0 ++ c) (come.1 ++ q.0 ∷ q.1) = lines_both come.0 c come.1 (q.0 ∷ q.1) come.2 q.3 in (
-          come.0 ++ c,
-          come.1 ++ q.0 ∷ q.1,
-          all,
-          come_goes r1 w1 d1 come.0 come.1 number ticks ok e come.3 list c q.0 q.1 q.2 r2 q.4 (lines_here (come.0 ++ c) (come.1 ++ q.0 ∷ q.1) all) f w3 d2 at
-              (taken_as (Some at) some q.0 q.1 q.2.lines),
+  -- ---- a command more
+
+  module _ (r1 : Option (List ℕ)) (text : List ℕ) (lines : List (List ℕ)) (number ticks : ℕ) (turns : List Turned) (e : Engine V P)
+      (h : HasCome m R w xs budget rold r1 text lines number ticks turns (world_in m e) (drivers_in e)) (list : registrations e ≡ R)
+      (c line : List ℕ) (section : List (List ℕ)) (is : IsCommand c line section) (r2 : Option (List ℕ)) (read : Consumes r1 r2 c)
+      (cut : lines_of (text ++ c) ≡ lines ++ line ∷ section) where
+    joined : (future : List (List ℕ)) → (lines ++ line ∷ section) ++ future ≡ lines ++ (line ∷ (section ++ future))
+    joined future = append_assoc lines (line ∷ section) future
+
+    -- a turn was taken with it
+    pub come_on : (f : Engine V P) (t : Turned) (next many : ℕ) → IsTaken m e f ticks line section t next many
+        → HasCome m R w xs budget rold r2 (text ++ c) (lines ++ line ∷ section) (number + (1 + many)) next (turns ++ t ∷ []) (world_in m f) (drivers_in f)
+    come_on f t next many k =
+        let left : (future : List (List ℕ)) → talk_from number ticks zero (line ∷ (section ++ future)) ≡ behind_turn (says_of t) (talk_from (number + (1 + many)) next zero future) =
+        λ future. leads_on number ticks line section future (says_of t) many is.within k.said
+        ∙ ap (λ b. behind_turn (says_of t) (talk_from (number + (1 + many)) b zero future)) (sym k.budget) in
+        record {
+          read = consumes_both rold r1 r2 text c h.read read;
+          here = cut;
+          said = λ future.
+              ap (λ ls. (talk_from 1 budget zero ls).turns) (joined future) ∙ h.said (line ∷ (section ++ future))
+              ∙ ap (λ s. map says_of turns ++ s.turns) (left future) ∙ sym (says_more turns t (talk_from (number + (1 + many)) next zero future).turns);
+          ends = λ future.
+              ap (λ ls. (talk_from 1 budget zero ls).bad_line) (joined future) ∙ h.ends (line ∷ (section ++ future)) ∙ ap (λ s. s.bad_line) (left future);
+          does = do_more R w (world_in m e) (world_in m f) turns t h.does (subst (λ l. TurnDoes l (world_in m e) t (world_in m f)) list (turn_does m e f t k.comes));
+          follow = subst (λ es. DriversFollow m (roles_of R) xs es (drivers_in f)) (sym (events_more turns t))
+              (AllFollow-join (λ b. state_in m b) (λ b. b.vtable) (λ v. (m v).meaning.fits) (roles_of R) xs (drivers_in e) (drivers_in f)
+              (events_in (deeds_in turns)) (events_in (deed_in t)) h.follow
+              (subst (λ l. DriversFollow m (roles_of l) (drivers_in e) (events_in (deed_in t)) (drivers_in f)) list (turn_follows m e f t k.comes)));
+        }
+
+    -- or it ends the conversation
+    ended_by : IsEnding ticks line section → talk_from number ticks zero (line ∷ section) ≡ record { turns = []; bad_line = Some number }
+    ended_by k = talk_bad number ticks line (shown_of line) section refl k.told k.said k.header
+
+    bad_line_is : IsEnding ticks line section → (talk_from 1 budget 0 (lines_of (text ++ c))).bad_line ≡ Some number
+    bad_line_is k = ap (λ ls. (talk_from 1 budget 0 ls).bad_line) cut ∙ h.ends (line ∷ section) ∙ ap (λ s. s.bad_line) (ended_by k)
+
+    held_to : IsEnding ticks line section → IsHeld R w (talk_from 1 budget 0 (lines_of (text ++ c))) turns (events_in (deeds_in turns)) (world_in m e)
+    held_to k = record {
+      said = ap (λ ls. (talk_from 1 budget 0 ls).turns) cut ∙ h.said (line ∷ section) ∙ ap (λ s. map says_of turns ++ s.turns) (ended_by k) ∙ append-nil (map says_of turns);
+      replies = runs_all R w (world_in m e) turns h.does;
+      events = refl;
+    }
+
+    pub ends_bad : (f : Engine V P) (w1 w2 : Option (List ℕ)) → Appends wold w1 (turns_text turns) → Ends m e f w1 w2 number ticks line section
+        → ByEvents m R xs (λ es. Converses R w budget [] rold r2 wold w2 BadInput es (world_in m f)) (drivers_in f)
+    ends_bad f w1 w2 before p =
+        let bad = bad_line_is p.ending in
+        subst (λ g. ByEvents m R xs (λ es. Converses R w budget [] rold r2 wold w2 BadInput es (world_in m g)) (drivers_in g)) (sym p.same) (
+          events_in (deeds_in turns),
+          inl (record {
+            text = text ++ c;
+            turns = turns;
+            read = consumes_both rold r1 r2 text c h.read read;
+            held = held_to p.ending;
+            printed = subst (λ b. Appends wold w2 (turns_text turns ++ bad_line_text b)) (sym bad)
+                (appends_both wold w1 w2 (turns_text turns) (bad_line_text (Some number)) before p.printed);
+            ending = ap (λ b. status_of b turns) (sym bad);
+          }),
+          h.follow,
         )
 
-    bad_at : (line : List ℕ) (section : List (List ℕ)) → IsCommand c line section → Consumes r1 r2 c → lines_of (come.0 ++ c) ≡ come.1 ++ line ∷ section → o ≡ None
-        → ByEvents m R xs (λ es. Converses R w budget 0 rold r2 wold w3 dold d2 BadInput es (world_in m f)) (drivers_in f)
-    bad_at line section is consumed cut none =
-        let t = taken_as None none line section is.lines in
-        subst (λ d. ByEvents m R xs (λ es. Converses R w budget 0 rold r2 wold w3 dold d BadInput es (world_in m f)) (drivers_in f)) (sym t.1)
-        (ends_bad r1 w1 d1 come.0 come.1 number ticks ok e come.3 list c line section is r2 consumed cut f w3 t.0)
+    pub cut_bad : (f : Engine V P) (w1 w2 r3 : Option (List ℕ)) → Appends wold w1 (turns_text turns) → EndsHalf m e f w1 w2 number ticks line section
+        → ByEvents m R xs (λ es. IsCutShort R w budget [] rold r3 wold w2 es (world_in m f)) (drivers_in f)
+    cut_bad f w1 w2 r3 before p =
+        let bad = bad_line_is p.ending in
+        let front = front_behind wold w1 w2 (turns_text turns) (bad_line_text (Some number)) before p.front in
+        subst (λ g. ByEvents m R xs (λ es. IsCutShort R w budget [] rold r3 wold w2 es (world_in m g)) (drivers_in g)) (sym p.same) (
+          events_in (deeds_in turns),
+          record {
+            text = text ++ c;
+            turns = turns;
+            last = bad_line_text (Some number);
+            read = (r2, consumes_both rold r1 r2 text c h.read read);
+            held = held_to p.ending;
+            can_end = inl (ap bad_line_text (sym bad));
+            printed = front.0;
+            whole = omega (arith, front.1, text_front (length turns - 1) turns);
+          },
+          h.follow,
+        )
 
-    pub next_bad : x ≡ next.Command → o ≡ None → ByEvents m R xs (λ es. Converses R w budget 0 rold r2 wold w3 dold d2 BadInput es (world_in m f)) (drivers_in f)
-    next_bad is none =
-        let q : ReadsCommand r1 r2 next.Command c = subst (λ y. ReadsCommand r1 r2 y c) is read in
-        bad_at q.0 q.1 q.2 q.4 (lines_here (come.0 ++ c) (come.1 ++ q.0 ∷ q.1) (lines_both come.0 c come.1 (q.0 ∷ q.1) come.2 q.3)) none
+    pub cut_half : (f : Engine V P) (w1 w2 r3 : Option (List ℕ)) → Appends wold w1 (turns_text turns) → GoesHalf m e f w1 w2 ticks line section
+        → ByEvents m R xs (λ es. IsCutShort R w budget [] rold r3 wold w2 es (world_in m f)) (drivers_in f)
+    cut_half f w1 w2 r3 before p =
+        let come = come_on f p.did p.next p.lines p.taken in
+        let good = going_on r2 (text ++ c) (lines ++ line ∷ section) (number + (1 + p.lines)) p.next (turns ++ p.did ∷ []) (world_in m f) (drivers_in f) come in
+        let front = front_behind wold w1 w2 (turns_text turns) (turn_text p.did) before p.front in
+        let same : turns_text turns ++ turn_text p.did ≡ turns_text (turns ++ p.did ∷ []) ++ [] =
+        sym (text_more turns p.did) ∙ sym (append-nil (turns_text (turns ++ p.did ∷ []))) in (
+          events_in (deeds_in (turns ++ p.did ∷ [])),
+          record {
+            text = text ++ c;
+            turns = turns ++ p.did ∷ [];
+            last = [];
+            read = (r2, come.read);
+            held = held r2 (text ++ c) (lines ++ line ∷ section) (number + (1 + p.lines)) p.next (turns ++ p.did ∷ []) (world_in m f) (drivers_in f) come;
+            can_end = inl (ap bad_line_text (sym good));
+            printed = record {
+              count = front.0.count;
+              within = omega (arith, front.0.within, ap length same);
+              printed = subst (λ t. Appends wold w2 (take front.0.count t)) same front.0.printed;
+            };
+            whole = omega (arith, front.1, ap (λ ts. length (turns_text ts)) (but_last_is turns p.did));
+          },
+          come.follow,
+        )
 
-    pub last_bad : x ≡ next.Last → o ≡ None → ByEvents m R xs (λ es. Converses R w budget 0 rold r2 wold w3 dold d2 BadInput es (world_in m f)) (drivers_in f)
-    last_bad is none =
-        let q : ReadsCommand r1 r2 next.Last c = subst (λ y. ReadsCommand r1 r2 y c) is read in
-        bad_at q.0 q.1 q.2 q.3 (come.2 c ∙ ap (λ z. come.1 ++ z) q.2.lines) none
+  -- ---- what a turn comes to
 
-    pub last_on : x ≡ next.Last → (at : At) → o ≡ Some at
-        → ByEvents m R xs (λ es. Converses R w budget 0 rold r2 wold w3 dold d2 (cond (ok && at.ok) AllOk SomeRefused) es (world_in m f)) (drivers_in f)
-    last_on is at some =
-        let q : ReadsCommand r1 r2 next.Last c = subst (λ y. ReadsCommand r1 r2 y c) is read in
-        ends_all r2 w3 d2 (come.0 ++ c) (come.1 ++ q.0 ∷ q.1) at.number at.ticks (ok && at.ok) (world_in m f) (drivers_in f)
-        (come_goes r1 w1 d1 come.0 come.1 number ticks ok e come.3 list c q.0 q.1 q.2 r2 q.3 (come.2 c ∙ ap (λ z. come.1 ++ z) q.2.lines) f w3 d2 at
-        (taken_as (Some at) some q.0 q.1 q.2.lines))
+  module _ (r1 w1 : Option (List ℕ)) (number ticks : ℕ) (ok : Bool) (e f : Engine V P) (list : registrations e ≡ R)
+      (come : (text : List ℕ) × (lines : List (List ℕ)) × AreLines text lines × HasGone m R w xs budget rold r1 wold w1 text lines number ticks ok (world_in m e) (drivers_in e))
+      (c now : List ℕ) (same : now ≡ c) (x : Next) (r2 w2 : Option (List ℕ)) (read : ReadsCommand r1 r2 x c) where
+    went : HasGone m R w xs budget rold r1 wold w1 come.0 come.1 number ticks ok (world_in m e) (drivers_in e)
+    went = come.3
+
+    goes_on : (line : List ℕ) (section : List (List ℕ)) → IsCommand c line section → Consumes r1 r2 c → lines_of (come.0 ++ c) ≡ come.1 ++ line ∷ section
+        → (at : At) → Goes m e f w1 w2 number ticks line section at
+        → HasGone m R w xs budget rold r2 wold w2 (come.0 ++ c) (come.1 ++ line ∷ section) at.number at.ticks (ok && at.ok) (world_in m f) (drivers_in f)
+    goes_on line section is consumed cut at g = record {
+      turns = went.turns ++ g.did ∷ [];
+      come = subst (λ n. HasCome m R w xs budget rold r2 (come.0 ++ c) (come.1 ++ line ∷ section) n at.ticks (went.turns ++ g.did ∷ []) (world_in m f) (drivers_in f)) (sym g.place)
+          (come_on r1 come.0 come.1 number ticks went.turns e went.come list c line section is r2 consumed cut f g.did at.ticks g.lines g.taken);
+      printed = subst (λ t. Appends wold w2 t) (sym (text_more went.turns g.did)) (appends_both wold w1 w2 (turns_text went.turns) (turn_text g.did) went.printed g.printed);
+      all_ok = ap (λ b. b && at.ok) went.all_ok ∙ ap (λ b. list_all is_right went.turns && b) g.is_ok ∙ sym (all_more went.turns g.did);
+    }
+
+    module _ (o : Option At) (taken : TakesOne m e f w1 w2 number ticks now o) where
+      taken_as : (p : Option At) → o ≡ p → TakesOne m e f w1 w2 number ticks c p
+      taken_as p is = subst (λ q. TakesOne m e f w1 w2 number ticks c q) is (subst (λ y. TakesOne m e f w1 w2 number ticks y o) same taken)
+
+      pub next_on : x ≡ next.Command → (at : At) → o ≡ Some at
+          → (text : List ℕ) × (lines : List (List ℕ)) × AreLines text lines × HasGone m R w xs budget rold r2 wold w2 text lines at.number at.ticks (ok && at.ok) (world_in m f) (drivers_in f)
+      next_on is at some =
+          let q : ReadsCommand r1 r2 next.Command c = subst (λ y. ReadsCommand r1 r2 y c) is read in
+          let all : AreLines (come.0 ++ c) (come.1 ++ q.0 ∷ q.1) = lines_both come.0 c come.1 (q.0 ∷ q.1) come.2 q.3 in (
+            come.0 ++ c,
+            come.1 ++ q.0 ∷ q.1,
+            all,
+            goes_on q.0 q.1 q.2 q.4 (lines_here (come.0 ++ c) (come.1 ++ q.0 ∷ q.1) all) at (taken_as (Some at) some q.0 q.1 q.2.lines),
+          )
+
+      bad_at : (line : List ℕ) (section : List (List ℕ)) → IsCommand c line section → Consumes r1 r2 c → lines_of (come.0 ++ c) ≡ come.1 ++ line ∷ section → o ≡ None
+          → ByEvents m R xs (λ es. Converses R w budget [] rold r2 wold w2 BadInput es (world_in m f)) (drivers_in f)
+      bad_at line section is consumed cut none =
+          ends_bad r1 come.0 come.1 number ticks went.turns e went.come list c line section is r2 consumed cut f w1 w2 went.printed (taken_as None none line section is.lines)
+
+      pub next_bad : x ≡ next.Command → o ≡ None → ByEvents m R xs (λ es. Converses R w budget [] rold r2 wold w2 BadInput es (world_in m f)) (drivers_in f)
+      next_bad is none =
+          let q : ReadsCommand r1 r2 next.Command c = subst (λ y. ReadsCommand r1 r2 y c) is read in
+          bad_at q.0 q.1 q.2 q.4 (lines_here (come.0 ++ c) (come.1 ++ q.0 ∷ q.1) (lines_both come.0 c come.1 (q.0 ∷ q.1) come.2 q.3)) none
+
+      pub last_bad : x ≡ next.Last → o ≡ None → ByEvents m R xs (λ es. Converses R w budget [] rold r2 wold w2 BadInput es (world_in m f)) (drivers_in f)
+      last_bad is none =
+          let q : ReadsCommand r1 r2 next.Last c = subst (λ y. ReadsCommand r1 r2 y c) is read in
+          bad_at q.0 q.1 q.2 q.3 (come.2 c ∙ ap (λ z. come.1 ++ z) q.2.lines) none
+
+      pub last_on : x ≡ next.Last → (at : At) → o ≡ Some at
+          → ByEvents m R xs (λ es. Converses R w budget [] rold r2 wold w2 (cond (ok && at.ok) AllOk SomeRefused) es (world_in m f)) (drivers_in f)
+      last_on is at some =
+          let q : ReadsCommand r1 r2 next.Last c = subst (λ y. ReadsCommand r1 r2 y c) is read in
+          ends_all r2 w2 (come.0 ++ c) (come.1 ++ q.0 ∷ q.1) at.number at.ticks (ok && at.ok) (world_in m f) (drivers_in f)
+          (goes_on q.0 q.1 q.2 q.3 (come.2 c ∙ ap (λ z. come.1 ++ z) q.2.lines) at (taken_as (Some at) some q.0 q.1 q.2.lines))
+
+    -- it was cut short
+    module _ (taken : TakesHalf m e f w1 w2 number ticks now) where
+      half_as : TakesHalf m e f w1 w2 number ticks c
+      half_as = subst (λ y. TakesHalf m e f w1 w2 number ticks y) same taken
+
+      half_at : (line : List ℕ) (section : List (List ℕ)) → IsCommand c line section → Consumes r1 r2 c → lines_of (come.0 ++ c) ≡ come.1 ++ line ∷ section
+          → TurnsHalf m e f w1 w2 number ticks line section
+          → ByEvents m R xs (λ es. IsCutShort R w budget [] rold r2 wold w2 es (world_in m f)) (drivers_in f)
+      half_at line section is consumed cut (inl p) =
+          cut_half r1 come.0 come.1 number ticks went.turns e went.come list c line section is r2 consumed cut f w1 w2 r2 went.printed p
+      half_at line section is consumed cut (inr (inl p)) =
+          cut_bad r1 come.0 come.1 number ticks went.turns e went.come list c line section is r2 consumed cut f w1 w2 r2 went.printed p
+      half_at line section is consumed cut (inr (inr p)) =
+          subst (λ g. ByEvents m R xs (λ es. IsCutShort R w budget [] rold r2 wold w2 es (world_in m g)) (drivers_in g)) (sym p.0)
+          (subst (λ o. ByEvents m R xs (λ es. IsCutShort R w budget [] rold r2 wold o es (world_in m e)) (drivers_in e)) (sym p.1)
+          (cut_here r1 w1 come.0 come.1 number ticks ok (world_in m e) (drivers_in e) went r2))
+
+      pub next_half : x ≡ next.Command → ByEvents m R xs (λ es. IsCutShort R w budget [] rold r2 wold w2 es (world_in m f)) (drivers_in f)
+      next_half is =
+          let q : ReadsCommand r1 r2 next.Command c = subst (λ y. ReadsCommand r1 r2 y c) is read in
+          half_at q.0 q.1 q.2 q.4 (lines_here (come.0 ++ c) (come.1 ++ q.0 ∷ q.1) (lines_both come.0 c come.1 (q.0 ∷ q.1) come.2 q.3)) (half_as q.0 q.1 q.2.lines)
+
+      pub last_half : x ≡ next.Last → ByEvents m R xs (λ es. IsCutShort R w budget [] rold r2 wold w2 es (world_in m f)) (drivers_in f)
+      last_half is =
+          let q : ReadsCommand r1 r2 next.Last c = subst (λ y. ReadsCommand r1 r2 y c) is read in
+          half_at q.0 q.1 q.2 q.3 (come.2 c ∙ ap (λ z. come.1 ++ z) q.2.lines) (half_as q.0 q.1 q.2.lines)
 
 -- ---- the start is told
 
-kept_replies : (R : RegistrationList) (w : World) (s : Session) (w0 w1 w2 : Option (List ℕ)) (status : Status) (es : List HostEvent) (after : World)
-    → Keeps w0 w1 → IsDone R w s w1 w2 status es after → IsDone R w s w0 w2 status es after
-kept_replies R w s w0 w1 w2 status es after k d = record {
-  deeds = d.deeds;
-  actions = d.actions;
-  replies = d.replies;
-  events = d.events;
-  printed = kept_appends w0 w1 w2 (text_in d.deeds ++ bad_line_text s.bad_line) k d.printed;
-  ending = d.ending;
-}
+module _ (R : RegistrationList) (w : World) (budget : ℕ) (r1 r2 w0 w1 w2 : Option (List ℕ)) (d : Appends w0 w1 done_line) where
+  started : (status : Status) (es : List HostEvent) (after : World) → Converses R w budget [] r1 r2 w1 w2 status es after → Converses R w budget done_line r1 r2 w0 w2 status es after
+  started status es after (inl t) = inl (record {
+    text = t.text;
+    turns = t.turns;
+    read = t.read;
+    held = t.held;
+    printed = appends_both w0 w1 w2 done_line _ d t.printed;
+    ending = t.ending;
+  })
+  started status es after (inr t) = inr (record {
+    text = t.text;
+    more = t.more;
+    turns = t.turns;
+    read = t.read;
+    long = t.long;
+    held = t.held;
+    going_on = t.going_on;
+    printed = appends_both w0 w1 w2 done_line _ d t.printed;
+    ending = t.ending;
+  })
 
-module _ (R : RegistrationList) (w : World) (budget : ℕ) (r1 r2 w0 w1 w2 d0 d1 d2 : Option (List ℕ)) (k : Keeps w0 w1) (d : Appends d0 d1 (done_text 1)) where
-  started : (status : Status) (es : List HostEvent) (after : World) → Converses R w budget 0 r1 r2 w1 w2 d1 d2 status es after → Converses R w budget 1 r1 r2 w0 w2 d0 d2 status es after
-  started status es after (inl t) =
-      let one : done_text 1 ++ done_text (0 + t.turns) ≡ done_text (1 + t.turns) =
-      ap (λ x. x ++ done_text (0 + t.turns)) (append-nil done_line) ∙ (let e : 0 + t.turns ≡ t.turns = omega arith in ap (λ n. done_line ++ done_text n) e)
-      ∙ (let e : suc t.turns ≡ 1 + t.turns = omega arith in ap done_text e) in
-      inl (record {
+  started_cut : (es : List HostEvent) (after : World) → IsCutShort R w budget [] r1 r2 w1 w2 es after → IsCutShort R w budget done_line r1 r2 w0 w2 es after
+  started_cut es after t =
+      let front = front_behind w0 w1 w2 done_line (turns_text t.turns ++ t.last) d t.printed in
+      record {
         text = t.text;
-        read = t.read;
-        replies = kept_replies R w (session_from 1 budget 0 (lines_of t.text)) w0 w1 w2 status es after k t.replies;
         turns = t.turns;
-        counted = t.counted;
-        told = subst (λ x. Appends d0 d2 x) one (appends_both d0 d1 d2 (done_text 1) (done_text (0 + t.turns)) d t.told);
-      })
-  started status es after (inr t) = inr (t.0, t.1, kept_appends w0 w1 w2 (t.1 ++ long_session_text) k t.2)
+        last = t.last;
+        read = t.read;
+        held = t.held;
+        can_end = t.can_end;
+        printed = front.0;
+        whole = omega (arith, t.whole, front.1);
+      }
 
-  pub started_over : {V : Type 0} {P : V → Type 0} (m : Meanings P) (xs ys : List (DynBox V Global P)) (after : World) (r : Result Status Stop)
-      → IfOk r (λ status. ByEvents m R xs (λ es. Converses R w budget 0 r1 r2 w1 w2 d1 d2 status es after) ys)
-      → IfOk r (λ status. ByEvents m R xs (λ es. Converses R w budget 1 r1 r2 w0 w2 d0 d2 status es after) ys)
+  pub started_over : {V : Type 0} {P : V → Type 0} (m : Meanings P) (xs ys : List (DynBox V Global P)) (after : World) (r : Result Status SessionError)
+      → IfOk r (λ status. ByEvents m R xs (λ es. Converses R w budget [] r1 r2 w1 w2 status es after) ys)
+      → IfOk r (λ status. ByEvents m R xs (λ es. Converses R w budget done_line r1 r2 w0 w2 status es after) ys)
   started_over m xs ys after (Err why) h = tt
   started_over m xs ys after (Ok status) h = (h.0, started status h.0 after h.1, h.2)
+
+  pub started_half : {V : Type 0} {P : V → Type 0} (m : Meanings P) (xs ys : List (DynBox V Global P)) (after : World) (r : Result Status SessionError)
+      → OnErr r (ByEvents m R xs (λ es. IsCutShort R w budget [] r1 r2 w1 w2 es after) ys)
+      → OnErr r (ByEvents m R xs (λ es. IsCutShort R w budget done_line r1 r2 w0 w2 es after) ys)
+  started_half m xs ys after (Ok status) h = tt
+  started_half m xs ys after (Err why) h = (h.0, started_cut h.0 after h.1, h.2)
+
+-- nor was it told whole
+pub unstarted : {V : Type 0} {P : V → Type 0} (m : Meanings P) (R : RegistrationList) (w : World) (xs : List (DynBox V Global P)) (budget : ℕ) (r1 r2 w0 w1 : Option (List ℕ))
+    → HasFront w0 w1 done_line → ByEvents m R xs (λ es. IsCutShort R w budget done_line r1 r2 w0 w1 es w) xs
+unstarted m R w xs budget r1 r2 w0 w1 p =
+    let first = come_first m R w xs budget r1 w0 in
+    let good = going_on m R w xs budget r1 w0 r1 [] [] 1 budget [] w xs first in
+    let same : done_line ≡ done_line ++ ([] ++ []) = sym (append-nil done_line) in (
+      [],
+      record {
+        text = [];
+        turns = [];
+        last = [];
+        read = (r1, consumes_nothing r1);
+        held = held m R w xs budget r1 w0 r1 [] [] 1 budget [] w xs first;
+        can_end = inl (ap bad_line_text (sym good));
+        printed = record {
+          count = p.count;
+          within = omega (arith, p.within, ap length same);
+          printed = subst (λ t. Appends w0 w1 (take p.count t)) same p.printed;
+        };
+        whole = omega arith;
+      },
+      follow_nothing m R xs,
+    )

@@ -2,4 +2,5 @@ pub mod CommandLine
 pub mod Lining
 pub mod Turning
 pub mod Coming
+pub mod AsSession
 pub mod Talking

@@ -3,10 +3,11 @@ use Rattle.std.proofs.Common.{◌≡◌, ◌≢◌, ℕ, suc, ◌+◌, ◌<◌, 
 use Rattle.std.specs.Io.KnownBytes.{Consumes, IsAtEnd}
 use Rattle.std.proofs.lemmas.Bool.{ne_eqb}
 use Rattle.std.proofs.lemmas.List.{append-nil}
-use Rattle.ang_remote.specs.Lines.{IsPlain, IsEnded, IsLast}
+use Rattle.ang_remote.specs.Lines.{IsPlain, IsEnded, IsLast, IsPassed}
+use Rattle.ang_remote.specs.declared.lines.Heard.TheVariants as heard
 use Rattle.ang_remote.proofs.Streams.{consumes_both, consumes_nothing}
 use Rattle.asrun_lines.specs.Lines.{lines_of, shown_of}
-use Rattle.asrun_session.specs.declared.ending.Stop.{Stop}
+use Rattle.asrun_session.specs.declared.ending.SessionError.{SessionError}
 use Rattle.asremote.specs.Commands.{AreLines, IsCommand, ReadsLines, ReadsCommand, lines_behind, most_command}
 use Rattle.asremote.specs.declared.commands.Next.{Next}
 use Rattle.asremote.specs.declared.commands.Next.TheVariants as next
@@ -72,6 +73,15 @@ section_last i n before mid after old now new r e lt =
       e.kept.1 e.some,
     )
 
+-- a line is too long
+pub section_long : (i n : ℕ) (before mid after : List ℕ) (old now new : Option (List ℕ)) → ReadsLines i before mid old now next.Command
+    → IsPassed most_command mid after now new heard.Long → ReadsLines n before after old new next.TooLong
+section_long i n before mid after old now new r e = (
+  r.0 ++ e.line,
+  consumes_both old now new r.0 e.line r.3 e.read,
+  omega (arith, e.kept, ap length r.2, length-append before r.0, length-append r.0 e.line),
+)
+
 -- the input ends before a line
 pub section_ends : (i n : ℕ) (before mid after : List ℕ) (old now new : Option (List ℕ)) → ReadsLines i before mid old now next.Command
     → Consumes now new [] → after ≡ mid → i ≤ n → ReadsLines n before after old new next.Last
@@ -114,7 +124,13 @@ command_is first after old now new next.Last e r =
       rw r.1 (consumes_both old now new first r.0 read r.2),
       r.4,
     )
-command_is first after old now new next.TooLong e r = tt
+command_is first after old now new next.TooLong e r =
+    let line : first ≡ e.body ++ 10 ∷ [] = e.kept.0 in
+    let read : Consumes old now first = rw line e.read in (
+      first ++ r.0,
+      consumes_both old now new first r.0 read r.1,
+      omega (arith, r.2, length-append first r.0),
+    )
 command_is first after old now new next.End e r = absurd r
 
 pub command_last : (after : List ℕ) (old new : Option (List ℕ)) → IsLast most_command [] after old new → ReadsCommand old new next.Last after
@@ -127,12 +143,15 @@ command_last after old new e =
       e.kept.1 e.some,
     )
 
+pub command_long : (after : List ℕ) (old new : Option (List ℕ)) → IsPassed most_command [] after old new heard.Long → ReadsCommand old new next.TooLong after
+command_long after old new e = (e.line, e.read, omega (arith, e.kept))
+
 -- the first line has no more bytes than a command
 pub first_few : (first : List ℕ) (old now : Option (List ℕ)) → IsEnded most_command [] first old now → length first ≤ most_command
 first_few first old now e = e.kept.1 (some_more e.body 10)
 
 -- what follows a line is read by what that line says
-pub command_read : (first after shown : List ℕ) (n : ℕ) (old now new : Option (List ℕ)) (r : Result Next Stop) → IsEnded most_command [] first old now
+pub command_read : (first after shown : List ℕ) (n : ℕ) (old now new : Option (List ℕ)) (r : Result Next SessionError) → IsEnded most_command [] first old now
     → n ≡ lines_behind shown → shown ≡ shown_of first → IfOk r (ReadsLines n first after now new) → IfOk r (λ x. ReadsCommand old new x after)
 command_read first after shown n old now new (Err why) e k s h = tt
 command_read first after shown n old now new (Ok x) e k s h =

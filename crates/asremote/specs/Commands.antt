@@ -1,5 +1,5 @@
 -- The commands among the lines of a conversation (docs/FORMATS.md, "The conversation of asremote").
-use Rattle.std.specs.Prelude.{ℕ, zero, suc, ◌+◌, ◌≡◌, ◌≤◌, List, [], ◌∷◌, ◌++◌, length, Option, Some, None, if◌then◌else◌, codes}
+use Rattle.std.specs.Prelude.{ℕ, ◌+◌, ◌≡◌, ◌<◌, ◌≤◌, List, [], ◌∷◌, ◌++◌, length, Option, Some, None, if◌then◌else◌}
 use Rattle.std.specs.Io.KnownBytes.{Consumes}
 use Rattle.asrun_lines.specs.Lines.{lines_of, shown_of, is_skipped}
 use Rattle.asrun_lines.specs.SessionLines.{session_line_of}
@@ -27,17 +27,6 @@ lines_told (Some l) = section_lines l
 unfoldable pub lines_behind : List ℕ → ℕ
 lines_behind shown = if is_skipped shown then 0 else lines_told (session_line_of shown)
 
--- How many commands there are, empty lines and comments among them. The next `lines` lines are the text of a section.
-unfoldable pub turns_of : ℕ → List (List ℕ) → ℕ
-turns_of lines [] = 0
-turns_of (suc lines) (l ∷ ls) = turns_of lines ls
-turns_of zero (l ∷ ls) = 1 + turns_of (lines_behind (shown_of l)) ls
-
--- n lines `done`
-abbrev pub done_text : ℕ → List ℕ
-done_text zero = []
-done_text (suc n) = codes "done\n" ++ done_text n
-
 -- These bytes are these lines, and what follows them begins another.
 abbrev pub AreLines : List ℕ → List (List ℕ) → Type 0
 AreLines bytes ls = (rest : List ℕ) → lines_of (bytes ++ rest) ≡ ls ++ lines_of rest
@@ -53,7 +42,8 @@ ReadsLines n before after old new next.Command =
     × (length ls ≡ n) × (length after ≤ most_command)
 ReadsLines n before after old new next.Last =
     (bytes : List ℕ) × (after ≡ before ++ bytes) × Consumes old new bytes × (length (lines_of bytes) ≤ n) × (length after ≤ most_command)
-ReadsLines n before after old new next.TooLong = Unit {0}
+ReadsLines n before after old new next.TooLong =
+    (bytes : List ℕ) × Consumes old new bytes × (most_command < length before + length bytes)
 ReadsLines n before after old new next.End = ⊥
 
 -- A text is a command: a line, and those of its section, or, where the input ends, fewer.
@@ -68,5 +58,6 @@ ReadsCommand old new next.Command text =
     × (length text ≤ most_command)
 ReadsCommand old new next.Last text =
     (line : List ℕ) × (section : List (List ℕ)) × IsCommand text line section × Consumes old new text × (length text ≤ most_command)
-ReadsCommand old new next.TooLong text = Unit {0}
+ReadsCommand old new next.TooLong text =
+    (bytes : List ℕ) × Consumes old new bytes × (most_command < length bytes)
 ReadsCommand old new next.End text = Consumes old new []

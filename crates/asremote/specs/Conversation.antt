@@ -1,55 +1,115 @@
--- A whole conversation: its replies are those of a session of the same lines, and `done` is told for each command.
-use Rattle.std.specs.Prelude.{ℕ, ◌+◌, ◌≡◌, ◌⊎◌, List, ◌++◌, Option, Some, None, Result, Ok, Err}
+-- A whole conversation: what is done with its lines, and all that is printed.
+use Rattle.std.specs.Prelude.{ℕ, ◌+◌, ◌-◌, ◌≡◌, ◌<◌, ◌≤◌, ◌⊎◌, List, [], ◌++◌, length, take, map, Option, Some, None, Result, Ok, Err}
 use Rattle.std.specs.Io.KnownBytes.{Appends, Consumes}
 use Rattle.std.specs.declared.alloc.Global.{Global}
 use Rattle.std.specs.declared.dyn_box.DynBox.{DynBox}
 use Rattle.ang_host.specs.Meanings.{Meanings}
 use Rattle.ang_host.specs.declared.event.HostEvent.{HostEvent}
 use Rattle.ang_view.specs.Registration.{RegistrationList}
-use Rattle.ang_engine_world.specs.World.{World, no_modules}
+use Rattle.ang_engine.specs.Step.{Runs}
+use Rattle.ang_engine_modules.specs.World.{World, no_modules}
 use Rattle.asrun_lines.specs.Lines.{lines_of}
-use Rattle.asrun_session.specs.Deeds.{IsDone}
+use Rattle.asrun_session.specs.Deeds.{commands_in, replies_in, events_in, bad_line_text}
 use Rattle.asrun_session.specs.Drivers.{WasDiscarded}
-use Rattle.asrun_session.specs.Session.{session_from}
-use Rattle.asrun_session.specs.Whole.{EngineRefused, long_session_text}
+use Rattle.asrun_session.specs.Whole.{EngineRefused, EngineStops, Untouched, long_session_text}
+use Rattle.asrun_session.specs.Writing.{HasFront}
+use Rattle.asrun_session.specs.declared.ending.IoFault.{IoFault}
 use Rattle.asrun_session.specs.declared.ending.Status.{Status}
-use Rattle.asrun_session.specs.declared.ending.Status.TheVariants.{BadInput}
-use Rattle.asremote.specs.Commands.{turns_of, done_text}
+use Rattle.asrun_session.specs.declared.ending.Status.TheVariants.{AllOk, SomeRefused, BadInput, Memory}
+use Rattle.asremote.specs.Commands.{most_command}
+use Rattle.asremote.specs.Talk.{Talk, talk_from, Turned, says_of, deeds_in, turns_text, done_line, status_of}
 
--- a line of another form is a turn without a `done`
-abbrev pub untold : Option ℕ → ℕ
-untold None = 0
-untold (Some n) = 1
+-- all turns but the last one
+abbrev pub but_last : List Turned → List Turned
+but_last ts = take (length ts - 1) ts
 
--- Where a session began over the list R and the world w, with a budget, and `done` was to be told `first` times at the start; the bytes that the reader had left, those of the
--- writer of replies, and those of the writer of `done`, before and after.
-module _ (R : RegistrationList) (w : World) (budget first : ℕ) (unread unread_after written written_after done done_after : Option (List ℕ)) where
-  -- The lines that were read were done as a session, and `done` was told for each command.
+-- the bytes are the first of those that can be read
+abbrev pub IsFrontOf : Option (List ℕ) → List ℕ → Type 0
+IsFrontOf unread text = (left : Option (List ℕ)) × Consumes unread left text
+
+-- Over the list R and the world w: these turns were taken with what was said, in their order; the
+-- commands among them ran, each with its reply; these are the events of all replies, and the world
+-- that they left.
+pub record IsHeld (R : RegistrationList) (w : World) (talk : Talk) (turns : List Turned)
+    (es : List HostEvent) (after : World) : Type 0 where
+  pub said : talk.turns ≡ map says_of turns
+  pub replies : Runs R w (commands_in (deeds_in turns)) (replies_in (deeds_in turns)) after
+  pub events : es ≡ events_in (deeds_in turns)
+
+-- A conversation over the list R and the world w, with a budget. `first` is told before it begins. The
+-- bytes that the reader had left and those of the writer, before and after.
+module _ (R : RegistrationList) (w : World) (budget : ℕ) (first : List ℕ) (unread unread_after written written_after : Option (List ℕ)) where
+  -- The lines that were read were taken, and answered: each turn's answer, then `done`.
   pub record IsTold (status : Status) (es : List HostEvent) (after : World) : Type 0 where
     pub text : List ℕ
+    pub turns : List Turned
     pub read : Consumes unread unread_after text
-    pub replies : IsDone R w (session_from 1 budget 0 (lines_of text)) written written_after status es after
-    pub turns : ℕ
-    pub counted : turns_of 0 (lines_of text) ≡ turns + untold (session_from 1 budget 0 (lines_of text)).bad_line
-    pub told : Appends done done_after (done_text (first + turns))
+    pub held : IsHeld R w (talk_from 1 budget 0 (lines_of text)) turns es after
+    pub printed : Appends written written_after
+        (first ++ (turns_text turns ++ bad_line_text (talk_from 1 budget 0 (lines_of text)).bad_line))
+    pub ending : status ≡ status_of (talk_from 1 budget 0 (lines_of text)).bad_line turns
 
-  -- A command was too long.
-  abbrev pub IsTooLong : Status → Type 0
-  IsTooLong status = (status ≡ BadInput) × (front : List ℕ) × Appends written written_after (front ++ long_session_text)
+  -- So were those before a command that was too long.
+  pub record IsTooLong (status : Status) (es : List HostEvent) (after : World) : Type 0 where
+    pub text : List ℕ
+    pub more : List ℕ
+    pub turns : List Turned
+    pub read : Consumes unread unread_after (text ++ more)
+    pub long : most_command < length more
+    pub held : IsHeld R w (talk_from 1 budget 0 (lines_of text)) turns es after
+    pub going_on : (talk_from 1 budget 0 (lines_of text)).bad_line ≡ None
+    pub printed : Appends written written_after (first ++ (turns_text turns ++ long_session_text))
+    pub ending : status ≡ BadInput
 
   abbrev pub Converses : Status → List HostEvent → World → Type 0
-  Converses status es after = IsTold status es after ⊎ IsTooLong status
+  Converses status es after = IsTold status es after ⊎ IsTooLong status es after
+
+  -- what is printed last: nothing, the line that ends it, or that a command was too long
+  abbrev pub CanEnd : Option ℕ → List ℕ → Type 0
+  CanEnd bad_line text =
+      (text ≡ bad_line_text bad_line) ⊎ ((bad_line ≡ None) × (text ≡ long_session_text))
+
+  -- The conversation was cut short: the first lines of those that could be read were taken, and a
+  -- front of what is printed for them stands, in which all turns but the last one stand whole.
+  pub record IsCutShort (es : List HostEvent) (after : World) : Type 0 where
+    pub text : List ℕ
+    pub turns : List Turned
+    pub last : List ℕ
+    pub read : IsFrontOf unread text
+    pub held : IsHeld R w (talk_from 1 budget 0 (lines_of text)) turns es after
+    pub can_end : CanEnd (talk_from 1 budget 0 (lines_of text)).bad_line last
+    pub printed : HasFront written written_after (first ++ (turns_text turns ++ last))
+    pub whole : length (turns_text (but_last turns)) ≤ printed.count
 
 -- A conversation with the drivers xs that come back as ys. Here m is the meaning of what is behind each vtable.
 module _ {V : Type 0} {P : V → Type 0} (m : Meanings P) (xs ys : List (DynBox V Global P)) (budget : ℕ)
-    (unread unread_after written written_after done done_after : Option (List ℕ)) where
+    (unread unread_after written written_after : Option (List ℕ)) where
   -- over a list that was registered
   abbrev pub TalksOver : RegistrationList → Status → Type 0
   TalksOver R status =
       EngineRefused m xs ys written written_after R status
-      ⊎ WasDiscarded m R xs ys (Converses R no_modules budget 1 unread unread_after written written_after done done_after status)
+      ⊎ WasDiscarded m R xs ys (Converses R no_modules budget done_line unread unread_after written written_after status)
+
+  -- and cut short
+  abbrev pub StopsOver : RegistrationList → Type 0
+  StopsOver R =
+      Untouched m xs ys written written_after
+      ⊎ (EngineStops m xs ys written written_after R
+      ⊎ WasDiscarded m R xs ys (IsCutShort R no_modules budget done_line unread unread_after written written_after))
 
   -- over a profile, which may be refused
   abbrev pub Talks : Result RegistrationList (List ℕ) → Status → Type 0
   Talks (Err text) status = Appends written written_after text × (status ≡ BadInput) × (ys ≡ xs)
   Talks (Ok R) status = TalksOver R status
+
+  abbrev pub Stops : Result RegistrationList (List ℕ) → Type 0
+  Stops (Err text) = HasFront written written_after text × (ys ≡ xs)
+  Stops (Ok R) = StopsOver R
+
+  -- What is asked and printed, by the outcome.
+  abbrev pub Tells : Result RegistrationList (List ℕ) → Result Status IoFault → Type 0
+  Tells start (Ok AllOk) = Talks start AllOk
+  Tells start (Ok SomeRefused) = Talks start SomeRefused
+  Tells start (Ok BadInput) = Talks start BadInput
+  Tells start (Ok Memory) = Stops start
+  Tells start (Err fault) = Stops start

@@ -1,8 +1,9 @@
 -- The command line (docs/FORMATS.md, "The conversation of asremote").
-use Rattle.std.specs.Prelude.{ℕ, Bool, true, List, Option, Some, None, is_some, nat_le, ◌&&◌, if◌then◌else◌, codes}
+use Rattle.std.specs.Prelude.{ℕ, Bool, true, List, Option, Some, None, is_some, ◌&&◌, codes}
 use Rattle.std.specs.Option.{option_and_then}
 use Rattle.clap.specs.Words.{App, Rule, new_app, new_rule, with_rule, matches_of, first_of, one_of, takes}
 use Rattle.clap.specs.declared.builder.action.ArgAction.TheVariants.{SetTrue}
+use Rattle.asrun_lines.specs.Budget.{within, budget_given}
 use Rattle.asrun_lines.specs.Fields.{decimal_of}
 
 -- `--profile` is wanted, the others aren't; `--echo` has no value
@@ -28,15 +29,6 @@ given name words = first_of name (matches_of program words)
 -- `true` where a line of words has a flag, `false` where it has not
 unfoldable pub flag : List ℕ → List (List ℕ) → Option (List ℕ)
 flag name words = one_of name (matches_of program words)
-
--- a number from 1 to the most
-abbrev pub within : ℕ → ℕ → Option ℕ
-within most n = if nat_le 1 n && nat_le n most then Some n else None
-
--- the budget that a line gives, or 1,000,000 where it gives none
-unfoldable pub budget_given : Option (List ℕ) → Option ℕ
-budget_given None = Some 1000000
-budget_given (Some text) = option_and_then (within 2147483647) (decimal_of 10 text)
 
 -- the number of drivers that a line gives, or 1 where it gives none
 unfoldable pub drivers_given : Option (List ℕ) → Option ℕ

@@ -1,70 +1,147 @@
--- What is done with a command, and printed for it.
+-- What is done with one command, and printed for it.
 use Rattle.std.specs.Prelude.{ℕ, ◌+◌, ◌≡◌, ◌≤◌, ◌⊎◌, Bool, true, false, List, ◌∷◌, length, Option, Some, None}
 use Rattle.std.specs.Option.{option_and_then}
-use Rattle.std.specs.Io.KnownBytes.{Appends, Keeps}
+use Rattle.std.specs.Io.KnownBytes.{Appends}
+use Rattle.ang_host.specs.Events.{DriversFollow}
 use Rattle.ang_host.specs.Meanings.{Meanings}
+use Rattle.ang_engine.specs.Engines.{registrations, world_in, drivers_in}
 use Rattle.ang_engine.specs.declared.engine.Engine.{Engine}
+use Rattle.ang_registry.specs.Roles.{roles_of}
 use Rattle.asrun_lines.specs.Lines.{lines_of, shown_of, is_skipped}
-use Rattle.asrun_lines.specs.SessionLines.{session_line_of}
-use Rattle.asrun_session.specs.Deeds.{bad_line_text}
-use Rattle.asrun_session.specs.Engines.{Prints}
-use Rattle.asrun_session.specs.Session.{Act, act_of, budget_after}
-use Rattle.asremote.specs.Commands.{done_text}
+use Rattle.asrun_lines.specs.SessionLines.{session_line_of, is_header}
+use Rattle.asrun_session.specs.Deeds.{Does as DoesDeed, deed_events, bad_line_text}
+use Rattle.asrun_session.specs.Session.{Act, act_of}
+use Rattle.asrun_session.specs.Writing.{HasFront}
+use Rattle.asremote.specs.Talk.{Says, Nothing, Does, Wrong, ticks_after, Turned, Passed, Did, Unread, says_of, is_right, bad_form_text, answer_text, turn_text}
 use Rattle.asremote.specs.declared.turns.At.{At}
 use Rattle.asremote.specs.declared.turns.Turn.{Turn}
 use Rattle.asremote.specs.declared.turns.Turn.TheVariants as turn
 
-module _ {V : Type 0} {P : V → Type 0} (m : Meanings P) (e f : Engine V P) (old new : Option (List ℕ)) where
-  -- the line says nothing
-  pub record Passes (ticks : ℕ) (line : List ℕ) (ok : Bool) (next lines : ℕ) : Type 0 where
-    pub told : is_skipped (shown_of line) ≡ true
-    pub is_ok : ok ≡ true
-    pub budget : next ≡ ticks
-    pub lines_are : lines ≡ 0
-    pub engine : f ≡ e
-    pub nothing : new ≡ old
+-- what a line does, before the lines of its section
+abbrev pub said_by : ℕ → List ℕ → List (List ℕ) → Option Act
+said_by ticks line section =
+    option_and_then (act_of ticks section) (session_line_of (shown_of line))
 
-  -- the line is a command, which is done
-  pub record Performs (ticks : ℕ) (line : List ℕ) (section : List (List ℕ)) (ok : Bool) (next lines : ℕ) : Type 0 where
-    pub act : Act
-    pub told : is_skipped (shown_of line) ≡ false
-    pub said : option_and_then (act_of ticks section) (session_line_of (shown_of line)) ≡ Some act
-    pub within : act.lines ≤ length section
-    pub lines_are : lines ≡ act.lines
-    pub budget : next ≡ budget_after ticks act.action
-    pub printed : Prints m e f act.action old new ok
+-- This is what a line says, and so many lines after it are its section's.
+abbrev pub IsSaid : ℕ → List ℕ → List (List ℕ) → Says → ℕ → Type 0
+IsSaid ticks line section Nothing lines = (is_skipped (shown_of line) ≡ true) × (lines ≡ 0)
+IsSaid ticks line section (Does a) lines =
+    (is_skipped (shown_of line) ≡ false)
+    × (said_by ticks line section ≡ Some (record { action = a; lines = lines }))
+    × (lines ≤ length section)
+IsSaid ticks line section Wrong lines =
+    (is_skipped (shown_of line) ≡ false) × (said_by ticks line section ≡ None)
+    × (is_header (shown_of line) ≡ false) × (lines ≡ 0)
 
-  -- the line is of another form
-  pub record Refuses (number ticks : ℕ) (line : List ℕ) (section : List (List ℕ)) : Type 0 where
-    pub told : is_skipped (shown_of line) ≡ false
-    pub said : option_and_then (act_of ticks section) (session_line_of (shown_of line)) ≡ None
+-- It is of another form, and ends the conversation.
+pub record IsEnding (ticks : ℕ) (line : List ℕ) (section : List (List ℕ)) : Type 0 where
+  pub told : is_skipped (shown_of line) ≡ false
+  pub said : said_by ticks line section ≡ None
+  pub header : is_header (shown_of line) ≡ true
+
+-- What is answered to a line of another form: it goes on after it, or, at the head of a section, not.
+abbrev pub Refuses : Bool → Option (List ℕ) → Option (List ℕ) → ℕ → ℕ → Turn → Type 0
+Refuses header old new number ticks (turn.Done ok next lines) =
+    (header ≡ false) × (ok ≡ false) × (next ≡ ticks) × (lines ≡ 0)
+    × Appends old new bad_form_text
+Refuses header old new number ticks turn.Bad =
+    (header ≡ true) × Appends old new (bad_line_text (Some number))
+
+-- a front of that stands
+abbrev pub RefusesHalf : Bool → Option (List ℕ) → Option (List ℕ) → ℕ → Type 0
+RefusesHalf header old new number =
+    ((header ≡ false) × HasFront old new bad_form_text)
+    ⊎ ((header ≡ true) × HasFront old new (bad_line_text (Some number)))
+
+module _ {V : Type 0} {P : V → Type 0} (m : Meanings P) (e f : Engine V P) where
+  -- A command was done: the drivers followed its events. Of other turns the engine has no part.
+  abbrev pub Comes : Turned → Type 0
+  Comes Passed = f ≡ e
+  Comes (Did d) =
+      DoesDeed (registrations e) (world_in m e) d (world_in m f)
+      × DriversFollow m (roles_of (registrations e)) (drivers_in e) (deed_events d) (drivers_in f)
+  Comes Unread = f ≡ e
+
+  -- a turn was taken with a line, after which the next command may take `next` ticks
+  pub record IsTaken (ticks : ℕ) (line : List ℕ) (section : List (List ℕ)) (t : Turned)
+      (next lines : ℕ) : Type 0 where
+    pub said : IsSaid ticks line section (says_of t) lines
+    pub budget : next ≡ ticks_after ticks (says_of t)
+    pub comes : Comes t
+
+  -- the same, and what is answered was printed
+  pub record Answers (old new : Option (List ℕ)) (ticks : ℕ) (line : List ℕ)
+      (section : List (List ℕ)) (ok : Bool) (next lines : ℕ) : Type 0 where
+    pub did : Turned
+    pub taken : IsTaken ticks line section did next lines
+    pub is_ok : ok ≡ is_right did
+    pub printed : Appends old new (answer_text did)
+
+  -- and `done` after it
+  pub record Goes (old new : Option (List ℕ)) (number ticks : ℕ) (line : List ℕ)
+      (section : List (List ℕ)) (at : At) : Type 0 where
+    pub did : Turned
+    pub lines : ℕ
+    pub taken : IsTaken ticks line section did at.ticks lines
+    pub is_ok : at.ok ≡ is_right did
+    pub place : at.number ≡ number + (1 + lines)
+    pub printed : Appends old new (turn_text did)
+
+  -- the line ends the conversation
+  pub record Ends (old new : Option (List ℕ)) (number ticks : ℕ) (line : List ℕ)
+      (section : List (List ℕ)) : Type 0 where
+    pub ending : IsEnding ticks line section
     pub same : f ≡ e
     pub printed : Appends old new (bad_line_text (Some number))
 
+  -- a front of what is printed for a turn stands
+  pub record GoesHalf (old new : Option (List ℕ)) (ticks : ℕ) (line : List ℕ)
+      (section : List (List ℕ)) : Type 0 where
+    pub did : Turned
+    pub next : ℕ
+    pub lines : ℕ
+    pub taken : IsTaken ticks line section did next lines
+    pub front : HasFront old new (turn_text did)
+
+  -- a front of what is printed for a line that ends the conversation stands
+  pub record EndsHalf (old new : Option (List ℕ)) (number ticks : ℕ) (line : List ℕ)
+      (section : List (List ℕ)) : Type 0 where
+    pub ending : IsEnding ticks line section
+    pub same : f ≡ e
+    pub front : HasFront old new (bad_line_text (Some number))
+
+  -- nothing was done
+  abbrev pub Stays : Option (List ℕ) → Option (List ℕ) → Type 0
+  Stays old new = (f ≡ e) × (new ≡ old)
+
   -- what a turn did with the command of the lines `line` and `section`
-  abbrev pub Turns : ℕ → ℕ → List ℕ → List (List ℕ) → Turn → Type 0
-  Turns number ticks line section (turn.Done ok next lines) =
-      Passes ticks line ok next lines ⊎ Performs ticks line section ok next lines
-  Turns number ticks line section turn.Bad = Refuses number ticks line section
+  abbrev pub Turns : Option (List ℕ) → Option (List ℕ) → ℕ → ℕ → List ℕ → List (List ℕ) → Turn → Type 0
+  Turns old new number ticks line section (turn.Done ok next lines) =
+      Answers old new ticks line section ok next lines
+  Turns old new number ticks line section turn.Bad = Ends old new number ticks line section
+
+  -- and where it was cut short
+  abbrev pub TurnsHalf : Option (List ℕ) → Option (List ℕ) → ℕ → ℕ → List ℕ → List (List ℕ) → Type 0
+  TurnsHalf old new number ticks line section =
+      GoesHalf old new ticks line section
+      ⊎ (EndsHalf old new number ticks line section ⊎ Stays old new)
 
   -- the same of the text of a command
-  abbrev pub TakesTurn : ℕ → ℕ → List ℕ → Turn → Type 0
-  TakesTurn number ticks text t =
-      (line : List ℕ) (section : List (List ℕ)) → lines_of text ≡ line ∷ section → Turns number ticks line section t
+  abbrev pub TakesTurn : Option (List ℕ) → Option (List ℕ) → ℕ → ℕ → List ℕ → Turn → Type 0
+  TakesTurn old new number ticks text t =
+      (line : List ℕ) (section : List (List ℕ)) → lines_of text ≡ line ∷ section
+      → Turns old new number ticks line section t
 
--- A turn was taken, and told: the writer has the bytes old, and new at the end; that of `done` has told and told_after.
-module _ {V : Type 0} {P : V → Type 0} (m : Meanings P) (e f : Engine V P) (old new told told_after : Option (List ℕ)) where
-  pub record Goes (number ticks : ℕ) (line : List ℕ) (section : List (List ℕ)) (at : At) : Type 0 where
-    pub middle : Option (List ℕ)
-    pub many : ℕ
-    pub turned : Passes m e f old middle ticks line at.ok at.ticks many ⊎ Performs m e f old middle ticks line section at.ok at.ticks many
-    pub kept : Keeps middle new
-    pub done : Appends told told_after (done_text 1)
-    pub place : at.number ≡ number + (1 + many)
+  abbrev pub TakesHalf : Option (List ℕ) → Option (List ℕ) → ℕ → ℕ → List ℕ → Type 0
+  TakesHalf old new number ticks text =
+      (line : List ℕ) (section : List (List ℕ)) → lines_of text ≡ line ∷ section
+      → TurnsHalf old new number ticks line section
 
-  -- or the line is of another form, and nothing is told
-  abbrev pub TakesOne : ℕ → ℕ → List ℕ → Option At → Type 0
-  TakesOne number ticks text None =
-      (line : List ℕ) (section : List (List ℕ)) → lines_of text ≡ line ∷ section → Refuses m e f old new number ticks line section × (told_after ≡ told)
-  TakesOne number ticks text (Some at) =
-      (line : List ℕ) (section : List (List ℕ)) → lines_of text ≡ line ∷ section → Goes number ticks line section at
+  -- A turn was taken and `done` was told, or the line ends the conversation.
+  abbrev pub TakesOne : Option (List ℕ) → Option (List ℕ) → ℕ → ℕ → List ℕ → Option At → Type 0
+  TakesOne old new number ticks text None =
+      (line : List ℕ) (section : List (List ℕ)) → lines_of text ≡ line ∷ section
+      → Ends old new number ticks line section
+  TakesOne old new number ticks text (Some at) =
+      (line : List ℕ) (section : List (List ℕ)) → lines_of text ≡ line ∷ section
+      → Goes old new number ticks line section at

@@ -2,17 +2,12 @@
 
 ghost use Rattle.std.specs.Prelude.{◌≡◌, ◌≤◌, true, false, Some, IfOk, IfSome, codes, is_some, option_map, string_bytes};
 ghost use Rattle.clap.specs.Words.{app_of, first_value, one_text, found_of};
-ghost use Rattle.asremote.specs.Options.{program, budget_given, drivers_given, is_complete};
+ghost use Rattle.asrun_lines.specs.Budget.{budget_given};
+ghost use Rattle.asremote.specs.Options.{program, drivers_given, is_complete};
 
-use asrun_lines::decimal;
+use asrun_lines::{budget_of, decimal};
 use clap::{Arg, ArgAction, ArgMatches, Command};
 use std::alloc::{AllocError, Global};
-
-/// The most ticks that `--budget` may give.
-const MOST_TICKS: u64 = 2_147_483_647;
-
-/// The ticks where `--budget` is not given.
-const DEFAULT_TICKS: u64 = 1_000_000;
 
 /// The most drivers that `--drivers` may give.
 const MOST_DRIVERS: u64 = 64;
@@ -36,8 +31,8 @@ const FORMATS: &str =
     and the exit status.";
 
 /// What the command line says.
-#[derive(Debug, Drop)]
-pub struct Options {
+#[derive(Drop)]
+pub struct RemoteOptions {
     /// The path of the profile.
     pub profile: String,
     /// How many drivers there are, from 1 to 64.
@@ -67,24 +62,6 @@ pub fn command_line<'a>(alloc: Global) -> Result<Command<'a>, AllocError>
         .arg(echo.help(ECHO_HELP))
 }
 
-/// The budget that is given, or the one where none is. None where it is no number from 1 to the most.
-#[tactic(auto, unfolding(crate::specs::Options::budget_given))]
-fn budget_of(text: Option<&str>) -> Option<u64>
-    ensures exact { result ≡ budget_given (option_map (λ s. s.now) text.entry) }
-    ensures least { IfSome result (λ n. 1 ≤ n) }
-    ensures most { IfSome result (λ n. n ≤ 2147483647) }
-{
-    let Some(text) = text else {
-        return Some(DEFAULT_TICKS);
-    };
-    let ticks = decimal(text.as_bytes(), 10)?;
-    if 1 <= ticks && ticks <= MOST_TICKS {
-        Some(ticks)
-    } else {
-        None
-    }
-}
-
 /// The number of drivers that is given, or 1 where none is. None where it is no number from 1 to the most.
 #[tactic(auto, unfolding(crate::specs::Options::drivers_given))]
 fn drivers_of(text: Option<&str>) -> Option<u32>
@@ -104,7 +81,7 @@ fn drivers_of(text: Option<&str>) -> Option<u32>
 }
 
 /// The options of a command line that was read. None where a number is not in its range.
-pub fn chosen(alloc: Global, matches: &ArgMatches<'_>) -> Result<Option<Options>, AllocError>
+pub fn chosen(alloc: Global, matches: &ArgMatches<'_>) -> Result<Option<RemoteOptions>, AllocError>
     ensures profile { IfOk result (λ r. IfSome r
         (λ o. first_value (found_of matches.now) (codes "profile")
         ≡ Some (string_bytes o.profile))) }
@@ -137,7 +114,7 @@ pub fn chosen(alloc: Global, matches: &ArgMatches<'_>) -> Result<Option<Options>
     let Some(profile) = matches.get_str("profile") else {
         return Ok(None);
     };
-    Ok(Some(Options {
+    Ok(Some(RemoteOptions {
         profile: String::from_str(alloc, profile)?,
         drivers,
         budget,

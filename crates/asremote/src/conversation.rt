@@ -1,15 +1,17 @@
 //! A conversation: the lines of a session are read one after the other, and each command is done before the next line
 //! is read.
-ghost use Rattle.std.specs.Prelude.{◌≡◌, ◌≢◌, ◌<◌, ◌^◌, length, cond, IfOk, IfSome, OnOk};
+ghost use Rattle.std.specs.Prelude.{◌≡◌, ◌<◌, ◌^◌, [], length, cond, IfOk, IfSome, OnOk, OnErr};
 ghost use Rattle.std.specs.Io.KnownBytes.{Appends};
 ghost use Rattle.ang_host.specs.Boxes.{members};
 ghost use Rattle.ang_engine.specs.Engines.{registrations, world_in, drivers_in};
 ghost use Rattle.ang_engine.specs.Sound.{IsSound};
-ghost use Rattle.ang_engine_world.specs.World.{no_modules};
+ghost use Rattle.ang_engine_modules.specs.World.{no_modules};
 ghost use Rattle.asrun_session.specs.Drivers.{kinds_of, AreListed};
 ghost use Rattle.asrun_session.specs.Engines.{Comes};
 ghost use Rattle.asrun_session.specs.Whole.{start_of, long_session_text};
-ghost use Rattle.asremote.specs.Conversation.{Converses, Talks, TalksOver};
+ghost use Rattle.asrun_session.specs.Writing.{HasFront};
+ghost use Rattle.asremote.specs.Conversation.{Converses, IsCutShort, TalksOver, StopsOver, Tells};
+ghost use Rattle.asremote.specs.Talk.{done_line};
 
 use crate::commands::{Next, read_command};
 use crate::turns::{one_turn, print_done};
@@ -17,8 +19,8 @@ use ang_engine::{Engine, NewError, NewRefused};
 use ang_host::{Driver, Drivers};
 use ang_registry::Registry;
 use asrun_session::{
-    IoFault, SessionEnd, Status, Stop, load_profile, outcome_of, print_drivers_error,
-    print_no_driver, write_text,
+    IoFault, ReplyBuffer, SessionEnd, SessionError, Status, load_profile, outcome_of,
+    print_drivers_error, print_no_driver, write_text,
 };
 use std::alloc::Global;
 use std::io::{Read, Write};
@@ -34,36 +36,42 @@ fn ended(all_ok: bool) -> Status
 }
 
 /// Says that a command is too long.
-fn print_too_long<W: Write>(writer: &mut W) -> Result<Status, Stop>
+fn print_too_long<W: Write>(writer: &mut W) -> Result<Status, SessionError>
     ensures whole { OnOk result
         (Appends (W.contents writer.old) (W.contents writer.new) long_session_text) }
     ensures status { IfOk result (λ status. status ≡ Status.BadInput) }
+    ensures front { OnErr result
+        (HasFront (W.contents writer.old) (W.contents writer.new) long_session_text) }
 {
     write_text(writer, b"line 0 TooLong\n")?;
     Ok(Status::BadInput)
 }
 
-/// Reads commands and does them, until the input ends or a line is of another form. The writer has the replies, and
-/// `turns` a line `done` for each command.
+/// Reads commands and does them, until the input ends or a line ends the conversation. The writer has the reply of each,
+/// and `done` after it.
 ///
 /// # Errors
 /// A read fault, also after 4,294,967,295 commands; a write fault; and want of memory.
-fn turns_on<S: Read, W: Write, D: Write>(
+fn turns_on<S: Read, W: Write>(
     alloc: Global,
     input: &mut S,
     writer: &mut W,
-    turns: &mut D,
+    buffer: &mut ReplyBuffer,
     engine: &mut Engine,
     budget: u64,
-) -> Result<Status, Stop>
+) -> Result<Status, SessionError>
     requires sound { IsSound ⟦<dyn Driver as Driver>⟧ engine.old }
     ensures sound { IsSound ⟦<dyn Driver as Driver>⟧ engine.new }
     ensures registrations { registrations engine.new ≡ registrations engine.old }
     ensures order { kinds_of (drivers_in engine.new) ≡ kinds_of (drivers_in engine.old) }
     ensures done { IfOk result (λ status. Comes ⟦<dyn Driver as Driver>⟧ engine.old engine.new
         (Converses (registrations engine.old) (world_in ⟦<dyn Driver as Driver>⟧ engine.old)
-        budget 0 (S.remaining input.old) (S.remaining input.new) (W.contents writer.old)
-        (W.contents writer.new) (D.contents turns.old) (D.contents turns.new) status)) }
+        budget [] (S.remaining input.old) (S.remaining input.new) (W.contents writer.old)
+        (W.contents writer.new) status)) }
+    ensures cut { OnErr result (Comes ⟦<dyn Driver as Driver>⟧ engine.old engine.new
+        (IsCutShort (registrations engine.old) (world_in ⟦<dyn Driver as Driver>⟧ engine.old)
+        budget [] (S.remaining input.old) (S.remaining input.new) (W.contents writer.old)
+        (W.contents writer.new))) }
 {
     let mut number = 1;
     let mut ticks = budget;
@@ -72,7 +80,7 @@ fn turns_on<S: Read, W: Write, D: Write>(
         let mut text = Vec::new(alloc);
         match read_command(alloc, input, &mut text)? {
             Next::Command => {
-                match one_turn(alloc, engine, writer, turns, &text, number, ticks)? {
+                match one_turn(alloc, engine, writer, buffer, &text, number, ticks)? {
                     Some(at) => {
                         all_ok &= at.ok;
                         ticks = at.ticks;
@@ -82,7 +90,7 @@ fn turns_on<S: Read, W: Write, D: Write>(
                 }
             }
             Next::Last => {
-                return match one_turn(alloc, engine, writer, turns, &text, number, ticks)? {
+                return match one_turn(alloc, engine, writer, buffer, &text, number, ticks)? {
                     Some(at) => Ok(ended(all_ok & at.ok)),
                     None => Ok(Status::BadInput),
                 };
@@ -91,53 +99,59 @@ fn turns_on<S: Read, W: Write, D: Write>(
             Next::End => return Ok(ended(all_ok)),
         }
     }
-    Err(Stop::Fault(IoFault::Read))
+    Err(SessionError::Fault(IoFault::Read))
 }
 
 /// Tells the start, and goes on as `turns_on`.
 ///
 /// # Errors
 /// Those of `turns_on`.
-fn run_turns<S: Read, W: Write, D: Write>(
+fn run_turns<S: Read, W: Write>(
     alloc: Global,
     input: &mut S,
     writer: &mut W,
-    turns: &mut D,
+    buffer: &mut ReplyBuffer,
     engine: &mut Engine,
     budget: u64,
-) -> Result<Status, Stop>
+) -> Result<Status, SessionError>
     requires sound { IsSound ⟦<dyn Driver as Driver>⟧ engine.old }
     ensures sound { IsSound ⟦<dyn Driver as Driver>⟧ engine.new }
     ensures registrations { registrations engine.new ≡ registrations engine.old }
     ensures order { kinds_of (drivers_in engine.new) ≡ kinds_of (drivers_in engine.old) }
     ensures done { IfOk result (λ status. Comes ⟦<dyn Driver as Driver>⟧ engine.old engine.new
         (Converses (registrations engine.old) (world_in ⟦<dyn Driver as Driver>⟧ engine.old)
-        budget 1 (S.remaining input.old) (S.remaining input.new) (W.contents writer.old)
-        (W.contents writer.new) (D.contents turns.old) (D.contents turns.new) status)) }
+        budget done_line (S.remaining input.old) (S.remaining input.new)
+        (W.contents writer.old) (W.contents writer.new) status)) }
+    ensures cut { OnErr result (Comes ⟦<dyn Driver as Driver>⟧ engine.old engine.new
+        (IsCutShort (registrations engine.old) (world_in ⟦<dyn Driver as Driver>⟧ engine.old)
+        budget done_line (S.remaining input.old) (S.remaining input.new)
+        (W.contents writer.old) (W.contents writer.new))) }
 {
-    print_done(writer, turns)?;
-    turns_on(alloc, input, writer, turns, engine, budget)
+    print_done(writer)?;
+    turns_on(alloc, input, writer, buffer, engine, budget)
 }
 
 /// Makes the engine, holds the conversation and discards the engine.
-fn run_engine<S: Read, W: Write, D: Write>(
+fn run_engine<S: Read, W: Write>(
     alloc: Global,
     input: &mut S,
     writer: &mut W,
-    turns: &mut D,
+    buffer: &mut ReplyBuffer,
     registry: Registry,
     drivers: Drivers,
     budget: u64,
-) -> (Result<Status, Stop>, Vec<Box<dyn Driver>>)
+) -> (Result<Status, SessionError>, Vec<Box<dyn Driver>>)
     requires listed { AreListed ⟦<dyn Driver as Driver>⟧ (members drivers) }
     ensures done { IfOk result.0 (TalksOver ⟦<dyn Driver as Driver>⟧ (members drivers)
         result.1.items budget (S.remaining input.old) (S.remaining input.new)
-        (W.contents writer.old) (W.contents writer.new) (D.contents turns.old)
-        (D.contents turns.new) registry.entries) }
+        (W.contents writer.old) (W.contents writer.new) registry.entries) }
+    ensures cut { OnErr result.0 (StopsOver ⟦<dyn Driver as Driver>⟧ (members drivers)
+        result.1.items budget (S.remaining input.old) (S.remaining input.new)
+        (W.contents writer.old) (W.contents writer.new) registry.entries) }
 {
     match Engine::new(alloc, registry, drivers) {
         Ok(mut engine) => {
-            let ended = run_turns(alloc, input, writer, turns, &mut engine, budget);
+            let ended = run_turns(alloc, input, writer, buffer, &mut engine, budget);
             (ended, engine.discard())
         }
         Err(
@@ -150,7 +164,7 @@ fn run_engine<S: Read, W: Write, D: Write>(
             drop(registry);
             let ended = match why {
                 NewError::NoDriver => print_no_driver(writer),
-                NewError::Memory => Err(Stop::Memory),
+                NewError::Memory => Err(SessionError::Memory),
             };
             (ended, drivers.into_boxes())
         }
@@ -158,23 +172,25 @@ fn run_engine<S: Read, W: Write, D: Write>(
 }
 
 /// Holds the conversation with these drivers, if they are taken.
-fn run_drivers<S: Read, W: Write, D: Write>(
+fn run_drivers<S: Read, W: Write>(
     alloc: Global,
     input: &mut S,
     writer: &mut W,
-    turns: &mut D,
+    buffer: &mut ReplyBuffer,
     registry: Registry,
     drivers: Vec<Box<dyn Driver>>,
     budget: u64,
-) -> (Result<Status, Stop>, Vec<Box<dyn Driver>>)
+) -> (Result<Status, SessionError>, Vec<Box<dyn Driver>>)
     requires few { length drivers.items < 2 ^ 60 }
     ensures done { IfOk result.0 (TalksOver ⟦<dyn Driver as Driver>⟧ drivers.items
         result.1.items budget (S.remaining input.old) (S.remaining input.new)
-        (W.contents writer.old) (W.contents writer.new) (D.contents turns.old)
-        (D.contents turns.new) registry.entries) }
+        (W.contents writer.old) (W.contents writer.new) registry.entries) }
+    ensures cut { OnErr result.0 (StopsOver ⟦<dyn Driver as Driver>⟧ drivers.items
+        result.1.items budget (S.remaining input.old) (S.remaining input.new)
+        (W.contents writer.old) (W.contents writer.new) registry.entries) }
 {
     match Drivers::new(drivers) {
-        Ok(drivers) => run_engine(alloc, input, writer, turns, registry, drivers, budget),
+        Ok(drivers) => run_engine(alloc, input, writer, buffer, registry, drivers, budget),
         Err((why, drivers)) => {
             drop(registry);
             (print_drivers_error(writer, why), drivers)
@@ -182,29 +198,32 @@ fn run_drivers<S: Read, W: Write, D: Write>(
     }
 }
 
-/// Holds a conversation over a profile with these drivers: reads a command, does it, writes its reply to `out`, and so
-/// on. What is written to `turns`, `done` for each, comes after what was written to `out` until then.
+/// Holds a conversation over a profile with these drivers: reads a command, does it, writes its reply to `out` and then
+/// `done`, and so on. What the drivers are asked for a command, they are asked before its reply is begun.
 ///
-/// What `out` is given is what a session of the lines that were read writes. A command has at most 16,777,216 bytes with
-/// its section. On every exit the engine, where there was one, has been discarded.
-pub fn converse<P: Read, S: Read, W: Write, D: Write>(
+/// A line of another form is answered `refused BadLine`, unless its first letters are `section`. A command has at most
+/// 16,777,216 bytes with its section. On every exit the engine, where there was one, has been discarded.
+pub fn converse<P: Read, S: Read, W: Write>(
     alloc: Global,
     profile: &mut P,
     input: &mut S,
     out: &mut W,
-    turns: &mut D,
     drivers: Vec<Box<dyn Driver>>,
     budget: u64,
 ) -> SessionEnd
     requires few { length drivers.items < 2 ^ 60 }
-    ensures talked { IfSome (P.remaining profile.old) (λ text. IfOk result.outcome
-        (λ status. status ≢ Status.Memory → Talks ⟦<dyn Driver as Driver>⟧ drivers.items
-        result.drivers.items budget (S.remaining input.old) (S.remaining input.new)
-        (W.contents out.old) (W.contents out.new) (D.contents turns.old)
-        (D.contents turns.new) (start_of text) status)) }
+    ensures told { IfSome (P.remaining profile.old) (λ text. Tells ⟦<dyn Driver as Driver>⟧
+        drivers.items result.drivers.items budget (S.remaining input.old) (S.remaining input.new)
+        (W.contents out.old) (W.contents out.new) (start_of text) result.outcome) }
 {
+    let Ok(mut buffer) = ReplyBuffer::new(alloc) else {
+        return SessionEnd {
+            outcome: Ok(Status::Memory),
+            drivers,
+        };
+    };
     let mut registry = Registry::new(alloc);
-    match load_profile(alloc, profile, out, &mut registry) {
+    match load_profile(alloc, profile, out, &mut buffer, &mut registry) {
         Ok(true) => {}
         Ok(false) => {
             return SessionEnd {
@@ -219,7 +238,7 @@ pub fn converse<P: Read, S: Read, W: Write, D: Write>(
             };
         }
     }
-    let (ended, drivers) = run_drivers(alloc, input, out, turns, registry, drivers, budget);
+    let (ended, drivers) = run_drivers(alloc, input, out, &mut buffer, registry, drivers, budget);
     SessionEnd {
         outcome: outcome_of(ended),
         drivers,

@@ -7,14 +7,15 @@ mod commands;
 mod conversation;
 mod echo;
 mod ending;
+pub mod laws;
 mod options;
 mod shared;
 mod turns;
 
-use crate::command::Options;
+use crate::command::RemoteOptions;
 use crate::conversation::converse;
 use crate::echo::Echo;
-use crate::ending::{Ending, code_of};
+use crate::ending::{RemoteExit, code_of};
 use crate::shared::Shared;
 use ang_host::Driver;
 use ang_remote::Remote;
@@ -39,30 +40,15 @@ fn print_outcome(rt: &impl Eprint, outcome: Result<Status, IoFault>) {
     }
 }
 
-/// Opens a file to read it. A directory is refused: it could be opened, and not read.
-///
-/// # Errors
-/// That of the operating system, which says why in its words.
-fn open_file(rt: &HostRuntime, path: &str) -> io::Result<File> {
-    let file = File::open(rt, path)?;
-    if file.metadata()?.is_dir() {
-        return Err(io::Error::from(io::ErrorKind::IsADirectory));
-    }
-    Ok(file)
-}
-
 /// Opens the profile and holds the conversation. The commands and the drivers share standard input, and what was read of
 /// it ahead.
 ///
 /// # Errors
 /// A growth of memory was refused before the conversation.
-fn run_file(rt: &HostRuntime, options: &Options) -> Result<Ending, AllocError> {
-    let mut profile = match open_file(rt, options.profile.as_str()) {
-        Ok(file) => file,
-        Err(why) => {
-            let _ = eprintln!(rt; "asremote: cannot open {}: {why}", options.profile);
-            return Ok(Ending::CannotOpen);
-        }
+fn run_file(rt: &HostRuntime, options: &RemoteOptions) -> Result<RemoteExit, AllocError> {
+    let Ok(mut profile) = File::open(rt, options.profile.as_str()) else {
+        let _ = eprintln!(rt; "asremote: cannot open {}", options.profile);
+        return Ok(RemoteExit::CannotOpen);
     };
     let alloc = rt.alloc();
     let shared = Shared::new(alloc, rt.stdin())?;
@@ -73,36 +59,34 @@ fn run_file(rt: &HostRuntime, options: &Options) -> Result<Ending, AllocError> {
     }
     // There are as many boxes as drivers. That they are few is what `converse` asks for.
     if boxes.len() > 64 {
-        return Ok(Ending::BadCommandLine);
+        return Ok(RemoteExit::BadCommandLine);
     }
     let mut input = Echo::new(shared, rt.stdout(), options.echo);
     let mut out = rt.stdout();
-    let mut turns = rt.stdout();
     let SessionEnd { outcome, drivers } = converse(
         alloc,
         &mut profile,
         &mut input,
         &mut out,
-        &mut turns,
         boxes,
         options.budget,
     );
     drop(drivers);
     print_outcome(rt, outcome);
-    Ok(Ending::Ran(outcome))
+    Ok(RemoteExit::Ran(outcome))
 }
 
 /// Reads the command line, and holds the conversation that it asks for.
 ///
 /// # Errors
 /// A growth of memory was refused before the conversation.
-fn run_words(rt: &HostRuntime) -> io::Result<Ending> {
+fn run_words(rt: &HostRuntime) -> io::Result<RemoteExit> {
     let alloc = rt.alloc();
     let words: Vec<String> = match env::args(rt) {
         Ok(words) => words.collect(alloc)?,
         Err(error) if error.kind() == io::ErrorKind::InvalidData => {
             let _ = eprintln!(rt; "asremote: an argument is not text in UTF-8");
-            return Ok(Ending::BadCommandLine);
+            return Ok(RemoteExit::BadCommandLine);
         }
         Err(error) => return Err(error),
     };
@@ -111,14 +95,14 @@ fn run_words(rt: &HostRuntime) -> io::Result<Ending> {
         Ok(options) => Ok(run_file(rt, &options)?),
         Err(error) if error.kind() == clap::error::ErrorKind::OutOfMemory => {
             print_no_memory(rt);
-            Ok(Ending::NoMemory)
+            Ok(RemoteExit::NoMemory)
         }
         Err(error) => {
             let _ = error.print(rt);
             Ok(if error.use_stderr() {
-                Ending::BadCommandLine
+                RemoteExit::BadCommandLine
             } else {
-                Ending::Helped
+                RemoteExit::Helped
             })
         }
     }
@@ -129,7 +113,7 @@ fn main(rt: HostRuntime) -> ExitCode {
         Ok(ending) => ending,
         Err(_) => {
             print_no_memory(&rt);
-            Ending::NoMemory
+            RemoteExit::NoMemory
         }
     };
     ExitCode::from(code_of(ending))

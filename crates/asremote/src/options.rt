@@ -3,7 +3,8 @@
 ghost use Rattle.std.specs.Prelude.{◌≡◌, ◌≤◌, true, false, Some, IfOk, IfErr, codes, map, string_bytes};
 ghost use Rattle.clap.specs.Words.{kind_of};
 ghost use Rattle.clap.specs.declared.error.kind.ErrorKind.TheVariants.{OutOfMemory};
-ghost use Rattle.asremote.specs.Options.{given, flag, budget_given, drivers_given, is_right};
+ghost use Rattle.asrun_lines.specs.Budget.{budget_given};
+ghost use Rattle.asremote.specs.Options.{given, flag, drivers_given, is_right};
 
 use crate::command;
 use crate::command::{chosen, command_line};
@@ -17,7 +18,7 @@ use std::alloc::Global;
 /// The error of `clap`: an option that is missing, unknown, given twice or without a value, a budget
 /// that is no number from 1 to 2,147,483,647, a number of drivers that is none from 1 to 64, a wish
 /// for help, or want of memory.
-pub fn options<'a>(alloc: Global, words: &'a [&'a str]) -> Result<command::Options, Error>
+pub fn options<'a>(alloc: Global, words: &'a [&'a str]) -> Result<command::RemoteOptions, Error>
     ensures profile { IfOk result (λ o. given (codes "profile") (map (λ w. w.now) words.now)
         ≡ Some (string_bytes o.profile)) }
     ensures drivers { IfOk result (λ o. drivers_given

@@ -1,17 +1,12 @@
 //! The options of the command line.
-ghost use Rattle.std.specs.Prelude.{◌≡◌, ◌≤◌, Some, IfOk, IfSome, codes, is_some, option_map, string_bytes};
+ghost use Rattle.std.specs.Prelude.{◌≡◌, ◌≤◌, Some, IfOk, IfSome, codes, is_some, string_bytes};
 ghost use Rattle.clap.specs.Words.{app_of, first_value, found_of};
-ghost use Rattle.asrun.specs.Options.{program, budget_given, is_complete};
+ghost use Rattle.asrun_lines.specs.Budget.{budget_given};
+ghost use Rattle.asrun.specs.Options.{program, is_complete};
 
-use asrun_lines::decimal;
+use asrun_lines::budget_of;
 use clap::{Arg, ArgMatches, Command};
 use std::alloc::{AllocError, Global};
-
-/// The most ticks that `--budget` may give.
-const MOST_TICKS: u64 = 2_147_483_647;
-
-/// The ticks where `--budget` is not given.
-const DEFAULT_TICKS: u64 = 1_000_000;
 
 /// What the program is for.
 const ABOUT: &str = "Runs a session of scripts over a profile of what a host offers them.";
@@ -42,8 +37,8 @@ A session of four commands, one of which has a line of script:
 docs/FORMATS.md has all lines, what is printed and the exit status; crates/examples/data has more.";
 
 /// What the command line says.
-#[derive(Debug, Drop)]
-pub struct Options {
+#[derive(Drop)]
+pub struct RunOptions {
     /// The path of the profile.
     pub profile: String,
     /// The path of the session.
@@ -67,26 +62,8 @@ pub fn command_line<'a>(alloc: Global) -> Result<Command<'a>, AllocError>
         .arg(budget.help(BUDGET_HELP))
 }
 
-/// The budget that is given, or the one where none is. None where it is no number from 1 to the most.
-#[tactic(auto, unfolding(crate::specs::Options::budget_given))]
-fn budget_of(text: Option<&str>) -> Option<u64>
-    ensures exact { result ≡ budget_given (option_map (λ s. s.now) text.entry) }
-    ensures least { IfSome result (λ n. 1 ≤ n) }
-    ensures most { IfSome result (λ n. n ≤ 2147483647) }
-{
-    let Some(text) = text else {
-        return Some(DEFAULT_TICKS);
-    };
-    let ticks = decimal(text.as_bytes(), 10)?;
-    if 1 <= ticks && ticks <= MOST_TICKS {
-        Some(ticks)
-    } else {
-        None
-    }
-}
-
 /// The options of a command line that was read. None where the budget is no number from 1 to the most.
-pub fn chosen(alloc: Global, matches: &ArgMatches<'_>) -> Result<Option<Options>, AllocError>
+pub fn chosen(alloc: Global, matches: &ArgMatches<'_>) -> Result<Option<RunOptions>, AllocError>
     ensures profile { IfOk result (λ r. IfSome r
         (λ o. first_value (found_of matches.now) (codes "profile")
         ≡ Some (string_bytes o.profile))) }
@@ -111,7 +88,7 @@ pub fn chosen(alloc: Global, matches: &ArgMatches<'_>) -> Result<Option<Options>
     let Some(session) = matches.get_str("session") else {
         return Ok(None);
     };
-    Ok(Some(Options {
+    Ok(Some(RunOptions {
         profile: String::from_str(alloc, profile)?,
         session: String::from_str(alloc, session)?,
         budget,

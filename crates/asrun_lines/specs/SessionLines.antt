@@ -1,7 +1,8 @@
 -- The lines of a session: what its commands say (docs/EMBEDDING.md, "The program").
-use Rattle.std.specs.Prelude.{◌≡◌, ℕ, List, Option, Some, None, Result, Ok, Err, codes, if◌then◌else◌}
+use Rattle.std.specs.Prelude.{◌≡◌, ℕ, Bool, false, List, length, take, drop, position, nat_lt, Option, Some, None, Result, Ok, Err, codes, if◌then◌else◌}
+use Rattle.std.specs.Char.{is_ascii_alphabetic}
 use Rattle.std.specs.Option.{option_map}
-use Rattle.std.specs.Str.{bytes_eq}
+use Rattle.std.specs.Str.{bytes_eq, str_eq_ignore_ascii_case}
 use Rattle.asrun_lines.specs.Fields.{◌>>=◌, field_of, last_field_of, rest_of, decimal_of, number_of, mask_of}
 use Rattle.asrun_lines.specs.Values.{arguments_of}
 use Rattle.asrun_lines.specs.declared.session_lines.LineError.{LineError}
@@ -91,3 +92,18 @@ session_line_of text = do
       else (if bytes_eq word.0 (codes "call") then call_of word.1
       else (if bytes_eq word.0 (codes "discard") then discard_of word.1
       else (if bytes_eq word.0 (codes "budget") then budget_of word.1 else None))))))))
+
+-- a text begins with `section`, in either case
+unfoldable pub begins_section : List ℕ → Bool
+begins_section text =
+    if nat_lt (length text) 7 then false
+    else str_eq_ignore_ascii_case (take 7 text) (codes "section")
+
+abbrev pub is_header_at : Option ℕ → List ℕ → Bool
+is_header_at None line = false
+is_header_at (Some at) line = begins_section (drop at line)
+
+-- The first letters of a line are `section`, in either case, whatever stands before them: so each line
+-- that may have been meant for the head of a section is known, however it is spelled.
+unfoldable pub is_header : List ℕ → Bool
+is_header line = is_header_at (position is_ascii_alphabetic line) line

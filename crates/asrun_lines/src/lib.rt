@@ -2,14 +2,18 @@
 //! what each form of a line spells.
 #![tactic(auto)]
 
+mod budget;
 mod fields;
 mod lines;
 mod profile_lines;
 mod session_lines;
+mod texts;
 mod values;
 
+pub use budget::budget_of;
 pub use fields::{decimal, field, number};
 pub use lines::{first_line, first_lines, is_skipped, shown};
 pub use profile_lines::{ProfileLine, profile_line};
-pub use session_lines::{LineError, SessionLine, session_line};
+pub use session_lines::{LineError, SessionLine, is_header, session_line};
+pub use texts::{push_key, push_number, push_object, push_signed, push_text};
 pub use values::value;

@@ -1,6 +1,8 @@
 //! The lines of a session.
-ghost use Rattle.std.specs.Prelude.{◌≡◌, IfOk};
-ghost use Rattle.asrun_lines.specs.SessionLines.{Reads, module_of, masked_of, section_of, build_of, bind_of, unbind_of, call_of, discard_of, budget_of, session_line_of};
+ghost use Rattle.std.specs.Prelude.{◌≡◌, ◌<◌, IfOk, IfSome, codes, length, position};
+ghost use Rattle.std.specs.Char.{is_ascii_alphabetic};
+ghost use Rattle.std.specs.Str.{str_eq_ignore_ascii_case};
+ghost use Rattle.asrun_lines.specs.SessionLines.{Reads, module_of, masked_of, section_of, build_of, bind_of, unbind_of, call_of, discard_of, budget_of, session_line_of, begins_section, is_header};
 
 use crate::fields::{decimal, field, last_field, mask, number, rest};
 use crate::values::arguments;
@@ -232,4 +234,42 @@ pub fn session_line(alloc: Global, line: &[u8]) -> Result<SessionLine, LineError
         return budget_line(text);
     }
     Err(LineError::BadLine)
+}
+
+/// Whether this is `section`, in either case.
+fn is_section(word: &[u8]) -> bool
+    ensures exact { result ≡ str_eq_ignore_ascii_case word.now (codes "section") }
+{
+    word.eq_ignore_ascii_case(b"section")
+}
+
+/// Whether a text begins with `section`, in either case.
+#[tactic(auto, unfolding(crate::specs::SessionLines::begins_section))]
+fn begins_section(text: &[u8]) -> bool
+    ensures exact { result ≡ begins_section text.now }
+{
+    if text.len() < 7 {
+        return false;
+    }
+    is_section(&text[..7])
+}
+
+/// The place of the first letter.
+fn first_letter(line: &[u8]) -> Option<usize>
+    ensures exact { result ≡ position is_ascii_alphabetic line.now }
+    ensures within { IfSome result (λ at. at < length line.now) }
+{
+    line.iter().position(|b| b.is_ascii_alphabetic())
+}
+
+/// Whether the first letters of the line are `section`, in either case, whatever stands before them: a line that may have
+/// been meant for the head of a section, whether it is one or not.
+#[tactic(auto, unfolding(crate::specs::SessionLines::is_header))]
+pub fn is_header(line: &[u8]) -> bool
+    ensures exact { result ≡ is_header line.now }
+{
+    match first_letter(line) {
+        Some(at) => begins_section(&line[at..]),
+        None => false,
+    }
 }

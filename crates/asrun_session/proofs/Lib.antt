@@ -1,5 +1,6 @@
 pub mod Appending
 pub mod Doing
+pub mod Held
 pub mod LastEnds
 pub mod Loading
 pub mod ReadBytes

@@ -3,6 +3,7 @@ pub mod Deeds
 pub mod Drivers
 pub mod Engines
 pub mod LastEnds
+pub mod Pieces
 pub mod Profile
 pub mod Reading
 pub mod Session

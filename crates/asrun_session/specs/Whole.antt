@@ -10,7 +10,7 @@ use Rattle.ang_registry.specs.declared.error.RegError.{RegError}
 use Rattle.ang_registry.specs.declared.error.RegError.TheVariants.{Limit, EmptyMask, BadDeclaration, UnknownType, WrongDriver, Duplicate, Memory as NoMemory}
 use Rattle.ang_registry.specs.Registrations.{Registrations}
 use Rattle.ang_view.specs.Registration.{RegistrationList}
-use Rattle.ang_engine_world.specs.World.{World, no_modules}
+use Rattle.ang_engine_modules.specs.World.{World, no_modules}
 use Rattle.asrun_session.specs.Deeds.{IsDone, IsCut}
 use Rattle.asrun_session.specs.Drivers.{EngineRefusal, IsRefused, engine_text, WasDiscarded, DidNothing}
 use Rattle.asrun_lines.specs.Lines.{lines_of}
@@ -21,8 +21,8 @@ use Rattle.asrun_session.specs.declared.ending.IoFault.{IoFault}
 use Rattle.asrun_session.specs.declared.ending.IoFault.TheVariants as io
 use Rattle.asrun_session.specs.declared.ending.Status.{Status}
 use Rattle.asrun_session.specs.declared.ending.Status.TheVariants.{AllOk, SomeRefused, BadInput, Memory}
-use Rattle.asrun_session.specs.declared.ending.Stop.{Stop}
-use Rattle.asrun_session.specs.declared.ending.Stop.TheVariants as stop
+use Rattle.asrun_session.specs.declared.ending.SessionError.{SessionError}
+use Rattle.asrun_session.specs.declared.ending.SessionError.TheVariants as stop
 use Rattle.asrun_session.specs.declared.profile.ProfileFault.{ProfileFault}
 use Rattle.asrun_session.specs.declared.profile.ProfileFault.TheVariants.{BadLine, Refused}
 
@@ -147,7 +147,7 @@ StartStops (Err text) old new = HasFront old new text
 StartStops (Ok R) old new = new ≡ old
 
 -- want of memory is a status, and a fault is none
-abbrev pub outcome_of : Result Status Stop → Result Status IoFault
+abbrev pub outcome_of : Result Status SessionError → Result Status IoFault
 outcome_of (Ok status) = Ok status
 outcome_of (Err stop.Memory) = Ok Memory
 outcome_of (Err (stop.Fault why)) = Err why

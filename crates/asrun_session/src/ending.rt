@@ -5,7 +5,7 @@ use std::alloc::AllocError;
 use thiserror::Error;
 
 /// How a session ended that was read and written without a fault.
-#[derive(Clone, Copy, PartialEq, Eq, Debug)]
+#[derive(Clone, Copy, PartialEq, Eq)]
 pub enum Status {
     /// Every command ended in `ok`.
     AllOk,
@@ -29,8 +29,8 @@ pub enum IoFault {
 }
 
 /// What stops a session before its end.
-#[derive(Clone, Copy, PartialEq, Eq, Debug, Error)]
-pub enum Stop {
+#[derive(Clone, Copy, Debug, Error)]
+pub enum SessionError {
     /// A fault of a reader or of the writer.
     #[error(transparent)]
     Fault(IoFault),
@@ -39,22 +39,22 @@ pub enum Stop {
     Memory,
 }
 
-impl From<AllocError> for Stop {
-    ghost use Rattle.asrun_session.specs.declared.ending.Stop.TheVariants.{Memory};
+impl From<AllocError> for SessionError {
+    ghost use Rattle.asrun_session.specs.declared.ending.SessionError.TheVariants.{Memory};
 
     ghost from_gives = { λ _ e. e ≡ Memory };
 
-    fn from(_e: AllocError) -> Stop {
-        Stop::Memory
+    fn from(_e: AllocError) -> SessionError {
+        SessionError::Memory
     }
 }
 
-impl From<IoFault> for Stop {
-    ghost use Rattle.asrun_session.specs.declared.ending.Stop.TheVariants.{Fault};
+impl From<IoFault> for SessionError {
+    ghost use Rattle.asrun_session.specs.declared.ending.SessionError.TheVariants.{Fault};
 
     ghost from_gives = { λ fault e. e ≡ Fault fault };
 
-    fn from(fault: IoFault) -> Stop {
-        Stop::Fault(fault)
+    fn from(fault: IoFault) -> SessionError {
+        SessionError::Fault(fault)
     }
 }

@@ -8,6 +8,7 @@
 
 mod action;
 mod ending;
+mod printing;
 mod profile;
 mod reading;
 mod run;
@@ -16,8 +17,9 @@ mod whole;
 mod writing;
 
 pub use action::{Act, Action, read_act};
-pub use ending::{IoFault, Status, Stop};
-pub use run::{perform, print_bad_line};
+pub use ending::{IoFault, SessionError, Status};
+pub use printing::{ReplyBuffer, print_bad_line};
+pub use run::perform;
 pub use whole::{
     SessionEnd, load_profile, outcome_of, print_drivers_error, print_no_driver, session,
 };

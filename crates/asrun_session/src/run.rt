@@ -1,56 +1,24 @@
 //! Running what a session says.
-ghost use Rattle.std.specs.Prelude.{◌≡◌, ◌≢◌, ◌<◌, ◌^◌, length, Some, IfOk, IfErr, OnOk, OnErr};
-ghost use Rattle.std.specs.Io.KnownBytes.{Appends};
+ghost use Rattle.std.specs.Prelude.{◌≡◌, ◌≢◌, ◌<◌, ◌^◌, length, IfOk, IfErr, OnErr};
 ghost use Rattle.ang_engine.specs.Engines.{registrations, drivers_in};
 ghost use Rattle.ang_engine.specs.Sound.{IsSound};
-ghost use Rattle.asrun_session.specs.Deeds.{bad_line_text, is_done};
+ghost use Rattle.asrun_session.specs.Deeds.{is_done};
 ghost use Rattle.asrun_session.specs.Drivers.{kinds_of};
 ghost use Rattle.asrun_session.specs.Engines.{Prints, HalfPrints, RunsLines, StopsLines};
 ghost use Rattle.asrun_lines.specs.Lines.{lines_of};
 ghost use Rattle.asrun_session.specs.Reading.{unread};
 ghost use Rattle.asrun_session.specs.Session.{session_from, budget_after};
-ghost use Rattle.asrun_text.specs.Text.{reply_text};
-ghost use Rattle.asrun_session.specs.Writing.{HasFront};
 ghost use Rattle.asrun_session.specs.declared.action.Action.TheVariants as action;
 
 use crate::action::{Action, read_act};
-use crate::ending::{Status, Stop};
-use crate::text::push_bad_line;
+use crate::ending::{SessionError, Status};
+use crate::printing::{ReplyBuffer, print_bad_line, print_reply};
 use crate::writing::write_text;
-use ang_engine::{Command, Engine, Outcome, Reply};
+use ang_engine::{Command, Engine, Outcome};
 use ang_host::Driver;
 use asrun_lines::{LineError, first_line, is_skipped, shown};
-use asrun_text::push_reply;
 use std::alloc::Global;
 use std::io::Write;
-
-/// Prints a reply.
-fn print_reply<W: Write>(alloc: Global, writer: &mut W, reply: &Reply) -> Result<(), Stop>
-    ensures whole { OnOk result
-        (Appends (W.contents writer.old) (W.contents writer.new) (reply_text reply.now)) }
-    ensures front { OnErr result
-        (HasFront (W.contents writer.old) (W.contents writer.new) (reply_text reply.now)) }
-    ensures fault { IfErr result (λ e. e ≢ unread) }
-{
-    let mut text = Vec::new(alloc);
-    push_reply(&mut text, reply)?;
-    write_text(writer, &text)?;
-    Ok(())
-}
-
-/// Prints `line N BadLine`.
-pub fn print_bad_line<W: Write>(alloc: Global, writer: &mut W, number: u64) -> Result<(), Stop>
-    ensures whole { OnOk result
-        (Appends (W.contents writer.old) (W.contents writer.new) (bad_line_text (Some number))) }
-    ensures front { OnErr result
-        (HasFront (W.contents writer.old) (W.contents writer.new) (bad_line_text (Some number))) }
-    ensures fault { IfErr result (λ e. e ≢ unread) }
-{
-    let mut text = Vec::new(alloc);
-    push_bad_line(&mut text, number)?;
-    write_text(writer, &text)?;
-    Ok(())
-}
 
 fn is_done(outcome: Outcome) -> bool
     ensures exact { result ≡ is_done outcome }
@@ -63,11 +31,11 @@ fn is_done(outcome: Outcome) -> bool
 
 /// Runs a command and prints its reply. Says whether it ended in `ok`.
 fn run_command<W: Write>(
-    alloc: Global,
     engine: &mut Engine,
     writer: &mut W,
+    buffer: &mut ReplyBuffer,
     command: Command,
-) -> Result<bool, Stop>
+) -> Result<bool, SessionError>
     requires sound { IsSound ⟦<dyn Driver as Driver>⟧ engine.old }
     ensures sound { IsSound ⟦<dyn Driver as Driver>⟧ engine.new }
     ensures registrations { registrations engine.new ≡ registrations engine.old }
@@ -79,18 +47,20 @@ fn run_command<W: Write>(
     ensures fault { IfErr result (λ e. e ≢ unread) }
 {
     let reply = engine.apply(command);
-    print_reply(alloc, writer, &reply)?;
+    print_reply(writer, buffer, &reply)?;
     Ok(is_done(reply.outcome))
 }
 
 /// Does an action and prints its text. Says whether it ended in `ok`, and the budget after it.
+///
+/// The reply's memory is given back before this returns, and what the buffer held before is not printed.
 pub fn perform<W: Write>(
-    alloc: Global,
     engine: &mut Engine,
     writer: &mut W,
+    buffer: &mut ReplyBuffer,
     action: Action,
     budget: u64,
-) -> Result<(bool, u64), Stop>
+) -> Result<(bool, u64), SessionError>
     requires sound { IsSound ⟦<dyn Driver as Driver>⟧ engine.old }
     ensures sound { IsSound ⟦<dyn Driver as Driver>⟧ engine.new }
     ensures registrations { registrations engine.new ≡ registrations engine.old }
@@ -104,7 +74,7 @@ pub fn perform<W: Write>(
 {
     match action {
         Action::Command(command) => {
-            let ok = run_command(alloc, engine, writer, command)?;
+            let ok = run_command(engine, writer, buffer, command)?;
             Ok((ok, budget))
         }
         Action::Budget(ticks) => {
@@ -119,9 +89,10 @@ pub fn run_session<W: Write>(
     alloc: Global,
     engine: &mut Engine,
     writer: &mut W,
+    buffer: &mut ReplyBuffer,
     text: &[u8],
     budget: u64,
-) -> Result<Status, Stop>
+) -> Result<Status, SessionError>
     requires sound { IsSound ⟦<dyn Driver as Driver>⟧ engine.old }
     requires few { length text.now < 2 ^ 32 }
     ensures sound { IsSound ⟦<dyn Driver as Driver>⟧ engine.new }
@@ -148,17 +119,17 @@ pub fn run_session<W: Write>(
         }
         match read_act(alloc, ticks, line, after) {
             Ok(act) => {
-                let (ok, next) = perform(alloc, engine, writer, act.action, ticks)?;
+                let (ok, next) = perform(engine, writer, buffer, act.action, ticks)?;
                 all_ok &= ok;
                 ticks = next;
                 number += 1 + act.lines;
                 rest = act.rest;
             }
             Err(LineError::BadLine) => {
-                print_bad_line(alloc, writer, number)?;
+                print_bad_line(writer, buffer, number)?;
                 return Ok(Status::BadInput);
             }
-            Err(LineError::Memory) => return Err(Stop::Memory),
+            Err(LineError::Memory) => return Err(SessionError::Memory),
         }
     }
     Ok(if all_ok {

@@ -5,7 +5,7 @@ ghost use Rattle.asrun_session.specs.Whole.{why_text, profile_fault_text};
 
 use crate::profile::ProfileFault;
 use ang_registry::RegError;
-use asrun_text::{push_number, push_text};
+use asrun_lines::{push_number, push_text};
 use std::alloc::AllocError;
 
 /// `line N BadLine`, put after what stands in `out`.

@@ -4,20 +4,20 @@ ghost use Rattle.std.specs.Io.KnownBytes.{Appends};
 ghost use Rattle.ang_host.specs.Boxes.{members};
 ghost use Rattle.ang_engine.specs.Engines.{world_in, drivers_in};
 ghost use Rattle.ang_engine.specs.Sound.{IsSound};
-ghost use Rattle.ang_engine_world.specs.World.{no_modules};
+ghost use Rattle.ang_engine_modules.specs.World.{no_modules};
 ghost use Rattle.asrun_session.specs.Drivers.{kinds_of, AreListed, AreRefused, AreBack, NotListed, NoDriver, engine_text};
 ghost use Rattle.asrun_session.specs.Engines.{RunsText, StopsText};
 ghost use Rattle.asrun_lines.specs.Lines.{lines_of};
 ghost use Rattle.asrun_session.specs.Profile.{loaded};
 ghost use Rattle.asrun_session.specs.Reading.{unread, IsReadThrough};
-ghost use Rattle.asrun_session.specs.Whole.{profile_fault_text, registered_by, most_profile, most_session, start_of, Starts, Tells, StartStops, Ends, Stops, Unread, outcome_of, fresh};
+ghost use Rattle.asrun_session.specs.Whole.{registered_by, most_profile, most_session, start_of, Starts, Tells, StartStops, Ends, Stops, Unread, outcome_of, fresh};
 ghost use Rattle.asrun_session.specs.Writing.{HasFront, unwritten};
 
-use crate::ending::{IoFault, Status, Stop};
-use crate::profile::{ProfileFault, ProfileStop, load};
-use crate::reading::{Text, read_text};
+use crate::ending::{IoFault, SessionError, Status};
+use crate::printing::{ReplyBuffer, print_profile_fault};
+use crate::profile::{ProfileStop, load};
+use crate::reading::{BoundedText, read_text};
 use crate::run::run_session;
-use crate::text::push_profile_fault;
 use crate::writing::write_text;
 use ang_engine::{Engine, NewError, NewRefused};
 use ang_host::{Driver, Drivers, DriversError};
@@ -39,31 +39,13 @@ pub struct SessionEnd {
     pub drivers: Vec<Box<dyn Driver>>,
 }
 
-/// Prints what ends a run at a line of its profile.
-fn print_profile_fault<W: Write>(
-    alloc: Global,
-    writer: &mut W,
-    fault: ProfileFault,
-) -> Result<(), Stop>
-    ensures whole { OnOk result
-        (Appends (W.contents writer.old) (W.contents writer.new) (profile_fault_text fault)) }
-    ensures front { OnErr result
-        (HasFront (W.contents writer.old) (W.contents writer.new) (profile_fault_text fault)) }
-    ensures fault { IfErr result (λ e. e ≢ unread) }
-{
-    let mut text = Vec::new(alloc);
-    push_profile_fault(&mut text, fault)?;
-    write_text(writer, &text)?;
-    Ok(())
-}
-
 /// Registers what the profile says. False where the profile was not taken, which is printed then.
 fn load_text<W: Write>(
-    alloc: Global,
     writer: &mut W,
+    buffer: &mut ReplyBuffer,
     registry: &mut Registry,
     text: &[u8],
-) -> Result<bool, Stop>
+) -> Result<bool, SessionError>
     requires few { length text.now < 2 ^ 32 }
     ensures done { IfOk result (Starts (registered_by (loaded 1 registry.old (lines_of text.now)))
         registry.new.entries (W.contents writer.old) (W.contents writer.new)) }
@@ -76,9 +58,9 @@ fn load_text<W: Write>(
 {
     match load(registry, text) {
         Ok(()) => Ok(true),
-        Err(ProfileStop::Memory) => Err(Stop::Memory),
+        Err(ProfileStop::Memory) => Err(SessionError::Memory),
         Err(ProfileStop::Fault(fault)) => {
-            print_profile_fault(alloc, writer, fault)?;
+            print_profile_fault(writer, buffer, fault)?;
             Ok(false)
         }
     }
@@ -89,8 +71,9 @@ pub fn load_profile<R: Read, W: Write>(
     alloc: Global,
     reader: &mut R,
     writer: &mut W,
+    buffer: &mut ReplyBuffer,
     registry: &mut Registry,
-) -> Result<bool, Stop>
+) -> Result<bool, SessionError>
     requires new { registry.old ≡ fresh }
     ensures done { IfOk result (λ ok. IfSome (R.remaining reader.old) (λ text.
         Starts (start_of text) registry.new.entries (W.contents writer.old)
@@ -106,8 +89,8 @@ pub fn load_profile<R: Read, W: Write>(
     ensures fault { IfErr result (λ e. e ≡ unread → W.contents writer.new ≡ W.contents writer.old) }
 {
     match read_text(alloc, reader, MOST_PROFILE)? {
-        Text::Whole(text) => load_text(alloc, writer, registry, &text),
-        Text::TooLong => {
+        BoundedText::Whole(text) => load_text(writer, buffer, registry, &text),
+        BoundedText::TooLong => {
             write_text(writer, b"profile 0 TooLong\n")?;
             Ok(false)
         }
@@ -119,9 +102,10 @@ fn run_text<R: Read, W: Write>(
     alloc: Global,
     reader: &mut R,
     writer: &mut W,
+    buffer: &mut ReplyBuffer,
     engine: &mut Engine,
     budget: u64,
-) -> Result<Status, Stop>
+) -> Result<Status, SessionError>
     requires sound { IsSound ⟦<dyn Driver as Driver>⟧ engine.old }
     requires new { world_in ⟦<dyn Driver as Driver>⟧ engine.old ≡ no_modules }
     ensures sound { IsSound ⟦<dyn Driver as Driver>⟧ engine.new }
@@ -138,8 +122,8 @@ fn run_text<R: Read, W: Write>(
     ensures unused { IfErr result (λ e. e ≡ unread → engine.new ≡ engine.old) }
 {
     match read_text(alloc, reader, MOST_SESSION)? {
-        Text::Whole(text) => run_session(alloc, engine, writer, &text, budget),
-        Text::TooLong => {
+        BoundedText::Whole(text) => run_session(alloc, engine, writer, buffer, &text, budget),
+        BoundedText::TooLong => {
             write_text(writer, b"line 0 TooLong\n")?;
             Ok(Status::BadInput)
         }
@@ -147,7 +131,10 @@ fn run_text<R: Read, W: Write>(
 }
 
 /// Prints why the drivers were not taken as a list.
-pub fn print_drivers_error<W: Write>(writer: &mut W, why: DriversError) -> Result<Status, Stop>
+pub fn print_drivers_error<W: Write>(
+    writer: &mut W,
+    why: DriversError,
+) -> Result<Status, SessionError>
     ensures whole { OnOk result
         (Appends (W.contents writer.old) (W.contents writer.new) (engine_text (NotListed why))) }
     ensures status { IfOk result (λ status. status ≡ Status.BadInput) }
@@ -163,7 +150,7 @@ pub fn print_drivers_error<W: Write>(writer: &mut W, why: DriversError) -> Resul
 }
 
 /// Prints that an entry's driver is not there.
-pub fn print_no_driver<W: Write>(writer: &mut W) -> Result<Status, Stop>
+pub fn print_no_driver<W: Write>(writer: &mut W) -> Result<Status, SessionError>
     ensures whole { OnOk result
         (Appends (W.contents writer.old) (W.contents writer.new) (engine_text NoDriver)) }
     ensures status { IfOk result (λ status. status ≡ Status.BadInput) }
@@ -180,10 +167,11 @@ fn run_engine<R: Read, W: Write>(
     alloc: Global,
     reader: &mut R,
     writer: &mut W,
+    buffer: &mut ReplyBuffer,
     registry: Registry,
     drivers: Drivers,
     budget: u64,
-) -> (Result<Status, Stop>, Vec<Box<dyn Driver>>)
+) -> (Result<Status, SessionError>, Vec<Box<dyn Driver>>)
     requires listed { AreListed ⟦<dyn Driver as Driver>⟧ (members drivers) }
     ensures done { IfOk result.0 (λ status. IfSome (R.remaining reader.old) (λ text.
         Ends ⟦<dyn Driver as Driver>⟧ (members drivers) result.1.items
@@ -203,7 +191,7 @@ fn run_engine<R: Read, W: Write>(
 {
     match Engine::new(alloc, registry, drivers) {
         Ok(mut engine) => {
-            let ended = run_text(alloc, reader, writer, &mut engine, budget);
+            let ended = run_text(alloc, reader, writer, buffer, &mut engine, budget);
             (ended, engine.discard())
         }
         Err(
@@ -216,7 +204,7 @@ fn run_engine<R: Read, W: Write>(
             drop(registry);
             let ended = match why {
                 NewError::NoDriver => print_no_driver(writer),
-                NewError::Memory => Err(Stop::Memory),
+                NewError::Memory => Err(SessionError::Memory),
             };
             (ended, drivers.into_boxes())
         }
@@ -228,10 +216,11 @@ fn run_drivers<R: Read, W: Write>(
     alloc: Global,
     reader: &mut R,
     writer: &mut W,
+    buffer: &mut ReplyBuffer,
     registry: Registry,
     drivers: Vec<Box<dyn Driver>>,
     budget: u64,
-) -> (Result<Status, Stop>, Vec<Box<dyn Driver>>)
+) -> (Result<Status, SessionError>, Vec<Box<dyn Driver>>)
     requires few { length drivers.items < 2 ^ 60 }
     ensures done { IfOk result.0 (λ status. IfSome (R.remaining reader.old) (λ text.
         Ends ⟦<dyn Driver as Driver>⟧ drivers.items result.1.items
@@ -251,7 +240,7 @@ fn run_drivers<R: Read, W: Write>(
         (W.contents writer.old) (W.contents writer.new) (Ok registry.entries)) }
 {
     match Drivers::new(drivers) {
-        Ok(drivers) => run_engine(alloc, reader, writer, registry, drivers, budget),
+        Ok(drivers) => run_engine(alloc, reader, writer, buffer, registry, drivers, budget),
         Err((why, drivers)) => {
             drop(registry);
             (print_drivers_error(writer, why), drivers)
@@ -259,13 +248,13 @@ fn run_drivers<R: Read, W: Write>(
     }
 }
 
-pub fn outcome_of(ended: Result<Status, Stop>) -> Result<Status, IoFault>
+pub fn outcome_of(ended: Result<Status, SessionError>) -> Result<Status, IoFault>
     ensures exact { result ≡ outcome_of ended }
 {
     match ended {
         Ok(status) => Ok(status),
-        Err(Stop::Memory) => Ok(Status::Memory),
-        Err(Stop::Fault(fault)) => Err(fault),
+        Err(SessionError::Memory) => Ok(Status::Memory),
+        Err(SessionError::Fault(fault)) => Err(fault),
     }
 }
 
@@ -281,8 +270,12 @@ pub fn outcome_of(ended: Result<Status, Stop>) -> Result<Status, IoFault>
 /// `budget` is the number of ticks of each command until a `budget` line gives another. It is not judged
 /// here: a build or a call with one that is 0 or above 2,147,483,647 is refused.
 ///
+/// A reply goes to the writer in pieces of some 32 KiB, each before more than 64 KiB stand in the buffer that is made
+/// here at the start. So printing takes no memory, and the reply of each command that was run is written whole,
+/// whatever memory is left; only the writer can fail.
+///
 /// Nothing here is an error by `Result`: `outcome` has a failure of `read` or `write` as an `IoFault`, and
-/// want of memory as `Status::Memory`.
+/// want of memory as `Status::Memory`. That comes at the start, or while a line of the session is read.
 pub fn session<P: Read, S: Read, W: Write>(
     alloc: Global,
     profile: &mut P,
@@ -308,8 +301,14 @@ pub fn session<P: Read, S: Read, W: Write>(
         ⊎ (AreListed ⟦<dyn Driver as Driver>⟧ drivers.items
         × AreBack ⟦<dyn Driver as Driver>⟧ result.drivers.items) }
 {
+    let Ok(mut buffer) = ReplyBuffer::new(alloc) else {
+        return SessionEnd {
+            outcome: Ok(Status::Memory),
+            drivers,
+        };
+    };
     let mut registry = Registry::new(alloc);
-    match load_profile(alloc, profile, out, &mut registry) {
+    match load_profile(alloc, profile, out, &mut buffer, &mut registry) {
         Ok(true) => {}
         Ok(false) => {
             return SessionEnd {
@@ -324,7 +323,7 @@ pub fn session<P: Read, S: Read, W: Write>(
             };
         }
     }
-    let (ended, drivers) = run_drivers(alloc, session, out, registry, drivers, budget);
+    let (ended, drivers) = run_drivers(alloc, session, out, &mut buffer, registry, drivers, budget);
     SessionEnd {
         outcome: outcome_of(ended),
         drivers,

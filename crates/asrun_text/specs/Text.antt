@@ -19,18 +19,15 @@ use Rattle.ang_host.specs.declared.answer.HostReply.{HostReply}
 use Rattle.ang_host.specs.declared.answer.HostReply.TheVariants as reply
 use Rattle.ang_host.specs.declared.event.HostEvent.{HostEvent}
 use Rattle.ang_host.specs.declared.event.HostEvent.TheVariants as event
-use Rattle.ang_engine_world.specs.declared.reply.Outcome.{Outcome}
-use Rattle.ang_engine_world.specs.declared.reply.Outcome.TheVariants as outcome
-use Rattle.ang_engine_world.specs.declared.reply.Refusal.{Refusal}
-use Rattle.ang_engine_world.specs.declared.reply.Refusal.TheVariants as refusal
-use Rattle.ang_engine_world.specs.declared.reply.Reply.{Reply}
+use Rattle.ang_engine_modules.specs.declared.reply.Outcome.{Outcome}
+use Rattle.ang_engine_modules.specs.declared.reply.Outcome.TheVariants as outcome
+use Rattle.ang_engine_modules.specs.declared.reply.Refusal.{Refusal}
+use Rattle.ang_engine_modules.specs.declared.reply.Refusal.TheVariants as refusal
+use Rattle.ang_engine_modules.specs.declared.reply.Reply.{Reply}
+use Rattle.asrun_lines.specs.Texts.{key_text, object_text}
 
 abbrev pub newline : List ℕ
 newline = 10 ∷ []
-
--- a key is `#k`
-abbrev pub key_text : ℕ → List ℕ
-key_text k = codes "#" ++ decimal k
 
 -- `7`, `-7`, `true`, `#7`, `null`
 unfoldable pub value_text : Value → List ℕ
@@ -78,11 +75,6 @@ answer_text answer.Full = codes "full"
 unfoldable pub host_reply_text : HostReply → List ℕ
 host_reply_text (reply.Making m) = made_text m
 host_reply_text (reply.Asking a) = answer_text a
-
--- the object of a call: `-` for none
-unfoldable pub object_text : Option ℕ → List ℕ
-object_text None = codes "-"
-object_text (Some k) = key_text k
 
 -- `host CALLER ENTRY DRIVER OBJECT (V,V) ANSWER`, or `end DRIVER #k`
 unfoldable pub event_text : HostEvent → List ℕ

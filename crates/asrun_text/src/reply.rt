@@ -1,61 +1,13 @@
 //! The text of a reply, as the program writes it (docs/EMBEDDING.md, "The program").
 ghost use Rattle.std.specs.Prelude.{◌≡◌, ◌<◌, ◌++◌, OnOk, codes, decimal, flat_map};
-ghost use Rattle.std.specs.Fmt.{signed_decimal};
-ghost use Rattle.asrun_text.specs.Text.{value_text, values_text, fault_text, made_text, answer_text, host_reply_text, object_text, event_text, place_text, kind_text, name_text, error_text, mask_text, hex_digit, denial_text, refusal_text, outcome_text, reply_text, key_text};
+ghost use Rattle.asrun_lines.specs.Texts.{object_text};
+ghost use Rattle.asrun_text.specs.Text.{value_text, values_text, fault_text, made_text, answer_text, host_reply_text, event_text, place_text, kind_text, name_text, error_text, mask_text, hex_digit, denial_text, refusal_text, outcome_text, reply_text};
 
 use ang_engine::{Outcome, Refusal, Reply};
 use ang_host::{Answer, HostEvent, HostReply, Made};
 use ang_kinds::{Denial, Error, ErrorKind, Fault, Mask, Place, Value};
-use itoa::Buffer;
+use asrun_lines::{push_key, push_number, push_object, push_signed, push_text};
 use std::alloc::AllocError;
-
-/// The bytes of a text, put after what stands in `out`.
-///
-/// # Errors
-/// A growth of memory was refused. Nothing is promised of `out` then.
-pub fn push_text(out: &mut Vec<u8>, text: &str) -> Result<(), AllocError>
-    ensures added { OnOk result (out.new.items ≡ out.old.items ++ text.now) }
-{
-    out.extend_from_slice(text.as_bytes())
-}
-
-/// A number in decimal digits, put after what stands in `out`.
-///
-/// # Errors
-/// A growth of memory was refused. Nothing is promised of `out` then.
-pub fn push_number(out: &mut Vec<u8>, n: u64) -> Result<(), AllocError>
-    ensures added { OnOk result (out.new.items ≡ out.old.items ++ decimal n) }
-{
-    if n < 10 {
-        out.push(b'0' + n as u8)?;
-        return Ok(());
-    }
-    push_digits(out, n)
-}
-
-/// The same of a number of any length. It stands apart, so that one digit takes no buffer.
-#[inline(never)]
-fn push_digits(out: &mut Vec<u8>, n: u64) -> Result<(), AllocError>
-    ensures added { OnOk result (out.new.items ≡ out.old.items ++ decimal n) }
-{
-    let mut digits = Buffer::new();
-    push_text(out, digits.format(n))
-}
-
-fn push_signed(out: &mut Vec<u8>, n: i64) -> Result<(), AllocError>
-    ensures added { OnOk result (out.new.items ≡ out.old.items ++ signed_decimal n) }
-{
-    let mut buffer = Buffer::new();
-    push_text(out, buffer.format(n))
-}
-
-#[tactic(auto, using(crate::proofs::Texts::texts))]
-fn push_key(out: &mut Vec<u8>, key: u64) -> Result<(), AllocError>
-    ensures added { OnOk result (out.new.items ≡ out.old.items ++ key_text key) }
-{
-    push_text(out, "#")?;
-    push_number(out, key)
-}
 
 #[tactic(auto, using(crate::proofs::Texts::texts), unfolding(crate::specs::Text::value_text))]
 fn push_value(out: &mut Vec<u8>, value: Value) -> Result<(), AllocError>
@@ -217,16 +169,6 @@ fn push_host_reply(out: &mut Vec<u8>, reply: HostReply) -> Result<(), AllocError
     }
 }
 
-#[tactic(auto, using(crate::proofs::Texts::texts), unfolding(crate::specs::Text::object_text))]
-fn push_object(out: &mut Vec<u8>, object: Option<u64>) -> Result<(), AllocError>
-    ensures added { OnOk result (out.new.items ≡ out.old.items ++ object_text object) }
-{
-    match object {
-        None => push_text(out, "-"),
-        Some(key) => push_key(out, key),
-    }
-}
-
 /// The line of a host call, from its entity on.
 #[tactic(auto, using(crate::proofs::Texts::texts))]
 fn push_asked(
@@ -245,8 +187,12 @@ fn push_asked(
     push_object(out, object)
 }
 
+/// The line of a host call or of the end of a host object, put after what stands in `out`.
+///
+/// # Errors
+/// A growth of memory was refused. Nothing is promised of `out` then.
 #[tactic(auto, using(crate::proofs::Texts::texts), unfolding(crate::specs::Text::event_text))]
-fn push_event(out: &mut Vec<u8>, event: &HostEvent) -> Result<(), AllocError>
+pub fn push_event(out: &mut Vec<u8>, event: &HostEvent) -> Result<(), AllocError>
     ensures added { OnOk result (out.new.items ≡ out.old.items ++ event_text event.now) }
 {
     match event {
@@ -287,8 +233,12 @@ fn push_name(out: &mut Vec<u8>, name: &[u8]) -> Result<(), AllocError>
     push_bytes(out, name)
 }
 
+/// The line of an error, put after what stands in `out`.
+///
+/// # Errors
+/// A growth of memory was refused. Nothing is promised of `out` then.
 #[tactic(auto, using(crate::proofs::Texts::texts), unfolding(crate::specs::Text::error_text))]
-fn push_error(out: &mut Vec<u8>, error: &Error) -> Result<(), AllocError>
+pub fn push_error(out: &mut Vec<u8>, error: &Error) -> Result<(), AllocError>
     ensures added { OnOk result (out.new.items ≡ out.old.items ++ error_text error.now) }
 {
     push_text(out, "error ")?;
@@ -318,8 +268,12 @@ fn push_mask(out: &mut Vec<u8>, mask: Mask) -> Result<(), AllocError>
     Ok(())
 }
 
+/// The line of a denial, put after what stands in `out`.
+///
+/// # Errors
+/// A growth of memory was refused. Nothing is promised of `out` then.
 #[tactic(auto, using(crate::proofs::Texts::texts), unfolding(crate::specs::Text::denial_text))]
-fn push_denial(out: &mut Vec<u8>, denial: Denial) -> Result<(), AllocError>
+pub fn push_denial(out: &mut Vec<u8>, denial: Denial) -> Result<(), AllocError>
     ensures added { OnOk result (out.new.items ≡ out.old.items ++ denial_text denial) }
 {
     push_text(out, "denied ")?;
@@ -365,8 +319,12 @@ fn push_refusal(out: &mut Vec<u8>, refusal: Refusal) -> Result<(), AllocError>
     }
 }
 
+/// The line of an outcome, put after what stands in `out`.
+///
+/// # Errors
+/// A growth of memory was refused. Nothing is promised of `out` then.
 #[tactic(auto, using(crate::proofs::Texts::texts), unfolding(crate::specs::Text::outcome_text))]
-fn push_outcome(out: &mut Vec<u8>, outcome: Outcome) -> Result<(), AllocError>
+pub fn push_outcome(out: &mut Vec<u8>, outcome: Outcome) -> Result<(), AllocError>
     ensures added { OnOk result (out.new.items ≡ out.old.items ++ outcome_text outcome) }
 {
     match outcome {

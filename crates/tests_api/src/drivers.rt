@@ -1,5 +1,6 @@
 mod asking;
 mod console;
 mod faulty;
+mod limited;
 mod listed;
 mod objects;

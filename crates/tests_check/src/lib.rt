@@ -1,7 +1,9 @@
-//! Tests from a section's text on, by public calls: what the checker refuses and gives, and what operators are between
-//! operands made by hand.
+//! Tests from a section's text on, by public calls: what the checker refuses and gives, what operators are between
+//! operands made by hand, and the report of denials.
 #![tactic(auto)]
 
+#[cfg(test)]
+mod denials;
 #[cfg(test)]
 mod enumerations;
 #[cfg(test)]

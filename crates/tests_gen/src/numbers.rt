@@ -1,5 +1,5 @@
 use ang_kinds::{Fault, Prim};
-use ang_meaning::{Arithmetic, Change, Comparison};
+use ang_meaning::{Arithmetic, Comparison, Update};
 use ang_vm_numbers::{change, compare, complement, convert, deny, negate, work};
 
 // The 64 bits of a negative number.
@@ -53,11 +53,11 @@ const WORKS: [(Arithmetic, Prim, u64, u64, Result<u64, Fault>); 8] = [
 #[test]
 fn operators(rt: HostRuntime) {
     for (what, at, x, y, want) in WORKS {
-        assert!(rt; work(what, at, x, y) == want, "{what:?} of {x} and {y}");
+        assert!(rt; work(what, at, x, y) == want, "{x} and {y}");
     }
 }
 
-const STEP: Change = Change {
+const STEP: Update = Update {
     work: Arithmetic::Add,
     at: Prim::I32,
     to: Prim::U8,

@@ -1,124 +1,25 @@
-//! What whole runs are tried with: a profile and a session, readers and writers of a test's own, and what a
-//! run prints.
+//! What whole runs are tried with: a profile and a session, and what they print.
 
 use ang_drivers::{Cell, Console, Counter};
 use ang_host::Driver;
 use asrun_session::{IoFault, SessionEnd, Status, session};
 use std::alloc::{AllocError, Global};
-use std::io;
-use std::io::{Error, ErrorKind, Read, Write};
+use std::io::{Read, Write};
 
 pub const PROFILE: &str = "mask 00000001\nfunction 0 0 void print(int)\n";
-
-/// Types, factories, methods, properties, functions and global properties of all three drivers.
-pub const ALL_KINDS: &str = "mask 00000001
-type Counter 1
-factory Counter 0 Counter@ f()
-factory Counter 1 Counter@ f(int)
-method Counter 0 void bump()
-method Counter 1 int value() const
-property Counter 0 int step
-type Cell 2
-factory Cell 0 Cell@ f(int)
-factory Cell 1 Cell@ f(Cell@+, int)
-method Cell 0 int get() const
-method Cell 1 void set(int)
-function 2 2 Cell@+ pick(Cell@+)
-function 0 0 void print(int64)
-function 0 1 int64 sum(int64, int64)
-function 0 2 void fail(uint)
-global 0 0 int64 reg
-global 0 0 const int64 limit
-";
 
 pub const SESSION: &str =
     "module a 00000001\nsection a 1\nvoid main(){ print(1+2); }\nbuild a\ncall a () void main()\n";
 
 pub const OUTPUT: &str = "ok\nok\nok\nhost a 0 0 - (3) void\nok\n";
 
-/// Gives the text in pieces of at most `step` bytes, and fails at call `fails`, counted from 1.
-#[derive(Drop)]
-pub struct Pieces<'a> {
-    left: &'a [u8],
-    step: usize,
-    calls: u64,
-    fails: u64,
-}
-
-impl<'a> Pieces<'a> {
-    pub fn new(text: &'a str, step: usize, fails: u64) -> Pieces<'a> {
-        Pieces {
-            left: text.as_bytes(),
-            step,
-            calls: 0,
-            fails,
-        }
-    }
-}
-
-impl Read for Pieces<'_> {
-    fn read(&mut self, buffer: &mut [u8]) -> io::Result<usize> {
-        self.calls = self.calls.saturating_add(1);
-        if self.calls == self.fails {
-            return Err(Error::from(ErrorKind::Interrupted));
-        }
-        let count = self.left.len().min(buffer.len()).min(self.step);
-        let (front, rest) = self.left.split_at(count);
-        buffer[..count].copy_from_slice(front);
-        self.left = rest;
-        Ok(count)
-    }
-}
-
-/// Keeps what it takes, at most `step` bytes a call. At call `stops` it fails, or takes nothing.
-#[derive(Drop)]
-pub struct Sink {
-    pub kept: Vec<u8>,
-    step: usize,
-    calls: u64,
-    stops: u64,
-    fails: bool,
-}
-
-impl Sink {
-    pub fn new(alloc: Global, step: usize, stops: u64, fails: bool) -> Sink {
-        Sink {
-            kept: Vec::new(alloc),
-            step,
-            calls: 0,
-            stops,
-            fails,
-        }
-    }
-}
-
-impl Write for Sink {
-    fn write(&mut self, buffer: &[u8]) -> io::Result<usize> {
-        self.calls = self.calls.saturating_add(1);
-        if self.calls == self.stops {
-            return if self.fails {
-                Err(Error::from(ErrorKind::Interrupted))
-            } else {
-                Ok(0)
-            };
-        }
-        let count = buffer.len().min(self.step);
-        self.kept.extend_from_slice(&buffer[..count])?;
-        Ok(count)
-    }
-
-    fn flush(&mut self) -> io::Result<()> {
-        Ok(())
-    }
-}
-
-/// A session with a console, a counter and a cell as its drivers.
-pub fn run<P: Read, S: Read>(
+/// The outcome of a session with a console, a counter and a cell as its drivers, if all drivers are handed back idle.
+pub fn run_to<P: Read, S: Read, W: Write>(
     alloc: Global,
     profile: &mut P,
     session_text: &mut S,
-    out: &mut Sink,
-) -> Result<Result<Status, IoFault>, AllocError> {
+    out: &mut W,
+) -> Result<Option<Result<Status, IoFault>>, AllocError> {
     let mut boxes: Vec<Box<dyn Driver>> = Vec::new(alloc);
     boxes.push(Box::new(alloc, Console::new(alloc)?)?)?;
     boxes.push(Box::new(alloc, Counter::new(alloc)?)?)?;
@@ -131,53 +32,18 @@ pub fn run<P: Read, S: Read>(
         boxes,
         1_000_000,
     );
-    let idle = drivers.iter().all(|driver| driver.idle());
+    let are_idle = drivers.len() == 3 && drivers.iter().all(|driver| driver.idle());
     drop(drivers);
-    if idle {
-        Ok(outcome)
-    } else {
-        Ok(Err(IoFault::Read))
-    }
+    Ok(are_idle.then_some(outcome))
 }
 
-/// Whether a session over a profile writes this, and has this status.
-pub fn writes(
+/// What such a session wrote, and its outcome, if all drivers are handed back idle.
+pub fn run<P: Read, S: Read>(
     alloc: Global,
-    profile: &str,
-    session_text: &str,
-    output: &str,
-    status: Status,
-) -> Result<bool, AllocError> {
-    let mut out = Sink::new(alloc, 4096, 0, false);
-    let mut profile = Pieces::new(profile, 4096, 0);
-    let mut session_text = Pieces::new(session_text, 4096, 0);
-    let outcome = run(alloc, &mut profile, &mut session_text, &mut out)?;
-    Ok(outcome == Ok(status) && out.kept.as_slice() == output.as_bytes())
-}
-
-/// Whether a run over all kinds that builds a section and does the lines after its build prints this from the build on,
-/// and has this status. The rows have these four in this order.
-pub fn prints(
-    alloc: Global,
-    section: &str,
-    lines: &str,
-    printed: &str,
-    status: Status,
-) -> Result<bool, AllocError> {
-    let text = format!(in alloc; "module a 00000001\nsection a 1\n{section}\nbuild a\n{lines}")?;
-    let output = format!(in alloc; "ok\nok\n{printed}")?;
-    writes(alloc, ALL_KINDS, text.as_str(), output.as_str(), status)
-}
-
-/// Whether a section over a profile has these errors alone.
-pub fn errs(alloc: Global, profile: &str, section: &str, errors: &str) -> Result<bool, AllocError> {
-    let text = format!(in alloc; "module a 00000001\nsection a 1\n{section}\nbuild a\n")?;
-    let output = format!(in alloc; "ok\nok\n{errors}refused BuildErrors\n")?;
-    writes(
-        alloc,
-        profile,
-        text.as_str(),
-        output.as_str(),
-        Status::SomeRefused,
-    )
+    profile: &mut P,
+    session_text: &mut S,
+) -> Result<Option<(Vec<u8>, Result<Status, IoFault>)>, AllocError> {
+    let mut out: Vec<u8> = Vec::new(alloc);
+    let outcome = run_to(alloc, profile, session_text, &mut out)?;
+    Ok(outcome.map(|outcome| (out, outcome)))
 }

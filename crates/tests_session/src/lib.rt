@@ -1,21 +1,15 @@
-//! Tests of `session` by its public call: whole runs, with readers and writers of their own.
+//! Tests of `session` by its public call: texts at their limits, a reader that never ends, how many drivers there may be,
+//! and what a driver was asked that no text tells. Sessions with their texts stand in crates/examples, which also cuts
+//! them and runs them over streams that fail.
 #![tactic(auto)]
 
 #[cfg(test)]
-mod calls;
+mod borrowed;
 #[cfg(test)]
-mod errors;
+mod drivers;
 #[cfg(test)]
 mod harness;
 #[cfg(test)]
-mod modules;
-#[cfg(test)]
-mod profiles;
-#[cfg(test)]
-mod sessions;
-#[cfg(test)]
-mod statements;
+mod limits;
 #[cfg(test)]
 mod streams;
-#[cfg(test)]
-mod values;

@@ -1,13 +1,12 @@
 //! What calls hand out of the values that bodies give, by their types.
 use crate::machine::{answer_alone, end, with_drivers};
+use crate::program::{Module, Text, module_code};
 use ang_code::Instruction::{PushBits, PushNull, Return};
 use ang_kinds::{Prim, Value};
 use ang_meaning::Routine;
 use ang_vm_stack::table::Table;
 use std::alloc::{AllocError, Global};
 use std::test::Fail;
-use tests_vm_programs::list;
-use tests_vm_programs::program::{Module, Text, module_code};
 
 /// Bodies that give a value.
 const TEXTS: &[Text] = list! {

@@ -1,10 +1,9 @@
 //! Runs of code, beside what they are to give and to list.
+use crate::program::table;
 use crate::runs::Turn::{Call, Faults, Gives, Initializes};
 use crate::runs::{Case, Turn, wrong_in};
 use ang_kinds::Fault;
 use std::test::Fail;
-use tests_vm_programs::list;
-use tests_vm_programs::program::table;
 
 const A: u32 = 1;
 

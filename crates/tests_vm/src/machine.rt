@@ -12,6 +12,7 @@ ghost use Rattle.ang_vm.specs.Machines.{lent};
 ghost use Rattle.ang_vm_ask.specs.Entities.{DriversThere};
 ghost use Rattle.tests_vm.specs.Ready.{is_below, names_nothing, MayBegin};
 
+use crate::program::first_globals;
 use ang_drivers::{Cell, Console, Counter};
 use ang_heap::{Globals, Heap, Store};
 use ang_host::{Driver, Drivers, HostEvent};
@@ -20,7 +21,6 @@ use ang_meaning::{HostUse, Routine, Slot};
 use ang_vm::{Machine, run, run_initializer};
 use ang_vm_stack::table::{ModuleCode, Table};
 use std::alloc::{AllocError, Global};
-use tests_vm_programs::program::first_globals;
 
 /// Whether an entity's driver is one of the first `count`.
 fn has_driver(entity: &Option<HostUse>, count: usize) -> bool

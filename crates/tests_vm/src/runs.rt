@@ -4,6 +4,7 @@ ghost use Rattle.ang_kinds.specs.declared.fault.Fault.TheVariants.{Null as NullF
 ghost use Rattle.tests_vm.specs.Ready.{MayBegin};
 ghost use Rattle.tests_vm.specs.declared.runs.Verdict as Verdict;
 
+use crate::listed::{first_other, live_after};
 use crate::machine::{call, end, initialize, with_drivers};
 use ang_host::{Driver, HostEvent};
 use ang_kinds::Fault;
@@ -11,7 +12,6 @@ use ang_meaning::Routine;
 use ang_vm::Machine;
 use ang_vm_stack::table::Table;
 use std::alloc::{AllocError, Global};
-use tests_vm_programs::listed::{first_other, live_after};
 
 /// A run of a body with a budget, and what it gives.
 #[derive(Clone, Copy)]

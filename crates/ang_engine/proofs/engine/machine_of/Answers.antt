@@ -3,7 +3,7 @@ use Rattle.std.specs.Prelude.{vec_len, vec_capacity, map as list_map}
 use Rattle.ang_host.specs.Boxes.{members}
 use Rattle.ang_host.specs.Members.{states_of}
 use Rattle.ang_heap.specs.Heaps.{objects_of}
-use Rattle.ang_engine.proofs.States.{live-fresh}
+use Rattle.ang_engine.proofs.States.{live_fresh}
 use Rattle.ang_engine.proofs.Beginning.{fresh_world, fresh_counted, room_fresh}
 use Rattle.ang_engine.proofs.engine.machine_of.Goals as goal
 
@@ -17,7 +17,7 @@ returns-clause-kept g c =
     let ss = states_of (λ v. (g.dyn-1.0.entry v).1) (members c.args.drivers) in
     record {
       drivers = room_fresh ss (vec_len c.new-ends.result) (vec_capacity c.new-ends.result) c.requires.fresh c.new-ends.ensures.len;
-      alive = sym (live-fresh ss c.requires.fresh);
+      alive = sym (live_fresh ss c.requires.fresh);
       none = c.new-ends.ensures.items;
     }
 

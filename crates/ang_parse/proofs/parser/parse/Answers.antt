@@ -1,15 +1,11 @@
 use Rattle.std.proofs.Common.{refl}
 use Rattle.std.proofs.lemmas.Result.{err_from_is_err_and}
-use Rattle.ang_lex.proofs.Cutting.{tokens_within}
 use Rattle.ang_parse.proofs.Columns.{tokens_columns}
 use Rattle.ang_parse.proofs.Answered.{script_found, same_script, only_want, deep_clause, syntax_clause}
 use Rattle.ang_parse.proofs.parser.parse.Goals as goal
 
-pub declarations-requires-clause-within : goal.declarations-requires-clause-within
-declarations-requires-clause-within c = tokens_within c.requires.tokens.sect c.args.text.now c.args.tokens.now c.requires.tokens.are
-
-pub declarations-requires-clause-columns : goal.declarations-requires-clause-columns
-declarations-requires-clause-columns c = tokens_columns c.requires.tokens.sect c.args.text.now c.args.tokens.now c.requires.tokens.are
+pub declarations-requires : goal.declarations-requires
+declarations-requires c = record { columns = tokens_columns c.requires.tokens.sect c.args.text.now c.args.tokens.now c.requires.tokens.are }
 
 pub returns-in_err-declarations-clause-only : goal.returns-in_err-declarations-clause-only
 returns-in_err-declarations-clause-only c =

@@ -2,14 +2,14 @@ use Rattle.std.proofs.Common.{◌≡◌, ◌≤◌, ◌<◌, ◌+◌, ◌-◌, �
 use Rattle.std.specs.Prelude.{reverse}
 use Rattle.std.proofs.lemmas.List.{length-reverse}
 use Rattle.ang_meaning.specs.World.{with_inputs}
-use Rattle.ang_meaning.specs.Setting.{params_of, has_objects}
+use Rattle.ang_meaning.specs.Environment.{params_of, has_objects}
 use Rattle.ang_meaning.proofs.Telling.{told_same, told_then}
 use Rattle.ang_vm_stack.specs.Stacks.{values}
 use Rattle.ang_vm_stack.specs.Tables.{setting_of, texts_of}
 use Rattle.ang_vm.specs.Legs.{caller_at, AllFit}
 use Rattle.ang_code.specs.Machine.{begins}
 use Rattle.ang_vm.proofs.Calling.{enters_lost, enters_null, enters_deep, enters_spent, enters_begins, begins_refused, fit_more, fits_begun, push_front}
-use Rattle.ang_vm_fuse.specs.Parameters.{want_objects, only_receiver}
+use Rattle.ang_vm_stack.specs.Parameters.{want_objects, only_receiver}
 use Rattle.ang_vm.proofs.Going.{height_there, params_there}
 use Rattle.ang_vm.proofs.calls.enter_body.Goals as goal
 

@@ -1,6 +1,6 @@
 use Rattle.std.proofs.Common.{ap, ◌∙◌}
 use Rattle.asrun_lines.specs.Lines.{shown_of}
-use Rattle.asremote.proofs.Lining.{command_read, command_last, first_few}
+use Rattle.asremote.proofs.Lining.{command_read, command_last, command_long, first_few}
 use Rattle.asremote.proofs.commands.read_command.Goals as goal
 
 pub read_section-requires : goal.read_section-requires
@@ -13,3 +13,6 @@ returns-in_ok-lines-in-Line g c = record {
 
 pub returns-in-Last : goal.returns-in-Last
 returns-in-Last g c = record { read = command_last _ _ _ (rw c.requires.empty at c.in-Last.ensures.heard) }
+
+pub returns-in-Long : goal.returns-in-Long
+returns-in-Long g c = record { read = command_long _ _ _ (rw c.requires.empty at c.in-Long.ensures.heard) }

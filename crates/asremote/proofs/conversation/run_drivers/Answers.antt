@@ -1,6 +1,6 @@
 use Rattle.std.proofs.Common.{subst, sym}
 use Rattle.asrun_session.specs.Drivers.{AreListed, NotListed}
-use Rattle.asremote.proofs.Talking.{talks_refused}
+use Rattle.asremote.proofs.Talking.{talks_refused, stops_refused}
 use Rattle.asremote.proofs.conversation.run_drivers.Goals as goal
 
 pub run_engine-requires : goal.run_engine-requires
@@ -10,11 +10,14 @@ run_engine-requires g c = record {
 }
 
 pub returns-in-Ok : goal.returns-in-Ok
-returns-in-Ok g c = record { done = rw c.in-Ok.ensures.kept at c.run_engine.ensures.done }
+returns-in-Ok g c = record { done = rw c.in-Ok.ensures.kept at c.run_engine.ensures.done; cut = rw c.in-Ok.ensures.kept at c.run_engine.ensures.cut }
 
 pub returns-in-Err : goal.returns-in-Err
 returns-in-Err g c = record {
   done =
-      talks_refused (λ v. (g.dyn-1.0.entry v).1) c.args.budget _ _ (g.W.Write.contents c.args.writer.now) (g.W.Write.contents c.print_drivers_error.new.writer) _ _ c.args.registry.entries _ _
-      (NotListed c.in-Err.why) c.print_drivers_error.result c.in-Err.ensures.given_back c.in-Err.ensures.why c.print_drivers_error.ensures.whole c.print_drivers_error.ensures.status;
+      talks_refused (λ v. (g.dyn-1.0.entry v).1) c.args.budget _ _ (g.W.Write.contents c.args.writer.now) (g.W.Write.contents c.print_drivers_error.new.writer) c.args.registry.entries _ _
+      (NotListed c.in-Err.why) c.in-Err.ensures.given_back c.in-Err.ensures.why c.print_drivers_error.result c.print_drivers_error.ensures.whole c.print_drivers_error.ensures.status;
+  cut =
+      stops_refused (λ v. (g.dyn-1.0.entry v).1) c.args.budget _ _ (g.W.Write.contents c.args.writer.now) (g.W.Write.contents c.print_drivers_error.new.writer) c.args.registry.entries _ _
+      (NotListed c.in-Err.why) c.in-Err.ensures.given_back c.in-Err.ensures.why c.print_drivers_error.result c.print_drivers_error.ensures.front;
 }

@@ -3,7 +3,7 @@ use Rattle.ang_engine.specs.Engines.{registrations, world_in, drivers_in}
 use Rattle.ang_engine.specs.Sound.{IsSound}
 use Rattle.asrun_session.specs.Drivers.{kinds_of}
 use Rattle.asremote.specs.Commands.{AreLines}
-use Rattle.asremote.proofs.Coming.{HasCome}
+use Rattle.asremote.proofs.Coming.{HasGone}
 use Rattle.asremote.proofs.conversation.turns_on.Given as goal
 
 abbrev pub invariant-loop : goal.invariant-loop
@@ -13,8 +13,7 @@ invariant-loop g l =
       list : registrations l.engine ≡ registrations l.initial.engine;
       order : kinds_of (drivers_in l.engine) ≡ kinds_of (drivers_in l.initial.engine);
       come : (text : List ℕ) × (lines : List (List ℕ)) × AreLines text lines
-          × HasCome (λ v. (g.dyn-1.0.entry v).1) (registrations l.initial.engine) (world_in (λ v. (g.dyn-1.0.entry v).1) l.initial.engine) (drivers_in l.initial.engine) l.budget
+          × HasGone (λ v. (g.dyn-1.0.entry v).1) (registrations l.initial.engine) (world_in (λ v. (g.dyn-1.0.entry v).1) l.initial.engine) (drivers_in l.initial.engine) l.budget
           (g.S.Read.remaining l.initial.input) (g.S.Read.remaining l.input) (g.W.Write.contents l.initial.writer) (g.W.Write.contents l.writer)
-          (g.D.Write.contents l.initial.turns) (g.D.Write.contents l.turns) text lines l.number l.ticks l.all_ok
-          (world_in (λ v. (g.dyn-1.0.entry v).1) l.engine) (drivers_in l.engine);
+          text lines l.number l.ticks l.all_ok (world_in (λ v. (g.dyn-1.0.entry v).1) l.engine) (drivers_in l.engine);
     }

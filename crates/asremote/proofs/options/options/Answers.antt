@@ -1,5 +1,6 @@
 use Rattle.std.proofs.Common.{◌∙◌, ap, sym, codes}
-use Rattle.asremote.specs.Options.{budget_given, drivers_given}
+use Rattle.asrun_lines.specs.Budget.{budget_given}
+use Rattle.asremote.specs.Options.{drivers_given}
 use Rattle.asremote.proofs.CommandLine.{value_given, flag_given, refused_right, not_right}
 use Rattle.asremote.proofs.options.options.Goals as goal
 

@@ -1,5 +1,5 @@
 use Rattle.std.proofs.Common.{◌∙◌, ap, sym, codes}
-use Rattle.asrun.specs.Options.{budget_given}
+use Rattle.asrun_lines.specs.Budget.{budget_given}
 use Rattle.asrun.proofs.CommandLine.{value_given, refused_right, not_right}
 use Rattle.asrun.proofs.options.options.Goals as goal
 

@@ -1,6 +1,10 @@
 use Rattle.std.proofs.Common.{refl}
-use Rattle.asrun_session.proofs.Telling.{tells, tells_untaken, unwritten_untaken}
+use Rattle.asrun_session.proofs.Telling.{tells, tells_nothing, tells_untaken, unwritten_untaken}
 use Rattle.asrun_session.proofs.whole.session.Goals as goal
+
+pub returns-in_default-clause-output : goal.returns-in_default-clause-output
+returns-in_default-clause-output g c =
+    tells_nothing (λ v. (g.dyn-1.0.entry v).1) c.args.drivers.items c.args.drivers.items (g.P.Read.remaining c.args.profile.now) (g.S.Read.remaining c.args.session.now) c.args.budget (g.W.Write.contents c.args.out.now) refl
 
 pub returns-clause-output : goal.returns-clause-output
 returns-clause-output g c =

@@ -10,5 +10,5 @@ invariant_of-self-2 c =
     let before = c.self.inside.items.now in
     let member = c.args.member.now in
     let grown : c.args.items.now ≡ before ++ member ∷ [] = c.requires.one_more ∙ ap (λ (b : Members). b.items ++ member ∷ []) (sym c.self.view_is) in
-    one_more_place text c.self.inside.places c.push.new.self before c.args.items.now member c.text_at.result.now c.self.invariant
-    c.text_at.ensures.exact (λ name. c.in_ok-push.ensures.pushed 0 name) grown
+    one_more_place text c.self.inside.places c.push.new.self before c.args.items.now member c.text_of.result.now c.self.invariant
+    c.text_of.ensures.exact (λ name. c.in_ok-push.ensures.pushed 0 name) grown

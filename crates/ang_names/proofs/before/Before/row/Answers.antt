@@ -10,7 +10,7 @@ returns c =
     let member = c.args.member.now in
     let inside = c.self.inside in
     let row : c.find.result.now ≡ places_of (map (member_name before.text) before.items) (member_name before.text member) =
-    c.find.ensures.exact ∙ c.self.invariant.places c.text_at.result.now
-    ∙ ap (places_of (map (member_name inside.text.now) inside.items.now)) c.text_at.ensures.exact
+    c.find.ensures.exact ∙ c.self.invariant.places c.text_of.result.now
+    ∙ ap (places_of (map (member_name inside.text.now) inside.items.now)) c.text_of.ensures.exact
     ∙ ap (λ (b : Members). places_of (map (member_name b.text) b.items) (member_name b.text member)) c.self.view_is in
     record { all = all_among before member c.find.result.now row }

@@ -1,0 +1,78 @@
+//! Instructions, written from the last one to the first.
+//!
+//! So the distance of a forward jump is known when it is written.
+ghost use Rattle.std.specs.Prelude.{◌≡◌, ◌<◌, ◌^◌, List, ◌∷◌, ◌++◌, [], length, IfOk, OnOk, OnErr};
+ghost use Rattle.ang_code.specs.declared.instruction.Instruction.{Instruction};
+ghost use Rattle.ang_code.specs.declared.instruction.Instruction.TheVariants.{LoopBack};
+
+use ang_code::Instruction;
+use std::alloc::{AllocError, Global};
+use std::marker::Model;
+
+/// A body's instructions, of which the first ones are still to be written.
+#[derive(Drop)]
+pub struct InstructionBuffer {
+    reversed: Vec<Instruction>,
+}
+
+impl Model for InstructionBuffer {
+    ghost use Rattle.std.specs.Prelude.{List, reverse};
+    ghost use Rattle.ang_code.specs.declared.instruction.Instruction.{Instruction};
+
+    ghost Value = { List Instruction };
+
+    ghost view = { λ a. reverse a.reversed.items };
+}
+
+impl InstructionBuffer {
+    /// The text that is empty so far, with room for that many instructions.
+    ///
+    /// # Errors
+    /// Want of memory: there is no room for them.
+    pub fn with_room(alloc: Global, room: usize) -> Result<InstructionBuffer, AllocError>
+        ensures empty { IfOk result (λ text. text ≡ []) }
+        ensures room { IfOk result (λ text. room < 2 ^ 63) }
+    {
+        let reversed = Vec::with_capacity(alloc, room)?;
+        Ok(InstructionBuffer { reversed })
+    }
+
+    /// How many instructions it has.
+    pub fn len(&self) -> usize
+        ensures count { result ≡ length self.now }
+    {
+        self.reversed.len()
+    }
+
+    /// Writes one instruction before those that are there.
+    ///
+    /// # Errors
+    /// Want of memory, which leaves the text as it was.
+    pub fn put(&mut self, instruction: Instruction) -> Result<(), AllocError>
+        ensures before { OnOk result (self.new ≡ instruction ∷ self.old) }
+        ensures unchanged { OnErr result (self.new ≡ self.old) }
+    {
+        self.reversed.push(instruction)?;
+        Ok(())
+    }
+
+    /// Makes the instruction that has `behind` instructions after it a jump back by `distance`. The
+    /// others stay.
+    pub fn set_back(&mut self, behind: usize, distance: usize)
+        requires there { behind < length self.old }
+        ensures set { (front rest : List Instruction) (i : Instruction) →
+            self.old ≡ front ++ i ∷ rest → length rest ≡ behind
+            → self.new ≡ front ++ LoopBack distance ∷ rest }
+    {
+        self.reversed[behind] = Instruction::LoopBack(distance);
+    }
+
+    /// The instructions in their order.
+    pub fn into_vec(self) -> Vec<Instruction>
+        ensures same { result.items ≡ self }
+    {
+        let InstructionBuffer { mut reversed } = self;
+        reversed.reverse();
+        reversed
+    }
+}

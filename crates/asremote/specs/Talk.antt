@@ -1,0 +1,127 @@
+-- What the lines of a conversation say, and what is answered (docs/FORMATS.md, "The conversation of
+-- asremote").
+use Rattle.std.specs.Prelude.{ℕ, zero, suc, ◌+◌, ◌≡◌, Bool, true, false, List, [], ◌∷◌, ◌++◌, flat_map, Option, Some, None, codes, option_and_then, if◌then◌else◌}
+use Rattle.std.specs.List.{list_all}
+use Rattle.asrun_lines.specs.Lines.{shown_of, is_skipped}
+use Rattle.asrun_lines.specs.SessionLines.{session_line_of, is_header}
+use Rattle.asrun_session.specs.Deeds.{Deed, action_of, deed_text, is_ok}
+use Rattle.asrun_session.specs.Session.{Act, act_of, budget_after, session_from}
+use Rattle.asrun_session.specs.declared.action.Action.{Action}
+use Rattle.asrun_session.specs.declared.ending.Status.{Status}
+use Rattle.asrun_session.specs.declared.ending.Status.TheVariants.{AllOk, SomeRefused, BadInput}
+
+-- ---- what is said
+
+-- One turn of the host: a line that says nothing, a command, or a line of another form.
+pub data Says : Type 0 where
+  Nothing : Says
+  Does : Action → Says
+  Wrong : Says
+
+-- the turns of a conversation, and the line of another form that ends it, where one does
+pub record Talk : Type 0 where
+  pub turns : List Says
+  pub bad_line : Option ℕ
+
+abbrev pub behind_turn : Says → Talk → Talk
+behind_turn s t = record { turns = s ∷ t.turns; bad_line = t.bad_line }
+
+-- the budget of the commands after a turn
+abbrev pub ticks_after : ℕ → Says → ℕ
+ticks_after budget Nothing = budget
+ticks_after budget (Does a) = budget_after budget a
+ticks_after budget Wrong = budget
+
+-- Line n is of another form: the conversation goes on after it, but not where it was meant for the
+-- head of a section, whose text would be taken for commands.
+abbrev pub after_wrong : ℕ → Bool → Talk → Talk
+after_wrong n true more = record { turns = []; bad_line = Some n }
+after_wrong n false more = behind_turn Wrong more
+
+abbrev pub taken_as : ℕ → ℕ → Bool → Option Act → (ℕ → ℕ → Talk) → Talk
+taken_as n budget header None more = after_wrong n header (more budget 0)
+taken_as n budget header (Some a) more =
+    behind_turn (Does a.action) (more (budget_after budget a.action) a.lines)
+
+-- The conversation from line n on, with the budget that holds there. The next `lines` lines are the
+-- text of a section.
+unfoldable pub talk_from : ℕ → ℕ → ℕ → List (List ℕ) → Talk
+talk_from n budget lines [] = record { turns = []; bad_line = None }
+talk_from n budget (suc lines) (l ∷ ls) = talk_from (n + 1) budget lines ls
+talk_from n budget zero (l ∷ ls) =
+    if is_skipped (shown_of l)
+    then behind_turn Nothing (talk_from (n + 1) budget zero ls)
+    else taken_as n budget (is_header (shown_of l))
+    (option_and_then (act_of budget ls) (session_line_of (shown_of l)))
+    (λ b lines. talk_from (n + 1) b lines ls)
+
+-- ---- what is answered
+
+-- a turn that was taken: a line passed over, a command that was done, a line of another form
+pub data Turned : Type 0 where
+  Passed : Turned
+  Did : Deed → Turned
+  Unread : Turned
+
+abbrev pub says_of : Turned → Says
+says_of Passed = Nothing
+says_of (Did d) = Does (action_of d)
+says_of Unread = Wrong
+
+abbrev pub deed_in : Turned → List Deed
+deed_in Passed = []
+deed_in (Did d) = d ∷ []
+deed_in Unread = []
+
+abbrev pub deeds_in : List Turned → List Deed
+deeds_in = flat_map deed_in
+
+abbrev pub is_right : Turned → Bool
+is_right Passed = true
+is_right (Did d) = is_ok d
+is_right Unread = false
+
+abbrev pub bad_form_text : List ℕ
+bad_form_text = codes "refused BadLine\n"
+
+-- a command's reply as a session prints it
+abbrev pub answer_text : Turned → List ℕ
+answer_text Passed = []
+answer_text (Did d) = deed_text d
+answer_text Unread = bad_form_text
+
+abbrev pub done_line : List ℕ
+done_line = codes "done\n"
+
+-- the answer, and then `done`
+abbrev pub turn_text : Turned → List ℕ
+turn_text t = answer_text t ++ done_line
+
+abbrev pub turns_text : List Turned → List ℕ
+turns_text = flat_map turn_text
+
+abbrev pub status_of : Option ℕ → List Turned → Status
+status_of (Some n) turns = BadInput
+status_of None turns = if list_all is_right turns then AllOk else SomeRefused
+
+-- ---- and in a session
+
+abbrev pub is_read : Says → Bool
+is_read Nothing = true
+is_read (Does a) = true
+is_read Wrong = false
+
+abbrev pub actions_in : Says → List Action
+actions_in Nothing = []
+actions_in (Does a) = a ∷ []
+actions_in Wrong = []
+
+-- Where no line is of another form but the one that ends it, a conversation says what the session of
+-- the same lines says.
+abbrev pub SaysAsSession : Type 0
+SaysAsSession =
+    (budget : ℕ) (lines : List (List ℕ)) → list_all is_read (talk_from 1 budget 0 lines).turns ≡ true
+    → session_from 1 budget 0 lines ≡ record {
+      actions = flat_map actions_in (talk_from 1 budget 0 lines).turns;
+      bad_line = (talk_from 1 budget 0 lines).bad_line;
+    }

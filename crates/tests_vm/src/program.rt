@@ -1,0 +1,148 @@
+//! Modules written by hand, and the table that they make.
+use crate::classes::CLASSES;
+use crate::entities::entities;
+use crate::handles::{EXPORTER, HANDLES};
+use crate::numbers::NUMBERS;
+use ang_code::{Instruction, RoutineCode};
+use ang_kinds::{List, Prim};
+use ang_meaning::{Class, Passing, Routine, Slot, ValueKind};
+use ang_vm_stack::body::LoadedBody;
+use ang_vm_stack::methods::{MethodEntry, Methods};
+use ang_vm_stack::table::{ClassCode, LinkedImport, ModuleCode, Table};
+use std::alloc::{AllocError, Global};
+
+/// A body: its parameters, the last one first, the most values that it has above them, and its text.
+pub type Text = (&'static [Passing], usize, &'static [Instruction]);
+
+/// A class: its rank, its fields, the classes that it is or stands under, and its methods, each with its slot.
+pub type ClassRow = (
+    usize,
+    &'static [ValueKind],
+    &'static [usize],
+    &'static [(usize, usize)],
+);
+
+/// An import: its parameters, the last one first, and where it leads.
+pub type ImportRow = (&'static [Passing], Option<Routine>);
+
+/// A module.
+#[derive(Clone, Copy)]
+pub struct Module {
+    /// Its name, which is one letter.
+    pub name: u8,
+    /// The primitive type of each body's value, if it is of one.
+    pub result: Option<Prim>,
+    /// Its bodies, by number.
+    pub texts: &'static [Text],
+    /// Its imports, by number.
+    pub imports: &'static [ImportRow],
+    /// Its classes, by number.
+    pub classes: &'static [ClassRow],
+    /// The parameters of the methods in each slot, the last one first.
+    pub slots: &'static [&'static [Passing]],
+    /// What its globals hold at first.
+    pub globals: &'static [Slot],
+}
+
+/// The modules, by number.
+const MODULES: [Module; 4] = [NUMBERS, HANDLES, EXPORTER, CLASSES];
+
+fn body(alloc: Global, ty: Option<Prim>, text: &Text) -> Result<LoadedBody, AllocError> {
+    let code = RoutineCode {
+        params: text.0.to_vec(alloc)?,
+        result: ty,
+        height: text.1,
+        text: text.2.to_vec(alloc)?,
+    };
+    LoadedBody::new(alloc, code)
+}
+
+fn bodies(alloc: Global, written: &Module) -> Result<Vec<LoadedBody>, AllocError> {
+    let mut bodies = Vec::new(alloc);
+    for text in written.texts {
+        bodies.push(body(alloc, written.result, text)?)?;
+    }
+    Ok(bodies)
+}
+
+fn imports(alloc: Global, rows: &[ImportRow]) -> Result<Vec<LinkedImport>, AllocError> {
+    let mut imports = Vec::new(alloc);
+    for (params, bound) in rows {
+        imports.push(LinkedImport {
+            params: Vec::from_slice(alloc, params)?,
+            bound: *bound,
+        })?;
+    }
+    Ok(imports)
+}
+
+fn methods(alloc: Global, home: u32, rows: &[(usize, usize)]) -> Result<Methods, AllocError> {
+    let mut methods = Vec::new(alloc);
+    for (slot, number) in rows {
+        methods.push(MethodEntry {
+            slot: *slot,
+            function: Routine {
+                home,
+                number: *number,
+            },
+        })?;
+    }
+    Methods::new(methods)
+}
+
+fn class(alloc: Global, number: usize, row: &ClassRow) -> Result<Class, AllocError> {
+    Ok(Class {
+        number,
+        rank: row.0,
+        fields: List::from_vec(Vec::from_slice(alloc, row.1)?),
+        under: List::from_vec(Vec::from_slice(alloc, row.2)?),
+    })
+}
+
+fn classes(alloc: Global, home: u32, rows: &[ClassRow]) -> Result<Vec<ClassCode>, AllocError> {
+    let mut classes = Vec::new(alloc);
+    for (number, row) in rows.iter().enumerate() {
+        let class = class(alloc, number, row)?;
+        let methods = methods(alloc, home, row.3)?;
+        classes.push(ClassCode { class, methods })?;
+    }
+    Ok(classes)
+}
+
+fn slots(alloc: Global, rows: &[&[Passing]]) -> Result<Vec<Vec<Passing>>, AllocError> {
+    let mut slots = Vec::new(alloc);
+    for params in rows {
+        slots.push(Vec::from_slice(alloc, params)?)?;
+    }
+    Ok(slots)
+}
+
+/// The code of a module.
+pub fn module_code(alloc: Global, home: u32, written: &Module) -> Result<ModuleCode, AllocError> {
+    Ok(ModuleCode {
+        name: vec![in alloc; written.name; 1]?,
+        bodies: bodies(alloc, written)?,
+        imports: imports(alloc, written.imports)?,
+        entities: entities(alloc)?,
+        classes: classes(alloc, home, written.classes)?,
+        slots: slots(alloc, written.slots)?,
+    })
+}
+
+/// The table of all modules, each of which sees all entities.
+pub fn table(alloc: Global) -> Result<Table, AllocError> {
+    let mut modules = Vec::new(alloc);
+    for (home, written) in MODULES.iter().enumerate() {
+        modules.push(module_code(alloc, home as u32, written)?)?;
+    }
+    Ok(Table { modules })
+}
+
+/// What the globals of all modules hold at first.
+pub fn first_globals(alloc: Global) -> Result<Vec<Vec<Slot>>, AllocError> {
+    let mut globals = Vec::new(alloc);
+    for written in &MODULES {
+        globals.push(Vec::from_slice(alloc, written.globals)?)?;
+    }
+    Ok(globals)
+}
