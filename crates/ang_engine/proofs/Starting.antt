@@ -151,7 +151,7 @@ started-by r ls ks home budget p u v x code begun h =
 
 module _ {V : Type 0} {P : V → Type 0} (m : Meanings P) (ms : List RunModule) where
   ready_with : (s : Store V P) (gs : Globals) → IsReady m s → IsReady m (record s { globals = gs })
-  ready_with s gs r = record { kept = record { drivers = r.kept.drivers; alive = r.kept.alive; none = r.kept.none }; room = r.room }
+  ready_with s gs r = record { kept = record { drivers = r.kept.drivers; alive = r.kept.alive; none = r.kept.none; due = r.kept.due }; room = r.room }
 
   -- a module's globals begin, which had none
   pub run-begun : (i : ℕ) (s : Store V P) (gs : Globals) (l : List Slot) → values_in gs ≡ slice_set (values_in s.globals) i l → ((x : Thing) → how_many x l ≡ 0)

@@ -1,5 +1,5 @@
 //! Globals that end.
-ghost use Rattle.std.specs.Prelude.{◌≡◌, ◌+◌, ◌≤◌, List, [], slice_index_or, slice_set, vec_len, vec_capacity};
+ghost use Rattle.std.specs.Prelude.{Bool, ◌≡◌, ◌+◌, ◌≤◌, List, [], slice_index_or, slice_set, vec_len, vec_capacity};
 ghost use Rattle.ang_host.specs.declared.event.Role.{Role};
 ghost use Rattle.ang_host.specs.Boxes.{members};
 ghost use Rattle.ang_meaning.specs.World.{Input};
@@ -26,11 +26,11 @@ fn give_back(heap: &mut Heap, drivers: &mut Drivers, events: &mut Vec<HostEvent>
         (vec_len events.old) (vec_capacity events.old) }
     requires enough { EnoughIn values.now (objects_of heap.old)
         (counts_among ⟦<dyn Driver as Driver>⟧ drivers.old) }
-    ensures gives { (gs : List (List Slot)) (is : List Input)
+    ensures gives { (gs : List (List Slot)) (sp : Bool) (is : List Input)
         → given_back values.now (world_by (objects_of heap.old)
-        (counts_among ⟦<dyn Driver as Driver>⟧ drivers.old) gs events.old.items is)
+        (counts_among ⟦<dyn Driver as Driver>⟧ drivers.old) gs events.old.items sp is)
         ≡ world_by (objects_of heap.new) (counts_among ⟦<dyn Driver as Driver>⟧ drivers.new) gs
-        events.new.items is }
+        events.new.items sp is }
     ensures ready { AreReady (states_among ⟦<dyn Driver as Driver>⟧ drivers.new)
         (vec_len events.new) (vec_capacity events.new) }
     ensures level { vec_len events.new + live_among ⟦<dyn Driver as Driver>⟧ drivers.new
@@ -73,12 +73,12 @@ fn end_module(
         (vec_len events.old) (vec_capacity events.old) }
     requires counted { CountedIn [] (objects_of heap.old)
         (counts_among ⟦<dyn Driver as Driver>⟧ drivers.old) (values_in globals.old) }
-    ensures ended { (is : List Input)
+    ensures ended { (sp : Bool) (is : List Input)
         → globals_ended home (world_by (objects_of heap.old)
         (counts_among ⟦<dyn Driver as Driver>⟧ drivers.old) (values_in globals.old)
-        events.old.items is)
+        events.old.items sp is)
         ≡ world_by (objects_of heap.new) (counts_among ⟦<dyn Driver as Driver>⟧ drivers.new)
-        (values_in globals.new) events.new.items is }
+        (values_in globals.new) events.new.items sp is }
     ensures ready { AreReady (states_among ⟦<dyn Driver as Driver>⟧ drivers.new)
         (vec_len events.new) (vec_capacity events.new) }
     ensures level { vec_len events.new + live_among ⟦<dyn Driver as Driver>⟧ drivers.new
@@ -108,12 +108,12 @@ pub fn end_all(
         (vec_capacity ends.old) }
     requires counted { CountedIn [] (objects_of heap.old)
         (counts_among ⟦<dyn Driver as Driver>⟧ drivers.old) (values_in globals.old) }
-    ensures ended { (is : List Input)
+    ensures ended { (sp : Bool) (is : List Input)
         → all_ended order.now (world_by (objects_of heap.old)
         (counts_among ⟦<dyn Driver as Driver>⟧ drivers.old) (values_in globals.old)
-        ends.old.items is)
+        ends.old.items sp is)
         ≡ world_by (objects_of heap.new) (counts_among ⟦<dyn Driver as Driver>⟧ drivers.new)
-        (values_in globals.new) ends.new.items is }
+        (values_in globals.new) ends.new.items sp is }
     ensures ready { AreReady (states_among ⟦<dyn Driver as Driver>⟧ drivers.new) (vec_len ends.new)
         (vec_capacity ends.new) }
     ensures moves { (roles : List Role)

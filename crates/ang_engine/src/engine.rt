@@ -95,6 +95,7 @@ fn machine_of(alloc: Global, drivers: Drivers) -> Machine
             events: Vec::new(alloc),
             ends,
             live: 0,
+            spent: false,
         },
     }
 }
@@ -435,6 +436,7 @@ impl Engine {
             events: _,
             mut ends,
             live: _,
+            spent: _,
         } = store;
         end_all(
             alloc,

@@ -4,3 +4,4 @@ pub mod Giving
 pub mod Storing
 pub mod Puts
 pub mod Numbering
+pub mod Spending

@@ -1,5 +1,5 @@
 -- The world of a store, and what a piece of a run leaves of it.
-use Rattle.std.specs.Prelude.{◌≡◌, ◌≤◌, ◌+◌, List, [], vec_len, vec_capacity}
+use Rattle.std.specs.Prelude.{◌≡◌, ◌≤◌, ◌+◌, true, List, [], vec_len, vec_capacity}
 use Rattle.ang_host.specs.declared.event.Role.{Role}
 use Rattle.ang_host.specs.Meanings.{Meanings}
 use Rattle.ang_host.specs.Members.{states_of}
@@ -8,21 +8,23 @@ use Rattle.ang_meaning.specs.World.{World, Input, with_inputs}
 use Rattle.ang_meaning.specs.Told.{Told}
 use Rattle.ang_heap.specs.declared.store.Store.{Store}
 use Rattle.ang_heap.specs.Globals.{values_in}
-use Rattle.ang_heap.specs.Parts.{counts_of, live_of, world_by, AreReady, PartsMove}
+use Rattle.ang_heap.specs.Parts.{counts_of, live_of, world_by, AreReady, PartsMove, SomeRanOut}
 use Rattle.ang_heap.specs.Heaps.{objects_of}
 
 -- the world that a store is, told nothing yet
 abbrev pub world_of : {V : Type 0} {P : V → Type 0} → Meanings P → Store V P → World
 world_of m s =
     world_by (objects_of s.heap) (counts_of m (members s.drivers)) (values_in s.globals)
-    s.events.items []
+    s.events.items s.spent []
 
--- What holds between commands too: the drivers are sound, `live` is how many host objects live, and
--- `ends` is empty, with room for the end of each.
+-- What holds between commands too: the drivers are sound, `live` is how many host objects live,
+-- `ends` is empty, with room for the end of each, and where a reference was refused some driver's
+-- tally has run out.
 pub record IsKept {V : Type 0} {P : V → Type 0} (m : Meanings P) (s : Store V P) : Type 0 where
   pub drivers : AreReady (states_of m (members s.drivers)) (vec_len s.ends) (vec_capacity s.ends)
   pub alive : s.live ≡ live_of m (members s.drivers)
   pub none : s.ends.items ≡ []
+  pub due : s.spent ≡ true → SomeRanOut (states_of m (members s.drivers))
 
 -- in a run `events` has room for the end of each live host object too
 pub record IsReady {V : Type 0} {P : V → Type 0} (m : Meanings P) (s : Store V P) : Type 0 where

@@ -1,5 +1,5 @@
 //! Script objects, and how they are given up.
-ghost use Rattle.std.specs.Prelude.{ℕ, ◌+◌, ◌-◌, ◌^◌, ◌≡◌, ◌<◌, ◌≤◌, ◌↔◌, false, IsTrue, List, [], ◌∷◌, Some, IfSome, IfNone, is_ok, OnErr, vec_len, vec_capacity, if◌then◌else◌};
+ghost use Rattle.std.specs.Prelude.{ℕ, ◌+◌, ◌-◌, ◌^◌, ◌≡◌, ◌<◌, ◌≤◌, ◌↔◌, Bool, false, IsTrue, List, [], ◌∷◌, Some, IfSome, IfNone, is_ok, OnErr, vec_len, vec_capacity, if◌then◌else◌};
 ghost use Rattle.std.specs.FinMap as map;
 ghost use Rattle.ang_host.specs.declared.event.Role.{Role};
 ghost use Rattle.ang_host.specs.Events.{DriversFollow};
@@ -8,7 +8,7 @@ ghost use Rattle.ang_meaning.specs.World.{Input, Gone, Kept, script_raised, scri
 ghost use Rattle.ang_meaning.specs.Told.{Told};
 ghost use Rattle.ang_meaning.specs.Counting.{EnoughIn, HasKey, count_of_object};
 ghost use Rattle.slab.specs.Slab.{get as slab_get, slab_len, with_value};
-ghost use Rattle.ang_heap.specs.Parts.{world_by, AreReady, IsTallyFull, PartsMove, states_among, counts_among, live_among};
+ghost use Rattle.ang_heap.specs.Parts.{world_by, noted, AreReady, IsTallyFull, PartsMove, states_among, counts_among, live_among};
 ghost use Rattle.ang_heap.specs.Heaps.{objects_in, objects_of};
 
 use crate::hosts::{add, release};
@@ -48,11 +48,12 @@ impl Heap {
     /// The driver's tallies, or the script object's count, have run out, and then nothing changes.
     pub fn hold(&mut self, drivers: &mut Drivers, value: Slot) -> Result<(), Tally>
         requires there { HasKey value (counts_among ⟦<dyn Driver as Driver>⟧ drivers.old) }
-        ensures holds { (gs : List (List Slot)) (es : List HostEvent)
+        ensures holds { (gs : List (List Slot)) (es : List HostEvent) (sp : Bool)
             → Told (λ is. hold_in value (world_by (objects_of self.old)
-            (counts_among ⟦<dyn Driver as Driver>⟧ drivers.old) gs es is))
+            (counts_among ⟦<dyn Driver as Driver>⟧ drivers.old) gs es sp is))
             (λ is. if_told (is_ok result) (world_by (objects_of self.new)
-            (counts_among ⟦<dyn Driver as Driver>⟧ drivers.new) gs es is)) }
+            (counts_among ⟦<dyn Driver as Driver>⟧ drivers.new) gs es
+            (noted value (is_ok result) sp) is)) }
         ensures full { OnErr result (IsTallyFull value (objects_of self.old)
             (states_among ⟦<dyn Driver as Driver>⟧ drivers.old)) }
         ensures same_objects { OnErr result (objects_of self.new ≡ objects_of self.old) }
@@ -87,11 +88,11 @@ impl Heap {
             (vec_len events.old) (vec_capacity events.old) }
         requires enough { EnoughIn (value ∷ []) (objects_of self.old)
             (counts_among ⟦<dyn Driver as Driver>⟧ drivers.old) }
-        ensures gives { (gs : List (List Slot)) (is : List Input)
+        ensures gives { (gs : List (List Slot)) (sp : Bool) (is : List Input)
             → give_in value (world_by (objects_of self.old)
-            (counts_among ⟦<dyn Driver as Driver>⟧ drivers.old) gs events.old.items is)
+            (counts_among ⟦<dyn Driver as Driver>⟧ drivers.old) gs events.old.items sp is)
             ≡ world_by (objects_of self.new) (counts_among ⟦<dyn Driver as Driver>⟧ drivers.new) gs
-            events.new.items is }
+            events.new.items sp is }
         ensures ready { AreReady (states_among ⟦<dyn Driver as Driver>⟧ drivers.new)
             (vec_len events.new) (vec_capacity events.new) }
         ensures level { vec_len events.new + live_among ⟦<dyn Driver as Driver>⟧ drivers.new
@@ -148,11 +149,11 @@ pub(crate) fn raise(records: &mut Slab<ScriptObject>, key: usize) -> bool
 /// One more place holds the value. False where a tally or a count has run out, and then nothing is done.
 fn hold(records: &mut Slab<ScriptObject>, drivers: &mut Drivers, value: Slot) -> bool
     requires there { HasKey value (counts_among ⟦<dyn Driver as Driver>⟧ drivers.old) }
-    ensures holds { (gs : List (List Slot)) (es : List HostEvent)
+    ensures holds { (gs : List (List Slot)) (es : List HostEvent) (sp : Bool)
         → Told (λ is. hold_in value (world_by (objects_in records.old)
-        (counts_among ⟦<dyn Driver as Driver>⟧ drivers.old) gs es is))
+        (counts_among ⟦<dyn Driver as Driver>⟧ drivers.old) gs es sp is))
         (λ is. if_told result (world_by (objects_in records.new)
-        (counts_among ⟦<dyn Driver as Driver>⟧ drivers.new) gs es is)) }
+        (counts_among ⟦<dyn Driver as Driver>⟧ drivers.new) gs es (noted value result sp) is)) }
     ensures full { result ≡ false
         → IsTallyFull value (objects_in records.old)
         (states_among ⟦<dyn Driver as Driver>⟧ drivers.old) }
@@ -233,11 +234,11 @@ fn give_up(
         (vec_len events.old) (vec_capacity events.old) }
     requires enough { EnoughIn (value ∷ []) (objects_in records.old)
         (counts_among ⟦<dyn Driver as Driver>⟧ drivers.old) }
-    ensures gives { (gs : List (List Slot)) (is : List Input)
+    ensures gives { (gs : List (List Slot)) (sp : Bool) (is : List Input)
         → give_in value (world_by (objects_in records.old)
-        (counts_among ⟦<dyn Driver as Driver>⟧ drivers.old) gs events.old.items is)
+        (counts_among ⟦<dyn Driver as Driver>⟧ drivers.old) gs events.old.items sp is)
         ≡ world_by (objects_in records.new) (counts_among ⟦<dyn Driver as Driver>⟧ drivers.new) gs
-        events.new.items is }
+        events.new.items sp is }
     ensures ready { AreReady (states_among ⟦<dyn Driver as Driver>⟧ drivers.new)
         (vec_len events.new) (vec_capacity events.new) }
     ensures level { vec_len events.new + live_among ⟦<dyn Driver as Driver>⟧ drivers.new

@@ -20,6 +20,7 @@ use Rattle.ang_host.specs.Events.{role_at, DriversFollow}
 use Rattle.ang_host.proofs.Events.{AllFollow-none, AllFollow-length}
 use Rattle.ang_heap.specs.declared.store.Store.{Store}
 use Rattle.ang_heap.specs.Stores.{IsReady, StoreMoves}
+use Rattle.ang_heap.proofs.Spending.{answered_out, made_out}
 use Rattle.ang_heap.proofs.Hosting.{answer_live, answer_ready, answer_length, born, made_live, made_ready}
 use Rattle.ang_heap.proofs.Storing.{moves_none, moves_join}
 use Rattle.ang_vm_ask.specs.Askings.{StoreAsked}
@@ -74,6 +75,7 @@ module _ {V : Type 0} {P : V → Type 0} (m : Meanings P) where
                 drivers = record { sound = r.kept.drivers.sound; room = omega (arith, r.kept.drivers.room, len', capacity') };
                 alive = r.kept.alive;
                 none = items' ∙ r.kept.none;
+                due = r.kept.due;
               };
               room = omega (arith, r.room, len, capacity);
             };
@@ -89,6 +91,7 @@ module _ {V : Type 0} {P : V → Type 0} (m : Meanings P) where
                 drivers = answer_ready _ _ _ _ _ d ask r moved _ _ _ _ rd.kept.drivers rd.kept.drivers.room;
                 alive = rd.kept.alive ∙ sym (answer_live _ _ _ _ _ d ask r moved);
                 none = rd.kept.none;
+                due = λ h. answered_out (λ b. state_in m b) (λ b. b.vtable) (λ v. (m v).meaning.fits) (members s.drivers) (members ds) d ask r moved (rd.kept.due h);
               };
               room = room;
             } in
@@ -108,6 +111,7 @@ module _ {V : Type 0} {P : V → Type 0} (m : Meanings P) where
                 drivers = made_ready _ _ _ _ _ d ask r moved _ _ _ _ rd.kept.drivers (omega (arith, room', rd.kept.alive, born_one r));
                 alive = omega (arith, born_as r, rd.kept.alive, made_live _ _ _ _ _ d ask r moved);
                 none = items ∙ rd.kept.none;
+                due = λ h. made_out (λ b. state_in m b) (λ b. b.vtable) (λ v. (m v).meaning.fits) (members s.drivers) (members ds) d ask r moved (rd.kept.due h);
               };
               room = omega (arith, room, born_as r, born_one r);
             } in

@@ -98,6 +98,7 @@ fn machine_of(alloc: Global, drivers: Drivers, modules: Vec<Vec<Slot>>) -> Machi
             events: Vec::new(alloc),
             ends,
             live: 0,
+            spent: false,
         },
     }
 }
@@ -132,6 +133,7 @@ pub fn end(machine: Machine) {
         events: _,
         ends: _,
         live: _,
+        spent: _,
     } = store;
     drop(drivers.into_boxes());
 }

@@ -1,4 +1,4 @@
-use Rattle.std.proofs.Common.{◌≡◌, ◌≤◌, ◌+◌, List, drop, vec_len, vec_capacity}
+use Rattle.std.proofs.Common.{◌≡◌, ◌≤◌, ◌+◌, Bool, List, drop, vec_len, vec_capacity}
 use Rattle.ang_host.specs.declared.event.Role.{Role}
 use Rattle.ang_host.specs.Members.{states_of}
 use Rattle.ang_host.specs.Boxes.{members}
@@ -15,9 +15,9 @@ decreases-give_up g l = slab_len l.records.now
 
 abbrev pub invariant-loop-i : goal.invariant-loop-i
 invariant-loop-i g l = record {
-  gives : (gs : List (List Slot)) (is : List Input)
-      → give_all l.object.fields.items (world_by (objects_in l.initial.records) (counts_of (λ v. (g.dyn-1.0.entry v).1) (members l.initial.drivers)) gs l.initial.events.items is)
-      ≡ give_all (drop l.i l.object.fields.items) (world_by (objects_in l.records) (counts_of (λ v. (g.dyn-1.0.entry v).1) (members l.drivers)) gs l.events.items is);
+  gives : (gs : List (List Slot)) (sp : Bool) (is : List Input)
+      → give_all l.object.fields.items (world_by (objects_in l.initial.records) (counts_of (λ v. (g.dyn-1.0.entry v).1) (members l.initial.drivers)) gs l.initial.events.items sp is)
+      ≡ give_all (drop l.i l.object.fields.items) (world_by (objects_in l.records) (counts_of (λ v. (g.dyn-1.0.entry v).1) (members l.drivers)) gs l.events.items sp is);
   enough : EnoughIn (drop l.i l.object.fields.items) (objects_in l.records) (counts_of (λ v. (g.dyn-1.0.entry v).1) (members l.drivers));
   ready : AreReady (states_of (λ v. (g.dyn-1.0.entry v).1) (members l.drivers)) (vec_len l.events) (vec_capacity l.events);
   capacity : vec_capacity l.events ≡ vec_capacity l.initial.events;
