@@ -36,11 +36,18 @@ pub(crate) fn value_operand(
     let ty = ArgType::Enumeration {
         number: value.enumeration,
     };
-    let tree = boxed(
+    let operand = boxed(
         alloc,
         Expression::Number {
             ty: Prim::I32,
             value: int_bits(value.number),
+        },
+    )?;
+    let tree = boxed(
+        alloc,
+        Expression::Naming {
+            entity: value.entity,
+            operand,
         },
     )?;
     Ok(plain_operand(place, ty, tree))

@@ -5,7 +5,7 @@ ghost use Rattle.ang_check_operand.specs.View.{view_operand, view_operands};
 ghost use Rattle.ang_check_typing.specs.Calls as spec;
 
 use ang_check_operand::{Operand, Stop, boxed, integer, plain_operand, refused};
-use ang_kinds::{ErrorKind, Place, Prim};
+use ang_kinds::{EntityNo, ErrorKind, Place, Prim};
 use ang_lex::Token;
 use ang_typed::Expression;
 use ang_types::ArgType;
@@ -17,12 +17,19 @@ fn enumerated(alloc: Global, place: Place, number: u32, operand: Operand) -> Res
         (spec.enumerated place number (view_operand operand)) }
 {
     let from = integer(&operand)?;
-    let tree = boxed(
+    let converted = boxed(
         alloc,
         Expression::Convert {
             from,
             to: Prim::I32,
             operand: operand.tree,
+        },
+    )?;
+    let tree = boxed(
+        alloc,
+        Expression::Naming {
+            entity: EntityNo(number),
+            operand: converted,
         },
     )?;
     Ok(plain_operand(place, ArgType::Enumeration { number }, tree))

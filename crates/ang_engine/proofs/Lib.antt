@@ -1,6 +1,8 @@
 pub mod States
 pub mod Beginning
 pub mod Entries
+pub mod Standing
+pub mod Closing
 pub mod Leading
 pub mod Places
 pub mod Linking

@@ -10,7 +10,12 @@ use Rattle.ang_host.specs.declared.event.Role.{Role}
 use Rattle.ang_host.specs.Boxes.{members}
 use Rattle.ang_host.specs.Meanings.{Meanings}
 use Rattle.ang_host.proofs.Events.{AllFollow-length}
+use Rattle.ang_view.specs.Only.{IsWithin}
 use Rattle.ang_view.specs.Registration.{RegistrationList, seen}
+use Rattle.ang_view.proofs.Keeping.{only_within}
+use Rattle.ang_typed.specs.View.{view_typed}
+use Rattle.ang_uses.specs.Uses.{uses}
+use Rattle.ang_narrow.specs.Narrowed.{is_among, narrowed}
 use Rattle.ang_meaning.specs.World.{Input, World as RunWorld, with_inputs}
 use Rattle.ang_meaning.specs.Told.{answers_listed}
 use Rattle.ang_meaning.specs.Counting.{IsCounted}
@@ -53,9 +58,18 @@ use Rattle.ang_engine.proofs.Builds.{build-refused, build-begun, IsPlacedBy}
 
 -- what is built of a module is of its name, and of what its mask shows
 pub waiting-built : (R : RegistrationList) (n : Module) (r : Result LoadedModule NoProgram) (name : List ℕ) (mask : Mask) (sections : List (List ℕ)) → name ≡ n.name → mask ≡ n.built_mask
-    → IsCompiled r (build_of (seen R mask.0) sections) → IfOk r (λ l. l.name ≡ name) → IfOk r (λ l. l.view ≡ seen R mask.0) → IfOk r (λ l. IsBuiltBy R n.name n.built_mask.0 l)
+    → IsCompiled r (build_of (seen R mask.0) sections) → IfOk r (λ l. l.name ≡ name) → IfOk r (λ l. l.view ≡ narrowed (seen R mask.0) (view_typed l.tree)) → IfOk r (λ l. IsBuiltBy R n.name n.built_mask.0 l)
+unfolding narrowed
 waiting-built R n (Ok l) name mask sections same shown c named view =
-    record { name = named ∙ same; view = view ∙ ap (λ k. seen R k.0) shown; sections = sections; built = ap (λ V. build_of V sections) view ∙ c }
+    let here : l.view ≡ narrowed (seen R n.built_mask.0) (view_typed l.tree) = view ∙ ap (λ (k : Mask). narrowed (seen R k.0) (view_typed l.tree)) shown in
+    record {
+      name = named ∙ same;
+      sight = seen R n.built_mask.0;
+      sections = sections;
+      built = ap (λ (k : Mask). build_of (seen R k.0) sections) (sym shown) ∙ c;
+      view = here;
+      stands = subst (λ V. IsWithin V (seen R n.built_mask.0)) (sym here) (only_within (is_among (uses (view_typed l.tree))) (seen R n.built_mask.0));
+    }
 waiting-built R n (Err e) name mask sections same shown c named view = tt
 
 -- ---- the reply
@@ -100,12 +114,6 @@ apart_still ms home n named apart = λ i j p q at bt same.
 pub unbuilt_place : (R : RegistrationList) (n : Option Module) → IsSoundPlace R n None
 unbuilt_place R None = tt
 unbuilt_place R (Some m) = tt
-
--- What is built in a place is over what the mask showed that the module had.
-view_of_place : (R : RegistrationList) (n d : Option Module) (l : LoadedModule) (k : Option LoadedModule) → IsSoundPlace R n (Some l) → place_of n None ≡ Some (emptied (module_in (place_of d k)))
-    → l.view ≡ seen R (module_in (place_of d k)).mask
-view_of_place R None d l k h e = absurd h
-view_of_place R (Some m) d l k h e = h.view ∙ ap (λ p. seen R (module_in p).built_mask) e
 
 -- The place `home` among these, d before and n after: its globals have ended, its code is gone, and no import leads to it.
 module _ {V : Type 0} {P : V → Type 0} (m : Meanings P) (R : RegistrationList) (ms : List (Option Module)) (ls cs : List (Option LoadedModule)) (order : List ℕ) (home budget : ℕ) (n d : Option Module)
@@ -238,28 +246,29 @@ module _ {V : Type 0} {P : V → Type 0} (m : Meanings P) (R : RegistrationList)
           (run-join m (modules_of with_it) (record s { events = es }) (record t { events = fs }) (record u { events = gs })
           (run-ended m (modules_of with_it) home (record s { events = es }) (record t { events = fs }) (ended []) moves) ran))
 
-      view_here : l.view ≡ seen R it.mask
-      view_here =
+      module _ (shown : (k : Option LoadedModule) → l.view ≡ narrowed (seen R (module_in (place_of d k)).mask) (view_typed l.tree)) where
+       view_here : l.view ≡ narrowed (seen R it.mask) (view_typed l.tree)
+       view_here =
           let k = slice_index_or ls home None in
-          view_of_place R n d l k built (empty k) ∙ ap (λ q. seen R (module_in (place_of q k)).mask) (sym at)
+          shown k ∙ ap (λ q. narrowed (seen R (module_in (place_of q k)).mask) (view_typed l.tree)) (sym at)
 
-      module _ (unbound : l.links ≡ map (λ h. None) l.tree.imports)
-          (c : (k : Option LoadedModule) → IsCompiled (Ok l) (build_of (seen R (module_in (place_of d k)).mask) (module_in (place_of d k)).sections)) where
-        compiled_here : IsCompiled (Ok l) (build_of (seen R it.mask) it.sections)
-        compiled_here =
-            let k = slice_index_or ls home None in
-            subst (λ q. IsCompiled (Ok l) (build_of (seen R (module_in (place_of q k)).mask) (module_in (place_of q k)).sections)) (sym at) (c k)
+       module _ (unbound : l.links ≡ map (λ h. None) l.tree.imports)
+           (c : (k : Option LoadedModule) → IsCompiled (Ok l) (build_of (seen R (module_in (place_of d k)).mask) (module_in (place_of d k)).sections)) where
+         compiled_here : IsCompiled (Ok l) (build_of (seen R it.mask) it.sections)
+         compiled_here =
+             let k = slice_index_or ls home None in
+             subst (λ q. IsCompiled (Ok l) (build_of (seen R (module_in (place_of q k)).mask) (module_in (place_of q k)).sections)) (sym at) (c k)
 
-        placed_by : {U : Type 0} (r : Result U BuildRefused) (ks : List (Option LoadedModule)) → OnOk r (ks ≡ with_it) → OnErr r (ks ≡ cs)
-            → IsPlacedBy R old home it budget now has_ended silent l view_here unbound compiled_here r (states_by ks)
-        placed_by (Ok x) ks ok err = ap states_by ok ∙ states_with
-        placed_by (Err e) ks ok err = ap states_by err ∙ left_emptied
+         placed_by : {U : Type 0} (r : Result U BuildRefused) (ks : List (Option LoadedModule)) → OnOk r (ks ≡ with_it) → OnErr r (ks ≡ cs)
+             → IsPlacedBy R old home it budget now has_ended silent l view_here unbound compiled_here r (states_by ks)
+         placed_by (Ok x) ks ok err = ap states_by ok ∙ states_with
+         placed_by (Err e) ks ok err = ap states_by err ∙ left_emptied
 
-        pub begun-leads : {U : Type 0} (r : Result U BuildRefused) (ks : List (Option LoadedModule)) (u : Store V P) (gs : Vec HostEvent Global) → OnOk r (ks ≡ with_it)
-            → OnErr r (ks ≡ cs) → HasStarted (modules_of with_it) home budget (program_in l) now r (world_of m (record u { events = gs }))
-            → Leads (build R old home (module_at old home) budget) (reply_to_build r gs.items) (left_to (states_by ks) (world_of m (record u { events = gs })))
-        begun-leads r ks u gs ok err started =
-            let y = world_of m (record u { events = gs }) in
-            subst (λ x. Leads (build R old home x budget) (reply_to_build r gs.items) (left_to (states_by ks) y)) (sym it_stood)
-            (build-begun R old home it budget now has_ended silent l view_here unbound compiled_here r (modules_of with_it) y built_with started
-            (λ end h. ended_silent home (with_inputs [] end) (with_inputs [] y) (h [])) (states_by ks) (placed_by r ks ok err))
+         pub begun-leads : {U : Type 0} (r : Result U BuildRefused) (ks : List (Option LoadedModule)) (u : Store V P) (gs : Vec HostEvent Global) → OnOk r (ks ≡ with_it)
+             → OnErr r (ks ≡ cs) → HasStarted (modules_of with_it) home budget (program_in l) now r (world_of m (record u { events = gs }))
+             → Leads (build R old home (module_at old home) budget) (reply_to_build r gs.items) (left_to (states_by ks) (world_of m (record u { events = gs })))
+         begun-leads r ks u gs ok err started =
+             let y = world_of m (record u { events = gs }) in
+             subst (λ x. Leads (build R old home x budget) (reply_to_build r gs.items) (left_to (states_by ks) y)) (sym it_stood)
+             (build-begun R old home it budget now has_ended silent l view_here unbound compiled_here r (modules_of with_it) y built_with started
+             (λ end h. ended_silent home (with_inputs [] end) (with_inputs [] y) (h [])) (states_by ks) (placed_by r ks ok err))

@@ -14,6 +14,7 @@ use Rattle.ang_meaning.specs.declared.slot.Slot.{Slot}
 use Rattle.ang_meaning.specs.World.{Input, Room, World as RunWorld}
 use Rattle.ang_meaning.specs.Told.{has_room, stopped_by, answers_told, answers_listed}
 use Rattle.ang_source.specs.Meaning.{routine}
+use Rattle.ang_narrow.specs.Narrowed.{narrowed}
 use Rattle.ang_engine_build.specs.Build.{Resolved, Built, Errors, Compiled, build_of, denials_in}
 use Rattle.ang_engine_call.specs.Named.{function_named_by}
 use Rattle.ang_engine_call.specs.Calls.{is_callable, arguments_of, result_of}
@@ -44,10 +45,11 @@ errors_reply events errors denials =
 abbrev pub emptied : ModuleState → ModuleState
 emptied m = record m { built_mask = m.mask; sections = []; program = None }
 
--- what scripts are resolved to, over what their module sees, with no import bound yet
+-- what scripts are resolved to, with what they use of what their module sees, and with no import bound
+-- yet
 abbrev pub program_over : RegistrationList → Resolved → Program
 program_over V r = record {
-  view = V;
+  view = narrowed V r.tree;
   names = r.names;
   tree = r.tree;
   links = list_map (λ h. None) r.tree.imports;

@@ -3,6 +3,7 @@ ghost use Rattle.std.specs.Prelude.{ℕ, ◌≡◌, ◌<◌, ◌≤◌, ◌^◌,
 ghost use Rattle.ang_host.specs.Boxes.{members};
 ghost use Rattle.ang_view.specs.Registration.{seen};
 ghost use Rattle.ang_source.specs.Sound.{SoundProgram};
+ghost use Rattle.ang_narrow.specs.Narrowed.{narrowed};
 ghost use Rattle.ang_typed.specs.View.{view_typed};
 ghost use Rattle.ang_meaning.specs.Counting.{IsCounted};
 ghost use Rattle.ang_heap.specs.Globals.{values_in};
@@ -32,6 +33,7 @@ use ang_engine_world::{Module, ModuleList, Refusal, find, put_globals};
 use ang_host::{Driver, HostEvent};
 use ang_kinds::{Denial, Error, Fault, List, Mask};
 use ang_meaning::{Routine, Slot};
+use ang_narrow::narrow;
 use ang_registry::Registry;
 use ang_typed::Heading;
 use ang_view::View;
@@ -120,7 +122,8 @@ fn compile(
         (build_of (seen registry.now.entries mask.0) sections.now) }
     ensures denials { HasDenials result (denials_in registry.now.entries mask.0 sections.now) }
     ensures name { IfOk result (λ l. l.name ≡ name.now) }
-    ensures view { IfOk result (λ l. l.view ≡ seen registry.now.entries mask.0) }
+    ensures view { IfOk result
+        (λ l. l.view ≡ narrowed (seen registry.now.entries mask.0) (view_typed l.tree)) }
     ensures unbound { IfOk result (λ l. l.links ≡ list_map (λ h. None) l.tree.imports) }
     ensures sound { IfOk result (λ l. SoundProgram l.view (view_typed l.tree)) }
 {
@@ -131,7 +134,10 @@ fn compile(
         Ok(program) => program,
         Err(why) => return Err(why),
     };
-    match with_view(alloc, name, view, program) {
+    let Ok(kept) = narrow(alloc, &view, &program.tree) else {
+        return Err(NoProgram::Memory);
+    };
+    match with_view(alloc, name, kept, program) {
         Ok(loaded) => Ok(loaded),
         Err(_) => Err(NoProgram::Memory),
     }
@@ -149,6 +155,8 @@ fn compile_waiting(
         (denials_in registry.now.entries from.old.mask.0 from.old.sections.items) }
     ensures built { IfOk result
         (λ l. IsBuiltBy registry.now.entries from.new.name from.new.built_mask.0 l) }
+    ensures shown { IfOk result
+        (λ l. l.view ≡ narrowed (seen registry.now.entries from.old.mask.0) (view_typed l.tree)) }
     ensures unbound { IfOk result (λ l. l.links ≡ list_map (λ h. None) l.tree.imports) }
     ensures sound { IfOk result (λ l. SoundProgram l.view (view_typed l.tree)) }
     ensures emptied { (l : Option LoadedModule)
@@ -258,6 +266,9 @@ fn compile_place(
         (module_in (place_of place.old l)).sections) }
     ensures built { IfOk result
         (λ loaded. IsSoundPlace registry.now.entries place.new (Some loaded)) }
+    ensures shown { IfOk result (λ loaded. (k : Option LoadedModule) → loaded.view
+        ≡ narrowed (seen registry.now.entries (module_in (place_of place.old k)).mask)
+        (view_typed loaded.tree)) }
     ensures unbound { IfOk result (λ l. l.links ≡ list_map (λ h. None) l.tree.imports) }
     ensures sound { IfOk result (λ l. SoundProgram l.view (view_typed l.tree)) }
     ensures emptied { (l : Option LoadedModule)

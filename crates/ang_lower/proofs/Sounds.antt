@@ -317,6 +317,7 @@ module _ (z : Setting) (m : ℕ) (M : Module) (callees : HasCallees z m M) (view
     lowered_sound tree.null n h = tt
     lowered_sound (tree.convert from to e) n h = folded_sound n (converted to) (Convert to) (low.lowered n e) (refl, refl) (lowered_sound e n h)
     lowered_sound (tree.negate ty e) n h = folded_sound n (negated ty) (Negate ty) (low.lowered n e) (refl, refl) (lowered_sound e n h)
+    lowered_sound (tree.naming x e) n h = lowered_sound e n h
     lowered_sound (tree.complement ty e) n h = folded_sound n (complemented ty) (Complement ty) (low.lowered n e) (refl, refl) (lowered_sound e n h)
     lowered_sound (tree.not e) n h = folded_sound n denied Not (low.lowered n e) (refl, refl) (lowered_sound e n h)
     lowered_sound (tree.operate op ty a b) n h = binary_sound n (Work (work_of op) ty) (low.lowered n a) (low.lowered n b) (refl, refl) (lowered_sound a n h.0) (lowered_sound b n h.1)

@@ -9,6 +9,7 @@ is_unary (t.negate ty e) = true
 is_unary (t.complement ty e) = true
 is_unary (t.not e) = true
 is_unary (t.cast family e) = true
+is_unary (t.naming x e) = true
 is_unary e = false
 
 -- an operator on two operands that are both evaluated

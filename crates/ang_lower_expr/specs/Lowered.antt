@@ -158,6 +158,7 @@ abbrev mutual
   lowered n (t.or l r) = c.choose (lowered n l) (c.number 1) (lowered n r)
   lowered n (t.choose a l r) = c.choose (lowered n a) (lowered n l) (lowered n r)
   lowered n (t.same l r) = binary Same (lowered n l) (lowered n r)
+  lowered n (t.naming x e) = lowered n e
   lowered n (t.cast family e) = unary (Cast family) (lowered n e)
   lowered n (t.make family constructor args) = made_by family constructor (lowered_args n args) (targets_of n args)
   lowered n (t.assign x ty e) = lowered_store n x (lowered n e)

@@ -38,7 +38,8 @@ pub fn lower_expression(
         | typed::Expression::Negate { .. }
         | typed::Expression::Complement { .. }
         | typed::Expression::Not { .. }
-        | typed::Expression::Cast { .. } => lower_unary(alloc, alive, e),
+        | typed::Expression::Cast { .. }
+        | typed::Expression::Naming { .. } => lower_unary(alloc, alive, e),
         typed::Expression::Operate { .. }
         | typed::Expression::Compare { .. }
         | typed::Expression::Same { .. } => lower_binary(alloc, alive, e),
@@ -96,6 +97,7 @@ fn lower_unary(alloc: Global, alive: usize, e: &typed::Expression) -> Result<Exp
             let operand = lower_expression(alloc, alive, operand)?;
             unary(alloc, Operation::Cast(*family), operand)
         }
+        typed::Expression::Naming { operand, .. } => lower_expression(alloc, alive, operand),
         _ => unreachable!(),
     }
 }

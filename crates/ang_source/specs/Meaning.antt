@@ -235,6 +235,7 @@ abbrev mutual
   evaluate z m c (t.or l r) ls t w = chosen (evaluate z m c l ls t w) (λ ls' t' w'. Gave (Bits (truth true)) ls' t' w') (evaluate z m c r)
   evaluate z m c (t.choose a l r) ls t w = chosen (evaluate z m c a ls t w) (evaluate z m c l) (evaluate z m c r)
   evaluate z m c (t.same l r) ls t w = applied (perform z m Same) (two (evaluate z m c l ls t w) (evaluate z m c r))
+  evaluate z m c (t.naming x e) ls t w = evaluate z m c e ls t w
   evaluate z m c (t.cast n e) ls t w = applied (perform z m (Cast n)) (one (evaluate z m c e ls t w))
   evaluate z m c (t.make n None args) ls t w = applied (perform z m (Make n)) (Ready [] ls t w)
   evaluate z m c (t.make n (Some k) args) ls t w =

@@ -238,6 +238,14 @@ pub enum Expression {
         /// The handle.
         operand: Box<Expression>,
     },
+    /// The operand, in which a registered entry is named that nobody is asked for: a value of an enumeration by its name,
+    /// a conversion to an enumeration, or a cast to a host type. Its value is the operand's.
+    Naming {
+        /// The entry that is named.
+        entity: EntityNo,
+        /// What it is the value of.
+        operand: Box<Expression>,
+    },
     /// A new object of a script's class. Its fields are 0, false and null; then the constructor runs on it, where one
     /// does, with the arguments, which are evaluated after the making. Without a constructor there are none.
     Make {

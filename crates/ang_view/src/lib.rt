@@ -15,5 +15,5 @@ mod view;
 pub use entry::{Entry, EntryKind};
 pub use lookup::{FoundType, find_type};
 pub use view::{
-    View, belongs_to, hidden_of, mentions_type, names_entry, spells, view_of, whole_of,
+    View, belongs_to, hidden_of, kept_of, mentions_type, names_entry, spells, view_of, whole_of,
 };

@@ -1,15 +1,16 @@
 //! What a module of a mask sees of a registration list.
-ghost use Rattle.std.specs.Prelude.{◌≡◌, ◌<◌, ◌≤◌, length, map, Some, IfOk, IfSome, IsTrue, option_map};
+ghost use Rattle.std.specs.Prelude.{◌≡◌, ◌<◌, ◌≤◌, false, length, map, slice_index_or, Some, IfOk, IfSome, IsTrue, option_map};
 ghost use Rattle.std.specs.Option.{option_copied};
 ghost use Rattle.std.specs.List.{list_all};
 ghost use Rattle.ang_view.specs.Hidden.{hidden, hidden_entry};
 ghost use Rattle.ang_view.specs.Named as spec;
+ghost use Rattle.ang_view.specs.Only.{kept_entry, only};
 ghost use Rattle.ang_view.specs.SeenTypes as types;
 ghost use Rattle.ang_view.specs.Types.{enumeration_named, is_enumeration_named, is_type_named, type_named};
 ghost use Rattle.ang_view.specs.Registration.{entry_at, is_type, is_function, is_spelled_with, mentions, is_number, is_named_by, named, has_mask_for, is_seen, seen_entry, seen, is_function_named, function_named};
 
 use crate::by_name::{BARE, index_of, maker_scope, member_scope, push_names, values_of};
-use crate::copy::{copy_entries, copy_entry};
+use crate::copy::{copy_entries, copy_entry, copy_of};
 use crate::lookup::{is_enumeration_named, is_type_named};
 use crate::{Entry, EntryKind};
 use ang_index::Index;
@@ -349,6 +350,52 @@ fn rest_of(
         return Ok(None);
     }
     Ok(Some(copy_entry(alloc, entry)?))
+}
+
+/// A copy of the entry where it is to be kept, else a blank.
+fn kept_one(
+    alloc: Global,
+    marks: &[bool],
+    number: usize,
+    entry: &Option<Entry>,
+) -> Result<Option<Entry>, AllocError>
+    ensures exact { IfOk result
+        (λ kept. kept ≡ kept_entry (λ n. slice_index_or marks.now n false) number entry.now) }
+{
+    match marks.get(number) {
+        Some(true) => copy_of(alloc, entry),
+        Some(false) => Ok(None),
+        None => Ok(None),
+    }
+}
+
+#[tactic(auto, unfolding(crate::specs::Only::only))]
+/// Those entries of a list that are marked: each other one is a blank.
+fn kept_entries(
+    alloc: Global,
+    entries: &[Option<Entry>],
+    marks: &[bool],
+) -> Result<Vec<Option<Entry>>, AllocError>
+    ensures exact { IfOk result
+        (λ kept. kept.items ≡ only (λ n. slice_index_or marks.now n false) entries.now) }
+{
+    let mut kept = Vec::new(alloc);
+    for (number, entry) in entries.iter().enumerate() {
+        let one = kept_one(alloc, marks, number, entry)?;
+        kept.push(one)?;
+    }
+    Ok(kept)
+}
+
+/// A view of those entries of a list that are marked: each other one is a blank. Numbers stay.
+///
+/// The only error is want of memory.
+pub fn kept_of(alloc: Global, list: &View, marks: &[bool]) -> Result<View, AllocError>
+    ensures exact { IfOk result
+        (λ view. view ≡ only (λ n. slice_index_or marks.now n false) list.now) }
+{
+    let view = kept_entries(alloc, list.entries(), marks)?;
+    view_with(alloc, view)
 }
 
 /// The whole list as a view, whatever the masks. Denials look up in it the types of what is hidden.
