@@ -64,20 +64,20 @@ module _ (R V : RegistrationList) (g : Group) (none : is_named_outside R g ≡ f
   names_none n k less_kept inside (Some x) at =
       from_no_true (is_named_by x n (entry_at R n))
       (λ names.
-          let there : entry_at R k ≡ Some x = within k x at in
-          let lt : k < length R = entry_at-lt R k x there in
-          let out : is_in g k ≡ false = from_no_true (is_in g k) (λ e. no_true (keeps V k) (second (is_in g k) (keeps V k) (none_at kept 0 (length R) k (omega arith) (omega (arith, lt)) less_kept) e) (ap is_some at)) in
-          let here = none_at (λ i. not (is_in g i) && names_into R g (entry_at R i)) 0 (length R) k (omega arith) (omega (arith, lt)) none in
-          let into : names_into R g (entry_at R k) ≡ false = second (not (is_in g k)) (names_into R g (entry_at R k)) here (ap not out) in
-          let mine : list_any (is_in g) (named R x) ≡ false = sym (ap (names_into R g) there) ∙ into in
-          let within_list : n < length R = named_within R x n (entry_at R n) refl names in
-          no_true (is_in g n) (none_kept_at (is_in g) (λ i. is_named_by x i (entry_at R i)) 0 (length R) n (omega arith) (omega (arith, within_list)) names mine) inside)
+      let there : entry_at R k ≡ Some x = within k x at in
+      let lt : k < length R = entry_at-lt R k x there in
+      let out : is_in g k ≡ false = from_no_true (is_in g k) (λ e. no_true (keeps V k) (second (is_in g k) (keeps V k) (none_at kept 0 (length R) k (omega arith) (omega (arith, lt)) less_kept) e) (ap is_some at)) in
+      let here = none_at (λ i. not (is_in g i) && names_into R g (entry_at R i)) 0 (length R) k (omega arith) (omega (arith, lt)) none in
+      let into : names_into R g (entry_at R k) ≡ false = second (not (is_in g k)) (names_into R g (entry_at R k)) here (ap not out) in
+      let mine : list_any (is_in g) (named R x) ≡ false = sym (ap (names_into R g) there) ∙ into in
+      let within_list : n < length R = named_within R x n (entry_at R n) refl names in
+      no_true (is_in g n) (none_kept_at (is_in g) (λ i. is_named_by x i (entry_at R i)) 0 (length R) n (omega arith) (omega (arith, within_list)) names mine) inside)
 
   pub closing : uses_group R g V ≡ keeps_group R g V
   closing =
       alike_false (uses_group R g V) (keeps_group R g V)
       (λ e. none_from kept 0 (length R) (λ n low high. less (is_in g n) (keeps V n) (list_any (λ k. names_entry (entry_at V k) n (entry_at R n)) (numbers_of V)) (none_at used 0 (length R) n low high e)))
       (λ e. none_from used 0 (length R) (λ n low high.
-          by_both (is_in g n) (keeps V n) (list_any (λ k. names_entry (entry_at V k) n (entry_at R n)) (numbers_of V))
-          (λ inside. second (is_in g n) (keeps V n) (none_at kept 0 (length R) n low high e) inside)
-          (λ inside. none_from (λ k. names_entry (entry_at V k) n (entry_at R n)) 0 (length V) (λ k l h. names_none n k e inside (entry_at V k) refl))))
+      by_both (is_in g n) (keeps V n) (list_any (λ k. names_entry (entry_at V k) n (entry_at R n)) (numbers_of V))
+      (λ inside. second (is_in g n) (keeps V n) (none_at kept 0 (length R) n low high e) inside)
+      (λ inside. none_from (λ k. names_entry (entry_at V k) n (entry_at R n)) 0 (length V) (λ k l h. names_none n k e inside (entry_at V k) refl))))

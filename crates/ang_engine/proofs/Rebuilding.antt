@@ -33,22 +33,22 @@ use Rattle.ang_engine_modules.specs.Loaded.{loaded_at, modules_of, without_links
 use Rattle.ang_engine_modules.specs.Modules.{Module as RunModule, AreDriversThere}
 use Rattle.ang_engine.specs.declared.building.BuildRefused.{BuildRefused}
 use Rattle.ang_engine.specs.declared.building.BuildRefused.TheVariants as why
-use Rattle.ang_engine_world.specs.declared.module.Module.{Module}
-use Rattle.ang_engine_world.specs.declared.reply.Refusal.TheVariants.{BadBudget}
-use Rattle.ang_engine_world.specs.Sound.{HasSameName}
-use Rattle.ang_engine_world.specs.World.{Program, ModuleState, ModuleStates, World, module_named, module_in, module_at, built_in, placed, all_unbound_from, running, left_to, globals_ended}
-use Rattle.ang_engine_world.specs.States.{program_in, place_of, places_of}
+use Rattle.ang_engine_modules.specs.declared.module.Module.{Module}
+use Rattle.ang_engine_modules.specs.declared.reply.Refusal.TheVariants.{BadBudget}
+use Rattle.ang_engine_modules.specs.Sound.{HasSameName}
+use Rattle.ang_engine_modules.specs.World.{Program, ModuleState, ModuleStates, World, module_named, module_in, module_at, built_in, placed, all_unbound_from, running, left_to, globals_ended}
+use Rattle.ang_engine_modules.specs.States.{program_in, place_of, places_of}
 use Rattle.ang_engine.specs.Step.{Leads, emptied, with_program, build, build_within, is_budget}
-use Rattle.ang_engine_world.specs.Commands.{refused}
+use Rattle.ang_engine_modules.specs.Commands.{refused}
 use Rattle.ang_engine.specs.Sound.{IsBuiltBy, IsSoundPlace, HaveDrivers}
 use Rattle.ang_engine.specs.Asked.{HasRunOn, HasAsked}
 use Rattle.ang_engine.specs.Outcomes.{IsCompiled, HasStarted, refused_by, reply_to_build, building}
-use Rattle.ang_engine_world.proofs.Lists.{set_length}
-use Rattle.ang_engine_world.proofs.Worlds.{places_at, zip_length}
-use Rattle.ang_engine_world.proofs.Keeping.{was_there}
+use Rattle.ang_engine_modules.proofs.PlaceLists.{set_length}
+use Rattle.ang_engine_modules.proofs.Worlds.{places_at, zip_length}
+use Rattle.ang_engine_modules.proofs.Keeping.{was_there}
 use Rattle.ang_engine.proofs.Unloading.{unbound_twice, emptied_place}
 use Rattle.ang_engine.proofs.Entries.{AreApart, drivers_there}
-use Rattle.ang_engine_world.proofs.Finding.{on_module-found}
+use Rattle.ang_engine_modules.proofs.Finding.{on_module-found}
 use Rattle.ang_engine.proofs.Asking.{run-join, run-ended, asked-run, asked-ends}
 use Rattle.ang_engine.proofs.Starting.{none_there, ended_silent, ended_lengths}
 use Rattle.ang_engine.proofs.Emptied.{before, refused_states, refused_zip, begun_states, begun_zip, begun_built}
@@ -247,28 +247,28 @@ module _ {V : Type 0} {P : V → Type 0} (m : Meanings P) (R : RegistrationList)
           (run-ended m (modules_of with_it) home (record s { events = es }) (record t { events = fs }) (ended []) moves) ran))
 
       module _ (shown : (k : Option LoadedModule) → l.view ≡ narrowed (seen R (module_in (place_of d k)).mask) (view_typed l.tree)) where
-       view_here : l.view ≡ narrowed (seen R it.mask) (view_typed l.tree)
-       view_here =
-          let k = slice_index_or ls home None in
-          shown k ∙ ap (λ q. narrowed (seen R (module_in (place_of q k)).mask) (view_typed l.tree)) (sym at)
+        view_here : l.view ≡ narrowed (seen R it.mask) (view_typed l.tree)
+        view_here =
+            let k = slice_index_or ls home None in
+            shown k ∙ ap (λ q. narrowed (seen R (module_in (place_of q k)).mask) (view_typed l.tree)) (sym at)
 
-       module _ (unbound : l.links ≡ map (λ h. None) l.tree.imports)
-           (c : (k : Option LoadedModule) → IsCompiled (Ok l) (build_of (seen R (module_in (place_of d k)).mask) (module_in (place_of d k)).sections)) where
-         compiled_here : IsCompiled (Ok l) (build_of (seen R it.mask) it.sections)
-         compiled_here =
-             let k = slice_index_or ls home None in
-             subst (λ q. IsCompiled (Ok l) (build_of (seen R (module_in (place_of q k)).mask) (module_in (place_of q k)).sections)) (sym at) (c k)
+        module _ (unbound : l.links ≡ map (λ h. None) l.tree.imports)
+            (c : (k : Option LoadedModule) → IsCompiled (Ok l) (build_of (seen R (module_in (place_of d k)).mask) (module_in (place_of d k)).sections)) where
+          compiled_here : IsCompiled (Ok l) (build_of (seen R it.mask) it.sections)
+          compiled_here =
+              let k = slice_index_or ls home None in
+              subst (λ q. IsCompiled (Ok l) (build_of (seen R (module_in (place_of q k)).mask) (module_in (place_of q k)).sections)) (sym at) (c k)
 
-         placed_by : {U : Type 0} (r : Result U BuildRefused) (ks : List (Option LoadedModule)) → OnOk r (ks ≡ with_it) → OnErr r (ks ≡ cs)
-             → IsPlacedBy R old home it budget now has_ended silent l view_here unbound compiled_here r (states_by ks)
-         placed_by (Ok x) ks ok err = ap states_by ok ∙ states_with
-         placed_by (Err e) ks ok err = ap states_by err ∙ left_emptied
+          placed_by : {U : Type 0} (r : Result U BuildRefused) (ks : List (Option LoadedModule)) → OnOk r (ks ≡ with_it) → OnErr r (ks ≡ cs)
+              → IsPlacedBy R old home it budget now has_ended silent l view_here unbound compiled_here r (states_by ks)
+          placed_by (Ok x) ks ok err = ap states_by ok ∙ states_with
+          placed_by (Err e) ks ok err = ap states_by err ∙ left_emptied
 
-         pub begun-leads : {U : Type 0} (r : Result U BuildRefused) (ks : List (Option LoadedModule)) (u : Store V P) (gs : Vec HostEvent Global) → OnOk r (ks ≡ with_it)
-             → OnErr r (ks ≡ cs) → HasStarted (modules_of with_it) home budget (program_in l) now r (world_of m (record u { events = gs }))
-             → Leads (build R old home (module_at old home) budget) (reply_to_build r gs.items) (left_to (states_by ks) (world_of m (record u { events = gs })))
-         begun-leads r ks u gs ok err started =
-             let y = world_of m (record u { events = gs }) in
-             subst (λ x. Leads (build R old home x budget) (reply_to_build r gs.items) (left_to (states_by ks) y)) (sym it_stood)
-             (build-begun R old home it budget now has_ended silent l view_here unbound compiled_here r (modules_of with_it) y built_with started
-             (λ end h. ended_silent home (with_inputs [] end) (with_inputs [] y) (h [])) (states_by ks) (placed_by r ks ok err))
+          pub begun-leads : {U : Type 0} (r : Result U BuildRefused) (ks : List (Option LoadedModule)) (u : Store V P) (gs : Vec HostEvent Global) → OnOk r (ks ≡ with_it)
+              → OnErr r (ks ≡ cs) → HasStarted (modules_of with_it) home budget (program_in l) now r (world_of m (record u { events = gs }))
+              → Leads (build R old home (module_at old home) budget) (reply_to_build r gs.items) (left_to (states_by ks) (world_of m (record u { events = gs })))
+          begun-leads r ks u gs ok err started =
+              let y = world_of m (record u { events = gs }) in
+              subst (λ x. Leads (build R old home x budget) (reply_to_build r gs.items) (left_to (states_by ks) y)) (sym it_stood)
+              (build-begun R old home it budget now has_ended silent l view_here unbound compiled_here r (modules_of with_it) y built_with started
+              (λ end h. ended_silent home (with_inputs [] end) (with_inputs [] y) (h [])) (states_by ks) (placed_by r ks ok err))

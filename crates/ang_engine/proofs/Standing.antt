@@ -23,14 +23,14 @@ use Rattle.ang_meaning.specs.declared.slot.Slot.{Slot}
 use Rattle.ang_meaning.specs.World.{Input, Room, Said, Tallied, Fresh, World as RunWorld}
 use Rattle.ang_engine_build.specs.Build.{Resolved, Built, Errors, Compiled, build_of, denials_in}
 use Rattle.ang_engine_modules.specs.declared.modules.LoadedModule.{LoadedModule}
-use Rattle.ang_engine_world.specs.declared.command.Command.{Command}
-use Rattle.ang_engine_world.specs.declared.command.Command.TheVariants.{NewModule, SetMask, AddSection, Build, Bind, Unbind, Call, Discard}
-use Rattle.ang_engine_world.specs.declared.module.Module.{Module}
-use Rattle.ang_engine_world.specs.declared.reply.Refusal.{Refusal}
-use Rattle.ang_engine_world.specs.declared.reply.Outcome.TheVariants.{Done}
-use Rattle.ang_engine_world.specs.declared.reply.Refusal.TheVariants.{BadBudget, BadName, Limit}
-use Rattle.ang_engine_world.specs.World.{Program, ModuleState, ModuleStates, World, module_named, module_in, module_at, placed, unbound_program, unbound_module, all_unbound_from, running, globals_ended}
-use Rattle.ang_engine_world.specs.Commands.{Stepped, answered, fresh_module, with_place, with_module, with_link, linked, in_place, empty_place, where_free, added_module, set_mask, or_limit, add_section, unbind_import, unbind_program, unbind, discard, refused, on_module, on_both, most_modules, most_sections}
+use Rattle.ang_engine_modules.specs.declared.command.Command.{Command}
+use Rattle.ang_engine_modules.specs.declared.command.Command.TheVariants.{NewModule, SetMask, AddSection, Build, Bind, Unbind, Call, Discard}
+use Rattle.ang_engine_modules.specs.declared.module.Module.{Module}
+use Rattle.ang_engine_modules.specs.declared.reply.Refusal.{Refusal}
+use Rattle.ang_engine_modules.specs.declared.reply.Outcome.TheVariants.{Done}
+use Rattle.ang_engine_modules.specs.declared.reply.Refusal.TheVariants.{BadBudget, BadName, Limit}
+use Rattle.ang_engine_modules.specs.World.{Program, ModuleState, ModuleStates, World, module_named, module_in, module_at, placed, unbound_program, unbound_module, all_unbound_from, running, globals_ended}
+use Rattle.ang_engine_modules.specs.Commands.{Stepped, answered, fresh_module, with_place, with_module, with_link, linked, in_place, empty_place, where_free, added_module, set_mask, or_limit, add_section, unbind_import, unbind_program, unbind, discard, refused, on_module, on_both, most_modules, most_sections}
 use Rattle.ang_engine.specs.Step.{is_budget, emptied, with_program, program_over, initializers_end, initialized, started, after_build, build, build_within, bound, link_of, bind_programs, bind, Choice, Chosen, Not, choice_of, called, call_ended, call_end, call_chosen, call_program, call, judged, granted, step}
 use Rattle.ang_engine.specs.Groups.{keeps, uses_entry, uses_group, program_uses, place_uses, is_used, place_keeps, Removal, Removed, InUse, removal_of, removal, ProgramStands, PlaceStands, AllStand, StepStands}
 use Rattle.ang_engine.specs.Sound.{IsBuiltBy, IsSoundPlace, HaveDrivers}
@@ -258,10 +258,10 @@ view_stands : (R : RegistrationList) (g : Group) (mask : ℕ) (V : RegistrationL
 view_stands R g mask V none h =
     within_still (left_outside g) V R mask h
     (λ n x e.
-        let lt : n < length R = omega (arith, entry_at-lt (seen R mask) n x (h n x e), length-seen R mask) in
-        none_of (is_in g n) (keeps V n)
-        (keeps_less (is_in g n) (keeps V n) _ (none_at (λ i. is_in g i && uses_entry R V i) 0 (length R) n (omega arith) (omega (arith, lt)) none))
-        (is_there V n x e))
+    let lt : n < length R = omega (arith, entry_at-lt (seen R mask) n x (h n x e), length-seen R mask) in
+    none_of (is_in g n) (keeps V n)
+    (keeps_less (is_in g n) (keeps V n) _ (none_at (λ i. is_in g i && uses_entry R V i) 0 (length R) n (omega arith) (omega (arith, lt)) none))
+    (is_there V n x e))
 
 program_left : (R : RegistrationList) (g : Group) (mask : ℕ) (o : Option Program) → program_uses R g o ≡ false → ProgramStands R mask o → ProgramStands (only (left_outside g) R) mask o
 program_left R g mask None none h = tt
@@ -307,8 +307,8 @@ loaded_left R g (Some m) (Some l) none h = record {
   view = h.view;
   stands = within_still (left_outside g) l.view R m.built_mask.0 h.stands
       (λ n x e.
-          let lt : n < length R = omega (arith, entry_at-lt (seen R m.built_mask.0) n x (h.stands n x e), length-seen R m.built_mask.0) in
-          outside R g l.view n lt none (is_there l.view n x e));
+      let lt : n < length R = omega (arith, entry_at-lt (seen R m.built_mask.0) n x (h.stands n x e), length-seen R m.built_mask.0) in
+      outside R g l.view n lt none (is_there l.view n x e));
 }
 
 -- Where no module keeps an entry of the group, the modules are sound over the list without it.

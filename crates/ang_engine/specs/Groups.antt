@@ -8,8 +8,8 @@ use Rattle.ang_view.specs.Hidden.{names_entry, numbers_of}
 use Rattle.ang_view.specs.Only.{IsWithin}
 use Rattle.ang_view.specs.Registration.{RegistrationList, entry_at, seen}
 use Rattle.ang_engine_modules.specs.declared.modules.LoadedModule.{LoadedModule}
-use Rattle.ang_engine_world.specs.World.{Program, ModuleState, ModuleStates}
-use Rattle.ang_engine_world.specs.Commands.{Stepped}
+use Rattle.ang_engine_modules.specs.World.{Program, ModuleState, ModuleStates}
+use Rattle.ang_engine_modules.specs.Commands.{Stepped}
 
 -- ---- what a built module uses
 
