@@ -11,15 +11,15 @@ use Rattle.ang_view.specs.Only.{kept_entry, only}
 use Rattle.ang_view.specs.Registration.{RegistrationList, entry_at}
 use Rattle.ang_view.proofs.Keeping.{kept_stays}
 use Rattle.ang_typed.specs.declared.expression.HostEntity.{HostEntity}
-use Rattle.ang_typed.specs.declared.expression.Callee.{Callee}
-use Rattle.ang_typed.specs.declared.expression.Callee.TheVariants as callee
-use Rattle.ang_typed.specs.declared.expression.Member.{Member}
-use Rattle.ang_typed.specs.declared.expression.Member.TheVariants as member
-use Rattle.ang_typed.specs.declared.expression.Variable.{Variable}
-use Rattle.ang_typed.specs.declared.expression.Variable.TheVariants as variable
-use Rattle.ang_typed.specs.declared.program.Class.{Class}
+use Rattle.ang_typed.specs.declared.expression.TypedCallee.{TypedCallee}
+use Rattle.ang_typed.specs.declared.expression.TypedCallee.TheVariants as callee
+use Rattle.ang_typed.specs.declared.expression.TypedMember.{TypedMember}
+use Rattle.ang_typed.specs.declared.expression.TypedMember.TheVariants as member
+use Rattle.ang_typed.specs.declared.expression.TypedVariable.{TypedVariable}
+use Rattle.ang_typed.specs.declared.expression.TypedVariable.TheVariants as variable
+use Rattle.ang_typed.specs.declared.program.TypedClass.{TypedClass}
 use Rattle.ang_typed.specs.declared.program.Heading.{Heading}
-use Rattle.ang_typed.specs.declared.program.Parameter.{Parameter}
+use Rattle.ang_typed.specs.declared.program.TypedParameter.{TypedParameter}
 use Rattle.ang_typed.specs.Typed as t
 use Rattle.ang_source.specs.Sound as s
 use Rattle.ang_source.specs.Sound.{Module, module_of, IsEntity, IsWritable, IsHostCallee, argument_count, declared, declared_by, SoundProgram}
@@ -60,33 +60,33 @@ module _ (M : Module) (W : RegistrationList) where
   host_callee : (h : HostEntity) (count : ℕ) → Stays h.entity.0 → IsHostCallee M.view h count → IsHostCallee W h count
   host_callee h count stays c = record { kind = c.kind; entity = entity c.kind h stays c.entity; params = c.params }
 
-  is_variable : (n : ℕ) (x : Variable) → Stay (variable_uses x) → s.IsVariable M n x → s.IsVariable Over n x
+  is_variable : (n : ℕ) (x : TypedVariable) → Stay (variable_uses x) → s.IsVariable M n x → s.IsVariable Over n x
   is_variable n (variable.Local i) u h = h
   is_variable n (variable.Global g) u h = h
   is_variable n (variable.Property x) u h = entity Global x u.0 h
   is_variable n (variable.Field i) u h = h
 
-  is_stored : (n : ℕ) (x : Variable) → Stay (variable_uses x) → s.IsStored M n x → s.IsStored Over n x
+  is_stored : (n : ℕ) (x : TypedVariable) → Stay (variable_uses x) → s.IsStored M n x → s.IsStored Over n x
   is_stored n (variable.Local i) u h = h
   is_stored n (variable.Global g) u h = h
   is_stored n (variable.Property x) u h = writable Global x u.0 h
   is_stored n (variable.Field i) u h = h
 
-  is_target : (n : ℕ) (x : Variable) → s.IsTarget M n x → s.IsTarget Over n x
+  is_target : (n : ℕ) (x : TypedVariable) → s.IsTarget M n x → s.IsTarget Over n x
   is_target n (variable.Local i) h = h
   is_target n (variable.Global g) h = h
   is_target n (variable.Property x) h = h
   is_target n (variable.Field i) h = h
 
-  is_member : (m : Member) → Stay (member_uses m) → s.IsMember M m → s.IsMember Over m
+  is_member : (m : TypedMember) → Stay (member_uses m) → s.IsMember M m → s.IsMember Over m
   is_member (member.Field i) u h = h
   is_member (member.Property x) u h = entity Property x u.0 h
 
-  is_stored_member : (m : Member) → Stay (member_uses m) → s.IsStoredMember M m → s.IsStoredMember Over m
+  is_stored_member : (m : TypedMember) → Stay (member_uses m) → s.IsStoredMember M m → s.IsStoredMember Over m
   is_stored_member (member.Field i) u h = h
   is_stored_member (member.Property x) u h = writable Property x u.0 h
 
-  parameters_same : (f : Callee) → s.parameters_of Over f ≡ s.parameters_of M f
+  parameters_same : (f : TypedCallee) → s.parameters_of Over f ≡ s.parameters_of M f
   parameters_same (callee.Own f) = refl
   parameters_same (callee.Import i) = refl
   parameters_same (callee.Chosen k) = refl
@@ -134,7 +134,7 @@ module _ (M : Module) (W : RegistrationList) where
     sound n (t.call f result args) u h = (h.0, parameters_same f ∙ h.1, sound_arguments n h.0 args u h.2)
     sound n (t.host_call x result args) u h = (host_callee x (argument_count args) u.0 h.0, sound_values n args u.1 h.1)
 
-    sound_arguments : (n : ℕ) (ps : List Parameter) (args : t.Args) → Stay (args_uses args) → s.SoundArguments M n ps args → s.SoundArguments Over n ps args
+    sound_arguments : (n : ℕ) (ps : List TypedParameter) (args : t.Args) → Stay (args_uses args) → s.SoundArguments M n ps args → s.SoundArguments Over n ps args
     sound_arguments n [] t.none u h = tt
     sound_arguments n [] (t.more a args) u h = h
     sound_arguments n (p ∷ ps) t.none u h = h
@@ -192,7 +192,7 @@ module _ (M : Module) (W : RegistrationList) where
     sound_statements loop n t.end u h = tt
     sound_statements loop n (t.then x ss) u h = (sound_statement loop n x (first (stmt_uses x) (stmts_uses ss) u) h.0, sound_statements loop (declared x + n) ss (second (stmt_uses x) (stmts_uses ss) u) h.1)
 
-  sound_functions : (fs : List t.Function) → Stay (flat_map function_uses fs) → s.SoundFunctions M fs → s.SoundFunctions Over fs
+  sound_functions : (fs : List t.TypedFunction) → Stay (flat_map function_uses fs) → s.SoundFunctions M fs → s.SoundFunctions Over fs
   sound_functions [] u h = tt
   sound_functions (f ∷ fs) u h =
       let here = first (function_uses f) (flat_map function_uses fs) u in
@@ -209,7 +209,7 @@ module _ (M : Module) (W : RegistrationList) where
   are_chosen [] h = tt
   are_chosen (r ∷ rs) h = (record { heading = h.0.heading; slot_is = h.0.slot_is; parameters = h.0.parameters; body_is = h.0.body_is; alike = h.0.alike }, are_chosen rs h.1)
 
-  sound_classes : (cs : List Class) → s.SoundClasses M cs → s.SoundClasses Over cs
+  sound_classes : (cs : List TypedClass) → s.SoundClasses M cs → s.SoundClasses Over cs
   sound_classes [] h = tt
   sound_classes (c ∷ cs) h = (record { chosen = are_chosen c.chosen h.0.chosen; base = h.0.base; above = h.0.above }, sound_classes cs h.1)
 

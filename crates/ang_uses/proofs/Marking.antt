@@ -2,9 +2,9 @@
 use Rattle.std.proofs.Common.{◌≡◌, ℕ, List, [], ◌∷◌, ◌++◌, refl, sym, ap, ◌∙◌, Option, Some, None}
 use Rattle.std.specs.Prelude.{Bool, true, slice_set}
 use Rattle.std.specs.List.{flat_map}
-use Rattle.ang_typed.specs.declared.program.Class.{Class}
+use Rattle.ang_typed.specs.declared.program.TypedClass.{TypedClass}
 use Rattle.ang_typed.specs.declared.program.Heading.{Heading}
-use Rattle.ang_typed.specs.declared.program.Parameter.{Parameter}
+use Rattle.ang_typed.specs.declared.program.TypedParameter.{TypedParameter}
 use Rattle.ang_types.specs.declared.arg_type.ArgType.{ArgType}
 use Rattle.ang_typed.specs.Typed as t
 use Rattle.ang_uses.specs.Uses.{args_uses, arg_uses, class_uses, expr_uses, function_uses, global_uses, heading_uses, host_uses, local_uses, marked, member_uses, option_uses, parameter_uses, site_uses, stmt_uses, stmts_uses, type_uses, uses, variable_uses}
@@ -91,10 +91,10 @@ mutual
   stmts_marked t.end bs = refl
   stmts_marked (t.then s ss) bs = in_turn (stmt_marks s) (stmts_marks ss) (stmt_uses s) (stmts_uses ss) (stmt_marked s) (stmts_marked ss) bs
 
-parameters_marked : (ps : List Parameter) (bs : List Bool) → each_marks (λ p. marked (parameter_uses p)) ps bs ≡ marked (flat_map parameter_uses ps) bs
+parameters_marked : (ps : List TypedParameter) (bs : List Bool) → each_marks (λ p. marked (parameter_uses p)) ps bs ≡ marked (flat_map parameter_uses ps) bs
 parameters_marked ps bs = each_marked (λ p. marked (parameter_uses p)) parameter_uses (λ p ms. refl) ps bs
 
-function_marked : (f : t.Function) (bs : List Bool) → function_marks f bs ≡ marked (function_uses f) bs
+function_marked : (f : t.TypedFunction) (bs : List Bool) → function_marks f bs ≡ marked (function_uses f) bs
 function_marked f bs =
     in_turn (each_marks (λ p. marked (parameter_uses p)) f.parameters) (λ ms. stmts_marks f.body (marked (type_uses f.result) ms)) (flat_map parameter_uses f.parameters) (type_uses f.result ++ stmts_uses f.body)
     (parameters_marked f.parameters) (in_turn (marked (type_uses f.result)) (stmts_marks f.body) (type_uses f.result) (stmts_uses f.body) (λ ms. refl) (stmts_marked f.body)) bs
@@ -102,7 +102,7 @@ function_marked f bs =
 global_marked : (g : t.Global) (bs : List Bool) → global_marks g bs ≡ marked (global_uses g) bs
 global_marked g bs = in_turn (marked (type_uses g.ty)) (option_marks g.initializer) (type_uses g.ty) (option_uses g.initializer) (λ ms. refl) (option_marked g.initializer) bs
 
-class_marked : (c : Class) (bs : List Bool) → class_marks c bs ≡ marked (class_uses c) bs
+class_marked : (c : TypedClass) (bs : List Bool) → class_marks c bs ≡ marked (class_uses c) bs
 class_marked c bs = each_marked (λ ty. marked (type_uses ty)) type_uses (λ ty ms. refl) c.fields bs
 
 heading_marked : (h : Heading) (bs : List Bool) → heading_marks h bs ≡ marked (heading_uses h) bs

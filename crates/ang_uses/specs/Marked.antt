@@ -1,6 +1,6 @@
 -- Marks on the numbers that a resolved tree uses, as they are set on the way through it (`Uses` has the numbers).
 use Rattle.std.specs.Prelude.{ℕ, Bool, true, List, [], ◌∷◌, slice_set, Option, Some, None}
-use Rattle.ang_typed.specs.declared.program.Class.{Class}
+use Rattle.ang_typed.specs.declared.program.TypedClass.{TypedClass}
 use Rattle.ang_typed.specs.declared.program.Heading.{Heading}
 use Rattle.ang_typed.specs.Typed as t
 use Rattle.ang_uses.specs.Uses.{host_uses, marked, member_uses, parameter_uses, type_uses, variable_uses}
@@ -77,14 +77,14 @@ abbrev mutual
 
 -- ---- modules
 
-abbrev pub function_marks : t.Function → List Bool → List Bool
+abbrev pub function_marks : t.TypedFunction → List Bool → List Bool
 function_marks f ms =
     stmts_marks f.body (marked (type_uses f.result) (each_marks (λ p. marked (parameter_uses p)) f.parameters ms))
 
 abbrev pub global_marks : t.Global → List Bool → List Bool
 global_marks g ms = option_marks g.initializer (marked (type_uses g.ty) ms)
 
-abbrev pub class_marks : Class → List Bool → List Bool
+abbrev pub class_marks : TypedClass → List Bool → List Bool
 class_marks c ms = each_marks (λ ty. marked (type_uses ty)) c.fields ms
 
 abbrev pub heading_marks : Heading → List Bool → List Bool

@@ -6,13 +6,13 @@ use Rattle.std.specs.List.{flat_map}
 use Rattle.ang_types.specs.declared.arg_type.ArgType.{ArgType}
 use Rattle.ang_types.specs.declared.arg_type.ArgType.TheVariants as type
 use Rattle.ang_typed.specs.declared.expression.HostEntity.{HostEntity}
-use Rattle.ang_typed.specs.declared.expression.Member.{Member}
-use Rattle.ang_typed.specs.declared.expression.Member.TheVariants as member
-use Rattle.ang_typed.specs.declared.expression.Variable.{Variable}
-use Rattle.ang_typed.specs.declared.expression.Variable.TheVariants as variable
-use Rattle.ang_typed.specs.declared.program.Class.{Class}
+use Rattle.ang_typed.specs.declared.expression.TypedMember.{TypedMember}
+use Rattle.ang_typed.specs.declared.expression.TypedMember.TheVariants as member
+use Rattle.ang_typed.specs.declared.expression.TypedVariable.{TypedVariable}
+use Rattle.ang_typed.specs.declared.expression.TypedVariable.TheVariants as variable
+use Rattle.ang_typed.specs.declared.program.TypedClass.{TypedClass}
 use Rattle.ang_typed.specs.declared.program.Heading.{Heading}
-use Rattle.ang_typed.specs.declared.program.Parameter.{Parameter}
+use Rattle.ang_typed.specs.declared.program.TypedParameter.{TypedParameter}
 use Rattle.ang_typed.specs.Typed as t
 
 -- ---- types that are named
@@ -25,7 +25,7 @@ type_uses (type.Enumeration n) = n ∷ []
 type_uses (type.Object n c) = n ∷ []
 type_uses (type.Handle n c) = n ∷ []
 
-abbrev pub parameter_uses : Parameter → List ℕ
+abbrev pub parameter_uses : TypedParameter → List ℕ
 parameter_uses p = type_uses p.ty
 
 -- ---- expressions
@@ -33,13 +33,13 @@ parameter_uses p = type_uses p.ty
 abbrev pub host_uses : HostEntity → List ℕ
 host_uses h = h.entity.0 ∷ []
 
-abbrev pub variable_uses : Variable → List ℕ
+abbrev pub variable_uses : TypedVariable → List ℕ
 variable_uses (variable.Local i) = []
 variable_uses (variable.Global g) = []
 variable_uses (variable.Property h) = host_uses h
 variable_uses (variable.Field i) = []
 
-abbrev pub member_uses : Member → List ℕ
+abbrev pub member_uses : TypedMember → List ℕ
 member_uses (member.Field i) = []
 member_uses (member.Property h) = host_uses h
 
@@ -108,13 +108,13 @@ abbrev mutual
 
 -- ---- modules
 
-abbrev pub function_uses : t.Function → List ℕ
+abbrev pub function_uses : t.TypedFunction → List ℕ
 function_uses f = flat_map parameter_uses f.parameters ++ (type_uses f.result ++ stmts_uses f.body)
 
 abbrev pub global_uses : t.Global → List ℕ
 global_uses g = type_uses g.ty ++ option_uses g.initializer
 
-abbrev pub class_uses : Class → List ℕ
+abbrev pub class_uses : TypedClass → List ℕ
 class_uses c = flat_map type_uses c.fields
 
 abbrev pub heading_uses : Heading → List ℕ

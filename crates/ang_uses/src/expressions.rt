@@ -4,40 +4,40 @@ ghost use Rattle.ang_typed.specs.View.{view_expr, view_arg, view_args, view_opti
 ghost use Rattle.ang_uses.specs.Marked as spec;
 
 use crate::marks::{mark, mark_host, mark_member, mark_variable};
-use ang_typed::{Argument, Expression, Site};
+use ang_typed::{TypedArgument, TypedExpression, TypedSite};
 
 /// Marks what an expression uses.
 #[cycle(expression)]
-pub(crate) fn mark_expression(marks: &mut Vec<bool>, e: &Expression)
+pub(crate) fn mark_expression(marks: &mut Vec<bool>, e: &TypedExpression)
     ensures exact { marks.new.items
         ≡ spec.expr_marks (view_expr e.now) marks.old.items }
 {
     match e {
-        Expression::Number { .. } => {}
-        Expression::Truth(_) => {}
-        Expression::Read { site, .. } => mark_site(marks, site),
-        Expression::Null => {}
-        Expression::Convert { operand, .. } => mark_expression(marks, operand),
-        Expression::Negate { operand, .. } => mark_expression(marks, operand),
-        Expression::Complement { operand, .. } => mark_expression(marks, operand),
-        Expression::Not { operand } => mark_expression(marks, operand),
-        Expression::Operate { left, right, .. } => {
+        TypedExpression::Number { .. } => {}
+        TypedExpression::Truth(_) => {}
+        TypedExpression::Read { site, .. } => mark_site(marks, site),
+        TypedExpression::Null => {}
+        TypedExpression::Convert { operand, .. } => mark_expression(marks, operand),
+        TypedExpression::Negate { operand, .. } => mark_expression(marks, operand),
+        TypedExpression::Complement { operand, .. } => mark_expression(marks, operand),
+        TypedExpression::Not { operand } => mark_expression(marks, operand),
+        TypedExpression::Operate { left, right, .. } => {
             mark_expression(marks, left);
             mark_expression(marks, right);
         }
-        Expression::Compare { left, right, .. } => {
+        TypedExpression::Compare { left, right, .. } => {
             mark_expression(marks, left);
             mark_expression(marks, right);
         }
-        Expression::And { left, right } => {
+        TypedExpression::And { left, right } => {
             mark_expression(marks, left);
             mark_expression(marks, right);
         }
-        Expression::Or { left, right } => {
+        TypedExpression::Or { left, right } => {
             mark_expression(marks, left);
             mark_expression(marks, right);
         }
-        Expression::Choose {
+        TypedExpression::Choose {
             condition,
             then,
             otherwise,
@@ -46,27 +46,27 @@ pub(crate) fn mark_expression(marks: &mut Vec<bool>, e: &Expression)
             mark_expression(marks, then);
             mark_expression(marks, otherwise);
         }
-        Expression::Same { left, right } => {
+        TypedExpression::Same { left, right } => {
             mark_expression(marks, left);
             mark_expression(marks, right);
         }
-        Expression::Cast { operand, .. } => mark_expression(marks, operand),
-        Expression::Naming { entity, operand } => {
+        TypedExpression::Cast { operand, .. } => mark_expression(marks, operand),
+        TypedExpression::Naming { entity, operand } => {
             mark(marks, entity.0);
             mark_expression(marks, operand);
         }
-        Expression::Make { arguments, .. } => mark_arguments(marks, arguments.as_slice()),
-        Expression::Assign { site, value, .. } => {
+        TypedExpression::Make { arguments, .. } => mark_arguments(marks, arguments.as_slice()),
+        TypedExpression::Assign { site, value, .. } => {
             mark_site(marks, site);
             mark_expression(marks, value);
         }
-        Expression::Compound { site, value, .. } => {
+        TypedExpression::Compound { site, value, .. } => {
             mark_site(marks, site);
             mark_expression(marks, value);
         }
-        Expression::Step { site, .. } => mark_site(marks, site),
-        Expression::Call { arguments, .. } => mark_arguments(marks, arguments.as_slice()),
-        Expression::HostCall {
+        TypedExpression::Step { site, .. } => mark_site(marks, site),
+        TypedExpression::Call { arguments, .. } => mark_arguments(marks, arguments.as_slice()),
+        TypedExpression::HostCall {
             host, arguments, ..
         } => {
             mark_host(marks, host);
@@ -77,13 +77,13 @@ pub(crate) fn mark_expression(marks: &mut Vec<bool>, e: &Expression)
 
 /// Marks what a site uses.
 #[cycle(expression)]
-fn mark_site(marks: &mut Vec<bool>, site: &Site)
+fn mark_site(marks: &mut Vec<bool>, site: &TypedSite)
     ensures exact { marks.new.items
         ≡ spec.site_marks (view_site site.now) marks.old.items }
 {
     match site {
-        Site::Named(variable) => mark_variable(marks, variable),
-        Site::Of { object, member } => {
+        TypedSite::Named(variable) => mark_variable(marks, variable),
+        TypedSite::Of { object, member } => {
             mark_expression(marks, object);
             mark_member(marks, member);
         }
@@ -92,7 +92,7 @@ fn mark_site(marks: &mut Vec<bool>, site: &Site)
 
 /// Marks what arguments use.
 #[cycle(expression)]
-fn mark_arguments(marks: &mut Vec<bool>, arguments: &[Argument])
+fn mark_arguments(marks: &mut Vec<bool>, arguments: &[TypedArgument])
     ensures exact { marks.new.items
         ≡ spec.args_marks (view_args arguments.now) marks.old.items }
 {
@@ -103,18 +103,18 @@ fn mark_arguments(marks: &mut Vec<bool>, arguments: &[Argument])
 
 /// Marks what an argument uses.
 #[cycle(expression)]
-fn mark_argument(marks: &mut Vec<bool>, argument: &Argument)
+fn mark_argument(marks: &mut Vec<bool>, argument: &TypedArgument)
     ensures exact { marks.new.items
         ≡ spec.arg_marks (view_arg argument.now) marks.old.items }
 {
     match argument {
-        Argument::Value { value, .. } => mark_expression(marks, value),
-        Argument::Out { variable, .. } => mark_variable(marks, variable),
+        TypedArgument::Value { value, .. } => mark_expression(marks, value),
+        TypedArgument::Out { variable, .. } => mark_variable(marks, variable),
     }
 }
 
 /// Marks what an expression uses, where there is one.
-pub(crate) fn mark_option(marks: &mut Vec<bool>, e: &Option<Box<Expression>>)
+pub(crate) fn mark_option(marks: &mut Vec<bool>, e: &Option<Box<TypedExpression>>)
     ensures exact { marks.new.items
         ≡ spec.option_marks (view_option e.now) marks.old.items }
 {
@@ -125,7 +125,7 @@ pub(crate) fn mark_option(marks: &mut Vec<bool>, e: &Option<Box<Expression>>)
 }
 
 /// Marks what expressions use.
-pub(crate) fn mark_each(marks: &mut Vec<bool>, items: &[Expression])
+pub(crate) fn mark_each(marks: &mut Vec<bool>, items: &[TypedExpression])
     ensures exact { marks.new.items
         ≡ spec.each_marks spec.expr_marks (list_map view_expr items.now) marks.old.items }
 {

@@ -2,7 +2,7 @@
 ghost use Rattle.std.specs.Prelude.{◌≡◌, ◌∷◌, []};
 ghost use Rattle.ang_uses.specs.Uses as spec;
 
-use ang_typed::{HostEntity, Member, Variable};
+use ang_typed::{HostEntity, TypedMember, TypedVariable};
 use ang_types::ArgType;
 
 /// Marks a number, where it is within the marks.
@@ -35,24 +35,24 @@ pub(crate) fn mark_host(marks: &mut Vec<bool>, host: &HostEntity)
 }
 
 /// Marks what a variable is of the host, where it is a property.
-pub(crate) fn mark_variable(marks: &mut Vec<bool>, variable: &Variable)
+pub(crate) fn mark_variable(marks: &mut Vec<bool>, variable: &TypedVariable)
     ensures exact { marks.new.items
         ≡ spec.marked (spec.variable_uses variable.now) marks.old.items }
 {
     match variable {
-        Variable::Local(_) => {}
-        Variable::Global(_) => {}
-        Variable::Property(host) => mark_host(marks, host),
-        Variable::Field(_) => {}
+        TypedVariable::Local(_) => {}
+        TypedVariable::Global(_) => {}
+        TypedVariable::Property(host) => mark_host(marks, host),
+        TypedVariable::Field(_) => {}
     }
 }
 
 /// Marks what a member is of the host, where it is a property.
-pub(crate) fn mark_member(marks: &mut Vec<bool>, member: &Member)
+pub(crate) fn mark_member(marks: &mut Vec<bool>, member: &TypedMember)
     ensures exact { marks.new.items ≡ spec.marked (spec.member_uses member.now) marks.old.items }
 {
     match member {
-        Member::Field(_) => {}
-        Member::Property(host) => mark_host(marks, host),
+        TypedMember::Field(_) => {}
+        TypedMember::Property(host) => mark_host(marks, host),
     }
 }

@@ -7,7 +7,7 @@ ghost use Rattle.ang_uses.specs.Marked as spec;
 use crate::expressions::mark_option;
 use crate::marks::mark_type;
 use crate::statements::mark_block;
-use ang_typed::{Class, Function, Global, Heading, Parameter, Typed};
+use ang_typed::{TypedClass, TypedFunction, Global, Heading, TypedParameter, Typed};
 use ang_types::ArgType;
 
 /// Marks what types use.
@@ -21,7 +21,7 @@ fn mark_types(marks: &mut Vec<bool>, types: &[ArgType])
 }
 
 /// Marks what parameters use.
-fn mark_parameters(marks: &mut Vec<bool>, parameters: &[Parameter])
+fn mark_parameters(marks: &mut Vec<bool>, parameters: &[TypedParameter])
     ensures exact { marks.new.items
         ≡ spec.each_marks (λ p. marked (parameter_uses p)) parameters.now marks.old.items }
 {
@@ -31,7 +31,7 @@ fn mark_parameters(marks: &mut Vec<bool>, parameters: &[Parameter])
 }
 
 /// Marks what a function uses.
-fn mark_function(marks: &mut Vec<bool>, function: &Function)
+fn mark_function(marks: &mut Vec<bool>, function: &TypedFunction)
     ensures exact { marks.new.items
         ≡ spec.function_marks (view_function function.now) marks.old.items }
 {
@@ -41,7 +41,7 @@ fn mark_function(marks: &mut Vec<bool>, function: &Function)
 }
 
 /// Marks what functions use.
-fn mark_functions(marks: &mut Vec<bool>, functions: &[Function])
+fn mark_functions(marks: &mut Vec<bool>, functions: &[TypedFunction])
     ensures exact { marks.new.items ≡ spec.each_marks spec.function_marks
         (list_map view_function functions.now) marks.old.items }
 {
@@ -70,7 +70,7 @@ fn mark_globals(marks: &mut Vec<bool>, globals: &[Global])
 }
 
 /// Marks what classes use.
-fn mark_classes(marks: &mut Vec<bool>, classes: &[Class])
+fn mark_classes(marks: &mut Vec<bool>, classes: &[TypedClass])
     ensures exact { marks.new.items
         ≡ spec.each_marks spec.class_marks classes.now marks.old.items }
 {

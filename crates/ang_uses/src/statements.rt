@@ -5,7 +5,7 @@ ghost use Rattle.ang_uses.specs.Marked as spec;
 
 use crate::expressions::{mark_each, mark_expression, mark_option};
 use crate::marks::mark_type;
-use ang_typed::{Block, Choice, For, Local, Loop, Statement};
+use ang_typed::{TypedBlock, TypedChoice, TypedFor, Local, TypedLoop, TypedStatement};
 
 /// Marks what locals use.
 fn mark_locals(marks: &mut Vec<bool>, locals: &[Local])
@@ -28,27 +28,27 @@ fn mark_local(marks: &mut Vec<bool>, local: &Local)
 
 /// Marks what a statement uses.
 #[cycle(statement)]
-fn mark_statement(marks: &mut Vec<bool>, statement: &Statement)
+fn mark_statement(marks: &mut Vec<bool>, statement: &TypedStatement)
     ensures exact { marks.new.items
         ≡ spec.stmt_marks (view_stmt statement.now) marks.old.items }
 {
     match statement {
-        Statement::Block(block) => mark_block(marks, block),
-        Statement::Locals(locals) => mark_locals(marks, locals.as_slice()),
-        Statement::Expression(e) => mark_option(marks, e),
-        Statement::Break => {}
-        Statement::Continue => {}
-        Statement::Return(e) => mark_option(marks, e),
-        Statement::If(choice) => mark_choice(marks, choice),
-        Statement::While(written) => mark_while(marks, written),
-        Statement::DoWhile(written) => mark_do(marks, written),
-        Statement::For(written) => mark_for(marks, written),
+        TypedStatement::Block(block) => mark_block(marks, block),
+        TypedStatement::Locals(locals) => mark_locals(marks, locals.as_slice()),
+        TypedStatement::Expression(e) => mark_option(marks, e),
+        TypedStatement::Break => {}
+        TypedStatement::Continue => {}
+        TypedStatement::Return(e) => mark_option(marks, e),
+        TypedStatement::If(choice) => mark_choice(marks, choice),
+        TypedStatement::While(written) => mark_while(marks, written),
+        TypedStatement::DoWhile(written) => mark_do(marks, written),
+        TypedStatement::For(written) => mark_for(marks, written),
     }
 }
 
 /// Marks what a choice uses.
 #[cycle(statement)]
-fn mark_choice(marks: &mut Vec<bool>, choice: &Choice)
+fn mark_choice(marks: &mut Vec<bool>, choice: &TypedChoice)
     ensures exact { marks.new.items
         ≡ spec.stmt_marks (view_choice choice.now) marks.old.items }
 {
@@ -59,7 +59,7 @@ fn mark_choice(marks: &mut Vec<bool>, choice: &Choice)
 
 /// Marks what a `while` uses.
 #[cycle(statement)]
-fn mark_while(marks: &mut Vec<bool>, written: &Loop)
+fn mark_while(marks: &mut Vec<bool>, written: &TypedLoop)
     ensures exact { marks.new.items ≡ spec.stmts_marks (view_loop written.now).1
         (spec.expr_marks (view_loop written.now).0 marks.old.items) }
 {
@@ -69,7 +69,7 @@ fn mark_while(marks: &mut Vec<bool>, written: &Loop)
 
 /// Marks what a `do` uses.
 #[cycle(statement)]
-fn mark_do(marks: &mut Vec<bool>, written: &Loop)
+fn mark_do(marks: &mut Vec<bool>, written: &TypedLoop)
     ensures exact { marks.new.items ≡ spec.stmts_marks (view_loop written.now).1
         (spec.expr_marks (view_loop written.now).0 marks.old.items) }
 {
@@ -79,7 +79,7 @@ fn mark_do(marks: &mut Vec<bool>, written: &Loop)
 
 /// Marks what a `for` uses.
 #[cycle(statement)]
-fn mark_for(marks: &mut Vec<bool>, written: &For)
+fn mark_for(marks: &mut Vec<bool>, written: &TypedFor)
     ensures exact { marks.new.items
         ≡ spec.stmt_marks (view_for written.now) marks.old.items }
 {
@@ -91,7 +91,7 @@ fn mark_for(marks: &mut Vec<bool>, written: &For)
 
 /// Marks what a block uses.
 #[cycle(statement)]
-pub(crate) fn mark_block(marks: &mut Vec<bool>, block: &Block)
+pub(crate) fn mark_block(marks: &mut Vec<bool>, block: &TypedBlock)
     ensures exact { marks.new.items
         ≡ spec.stmts_marks (view_block block.now) marks.old.items }
 {
@@ -100,7 +100,7 @@ pub(crate) fn mark_block(marks: &mut Vec<bool>, block: &Block)
 
 /// Marks what statements in turn use.
 #[cycle(statement)]
-fn mark_all(marks: &mut Vec<bool>, statements: &[Statement])
+fn mark_all(marks: &mut Vec<bool>, statements: &[TypedStatement])
     ensures exact { marks.new.items
         ≡ spec.stmts_marks (view_stmts statements.now) marks.old.items }
 {
