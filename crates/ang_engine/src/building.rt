@@ -198,6 +198,7 @@ fn start(
     alloc: Global,
     code: &mut Modules,
     machine: &mut Machine,
+    failed: &mut Option<LoadedModule>,
     events: &mut Vec<HostEvent>,
     home: u32,
     loaded: LoadedModule,
@@ -237,7 +238,7 @@ fn start(
         Ok(()) => Ok(()),
         Err(fault) => {
             end_globals(alloc, machine, events, home as usize);
-            code.unload(alloc, home);
+            *failed = code.take(alloc, home);
             Err(BuildRefused::Initializer(fault))
         }
     }
@@ -276,6 +277,7 @@ fn build_module(
     registry: &Registry,
     list: &mut ModuleList,
     machine: &mut Machine,
+    failed: &mut Option<LoadedModule>,
     events: &mut Vec<HostEvent>,
     home: u32,
     budget: u64,
@@ -306,7 +308,7 @@ fn build_module(
     end_globals(alloc, machine, events, home as usize);
     list.code.unload(alloc, home);
     match compile_place(alloc, registry, &mut list.places[home as usize]) {
-        Ok(loaded) => start(alloc, &mut list.code, machine, events, home, loaded, budget),
+        Ok(loaded) => start(alloc, &mut list.code, machine, failed, events, home, loaded, budget),
         Err(why) => Err(refused_by(why)),
     }
 }
@@ -318,6 +320,7 @@ pub fn build(
     registry: &Registry,
     list: &mut ModuleList,
     machine: &mut Machine,
+    failed: &mut Option<LoadedModule>,
     events: &mut Vec<HostEvent>,
     name: &[u8],
     budget: u64,
@@ -348,5 +351,5 @@ pub fn build(
     if !may_run(budget) {
         return Err(BuildRefused::Before(Refusal::BadBudget));
     }
-    build_module(alloc, registry, list, machine, events, home, budget)
+    build_module(alloc, registry, list, machine, failed, events, home, budget)
 }

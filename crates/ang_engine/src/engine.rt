@@ -22,7 +22,8 @@ use crate::calling::{choose, run_chosen};
 use crate::ending::{end_all, end_globals};
 use crate::refused::{NewError, NewRefused};
 use crate::replies::{answer, build_reply, call_reply, discard_reply, ended};
-use ang_engine_modules::Modules;
+use crate::trace::{Traced, traced_body};
+use ang_engine_modules::{LoadedModule, Modules};
 use ang_engine_world::{
     Command, MOST_MODULES, ModuleList, Outcome, Refusal, Reply, add_module, add_section, find,
     remove_module, set_mask, unbind,
@@ -45,6 +46,7 @@ pub struct Engine {
     registry: Registry,
     machine: Machine,
     modules: ModuleList,
+    failed: Option<LoadedModule>,
 }
 
 /// Whether entries of this kind are a driver's: an enumeration and a value of one are no driver's.
@@ -96,6 +98,7 @@ fn machine_of(alloc: Global, drivers: Drivers) -> Machine
             ends,
             live: 0,
         },
+        frames: Vec::new(alloc),
     }
 }
 
@@ -151,6 +154,7 @@ impl Engine {
                     code: Modules::new(alloc),
                     order,
                 },
+                failed: None,
             }),
             Err(_) => Err(NewRefused {
                 why: NewError::Memory,
@@ -186,6 +190,8 @@ impl Engine {
         ensures sound { IsSound ⟦<dyn Driver as Driver>⟧ self.new }
         ensures registrations { registrations self.new ≡ registrations self.old }
     {
+        self.machine.frames.clear();
+        self.failed = None;
         match command {
             Command::NewModule { name, mask } => self.new_module(name, mask),
             Command::SetMask { name, mask } => self.set_mask(name, mask),
@@ -258,6 +264,7 @@ impl Engine {
             &self.registry,
             &mut self.modules,
             &mut self.machine,
+            &mut self.failed,
             &mut events,
             name.as_slice(),
             budget,
@@ -404,6 +411,24 @@ impl Engine {
         discard_reply(self.alloc, done, events)
     }
 
+    /// Of a command that ended with a fault: where it stood, the place of the fault at 0, and then its callers.
+    pub fn traced(&self, depth: usize) -> Option<Traced<'_>>
+    {
+        let frames = self.machine.frames.as_slice();
+        if depth >= frames.len() {
+            return None;
+        }
+        let frame = frames[frames.len() - 1 - depth];
+        let loaded = match self.modules.code.loaded(frame.of.home) {
+            Some(loaded) => loaded,
+            None => match &self.failed {
+                Some(loaded) => loaded,
+                None => return None,
+            },
+        };
+        Some(traced_body(loaded, frame.of.number, frame.at))
+    }
+
     /// Ends the engine, and gives its drivers back in their order, with no object of theirs alive:
     /// another engine can have them. The globals of its modules are given up, those of the module
     /// last made first; no reply lists the objects that end so. It takes no memory, makes no host call,
@@ -421,13 +446,14 @@ impl Engine {
             registry: _,
             machine,
             modules,
+            failed: _,
         } = self;
         let ModuleList {
             places: _,
             code: _,
             order,
         } = modules;
-        let Machine { store } = machine;
+        let Machine { store, frames: _ } = machine;
         let Store {
             mut heap,
             mut globals,

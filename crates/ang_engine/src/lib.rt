@@ -10,6 +10,7 @@ mod engine;
 pub mod laws;
 mod refused;
 mod replies;
+mod trace;
 
 pub use ang_engine_world::{Command, Outcome, Refusal, Reply};
 pub use ang_host::{HostEvent, HostReply};
@@ -17,3 +18,4 @@ pub use ang_kinds::{Denial, Error, ErrorKind};
 pub use ang_registry::Registry;
 pub use engine::Engine;
 pub use refused::{NewError, NewRefused};
+pub use trace::Traced;

@@ -29,6 +29,7 @@ use ang_view::View;
 use ang_vm::{Machine, Table, run};
 use ang_vm_stack::table::ModuleCode;
 use std::alloc::{AllocError, Global};
+use std::mem;
 use std::marker::Model;
 
 /// What a built module is loaded with.
@@ -173,6 +174,18 @@ impl Modules {
         put_loaded(&mut self.loaded, home, None);
         unbind_codes(home, &mut self.table.modules);
         unbind_places(alloc, home, &mut self.loaded);
+    }
+
+    /// Takes a module out of its place as `unload` does, and gives what it was loaded with.
+    pub fn take(&mut self, alloc: Global, home: u32) -> Option<LoadedModule>
+    {
+        let place = home as usize;
+        let mut taken = None;
+        if place < self.loaded.len() {
+            taken = mem::replace(&mut self.loaded[place], None);
+        }
+        self.unload(alloc, home);
+        taken
     }
 
     /// Binds an import of a module to a function of another one, or of the same. An earlier binding

@@ -152,6 +152,16 @@ fn finish(stack: &Vec<Slot>, store: &mut Store, parted: Parted, ticks: u64) -> E
     Ending::Gives(parted.value, ticks)
 }
 
+/// Where the run stands is kept above its callers, as a caller is: the instruction after the one that it stands at. Where there is no memory for it, nothing is kept.
+#[inline(never)]
+pub fn note(frames: &mut Vec<Frame>, standing: Standing, at: usize)
+{
+    let frame = Frame { of: standing.body, at: at.saturating_add(1), room: standing.room };
+    if frames.push(frame).is_err() {
+        frames.clear();
+    }
+}
+
 /// Goes on until the run is over; `nesting` functions may stand one inside the other.
 ///
 /// The body is named by its parts here and in `resume`: a copy of the whole takes the bytes between them along at each call.
@@ -186,7 +196,10 @@ pub fn run_from(
                 let left = Standing { place, ..here };
                 let (next, its) = match enter(table, nesting, stack, frames, store, left, callee) {
                     Ok(both) => both,
-                    Err(stop) => return give_up(stack, store, place.top, stop),
+                    Err(stop) => {
+                        note(frames, here, place.at);
+                        return give_up(stack, store, place.top, stop);
+                    }
                 };
                 here = next;
                 code = its;
@@ -207,7 +220,10 @@ pub fn run_from(
                 here = next;
                 code = its;
             }
-            Crossing::Faults(fault) => return fail(stack, store, place.top, fault),
+            Crossing::Faults(fault) => {
+                note(frames, here, place.at);
+                return fail(stack, store, place.top, fault);
+            }
             Crossing::Lost => return Ending::Lost,
         }
     }

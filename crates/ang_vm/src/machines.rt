@@ -20,6 +20,7 @@ use crate::answers::answer;
 use crate::bodies::run_from;
 use crate::lookups::result_type;
 use crate::start::{start_call, start_initializer};
+use ang_code::Frame;
 use ang_heap::{Store, give};
 use ang_host::{Driver, HostEvent};
 use ang_kinds::{Fault, Value};
@@ -46,6 +47,9 @@ pub struct Machine {
     /// What a run borrows. Between runs nothing is read of its `events`: those of a command are put in their
     /// place.
     pub store: Store,
+    /// The callers of the running body, the outermost first. After a run that ended with a fault the place of the
+    /// fault stands above them; after any other run nothing is said of it.
+    pub frames: Vec<Frame>,
 }
 
 /// The fault of a call for whose arguments there is no memory.
@@ -80,6 +84,7 @@ fn run_call(
     alloc: Global,
     table: &Table,
     store: &mut Store,
+    frames: &mut Vec<Frame>,
     entry: Routine,
     args: &[Slot],
     budget: u64,
@@ -90,18 +95,18 @@ fn run_call(
         result (world_of ⟦<dyn Driver as Driver>⟧ store.new) }
     ensures moves { RunMoves ⟦<dyn Driver as Driver>⟧ table.now store.old store.new }
 {
+    frames.clear();
     let Ok(mut stack) = Vec::from_slice(alloc, args) else {
         return refuse(store, args, budget);
     };
-    let mut frames = Vec::new(alloc);
-    match start_call(table, &mut stack, &mut frames, store, entry, budget) {
-        Ok(first) => run_from(table, CALLS, &mut stack, &mut frames, store, first),
+    match start_call(table, &mut stack, frames, store, entry, budget) {
+        Ok(first) => run_from(table, CALLS, &mut stack, frames, store, first),
         Err(ending) => ending,
     }
 }
 
 /// An initializer, from its beginning to its end.
-fn initialize(alloc: Global, table: &Table, store: &mut Store, entry: Routine, ticks: u64) -> Ending
+fn initialize(alloc: Global, table: &Table, store: &mut Store, frames: &mut Vec<Frame>, entry: Routine, ticks: u64) -> Ending
     requires may_run { MayRun ⟦<dyn Driver as Driver>⟧ table.now [] store.old }
     ensures ends { Ends (setting_of table.now 201) (texts_of table.now)
         (initializer_in ⟦<dyn Driver as Driver>⟧ table.now ticks entry store.old) result
@@ -109,13 +114,12 @@ fn initialize(alloc: Global, table: &Table, store: &mut Store, entry: Routine, t
     ensures moves { RunMoves ⟦<dyn Driver as Driver>⟧ table.now store.old store.new }
 {
     let mut stack = Vec::new(alloc);
-    let mut frames = Vec::new(alloc);
-    match start_initializer(table, &mut stack, &mut frames, store, entry, ticks) {
+    match start_initializer(table, &mut stack, frames, store, entry, ticks) {
         Ok(first) => run_from(
             table,
             WITH_INITIALIZER,
             &mut stack,
-            &mut frames,
+            frames,
             store,
             first,
         ),
@@ -152,6 +156,7 @@ fn call_told(
     alloc: Global,
     table: &Table,
     store: &mut Store,
+    frames: &mut Vec<Frame>,
     entry: Routine,
     args: &[Slot],
     budget: u64,
@@ -165,7 +170,7 @@ fn call_told(
         (call_in ⟦<dyn Driver as Driver>⟧ table.now budget entry (reverse args.now) store.old)
         → ⊥) → IsCounted [] (world_of ⟦<dyn Driver as Driver>⟧ store.new) }
 {
-    let ending = run_call(alloc, table, store, entry, args, budget);
+    let ending = run_call(alloc, table, store, frames, entry, args, budget);
     match settle(store, ending) {
         Ok((value, _)) => Ok(value),
         Err(fault) => Err(fault),
@@ -180,6 +185,7 @@ fn initializer_told(
     alloc: Global,
     table: &Table,
     store: &mut Store,
+    frames: &mut Vec<Frame>,
     entry: Routine,
     ticks: u64,
 ) -> Result<u64, Fault>
@@ -192,7 +198,7 @@ fn initializer_told(
         (initializer_in ⟦<dyn Driver as Driver>⟧ table.now ticks entry store.old) → ⊥)
         → IsCounted [] (world_of ⟦<dyn Driver as Driver>⟧ store.new) }
 {
-    let ending = initialize(alloc, table, store, entry, ticks);
+    let ending = initialize(alloc, table, store, frames, entry, ticks);
     match settle(store, ending) {
         Ok((_, left)) => Ok(left),
         Err(fault) => Err(fault),
@@ -255,7 +261,7 @@ pub fn run(
 {
     let alloc = *events.allocator();
     lend(machine, events);
-    let ended = call_told(alloc, table, &mut machine.store, entry, args, budget);
+    let ended = call_told(alloc, table, &mut machine.store, &mut machine.frames, entry, args, budget);
     take_back(machine, events);
     answer(result_type(table, entry), ended)
 }
@@ -292,7 +298,7 @@ pub fn run_initializer(
 {
     let alloc = *events.allocator();
     lend(machine, events);
-    let ended = initializer_told(alloc, table, &mut machine.store, entry, ticks);
+    let ended = initializer_told(alloc, table, &mut machine.store, &mut machine.frames, entry, ticks);
     take_back(machine, events);
     ended
 }

@@ -20,7 +20,7 @@ use crate::writing::write_text;
 use ang_engine::{Command, Engine, Outcome, Reply};
 use ang_host::Driver;
 use asrun_lines::{LineError, first_line, is_skipped, shown};
-use asrun_text::push_reply;
+use asrun_text::{push_number, push_reply, push_text};
 use std::alloc::Global;
 use std::io::Write;
 
@@ -48,6 +48,35 @@ pub fn print_bad_line<W: Write>(alloc: Global, writer: &mut W, number: u64) -> R
 {
     let mut text = Vec::new(alloc);
     push_bad_line(&mut text, number)?;
+    write_text(writer, &text)?;
+    Ok(())
+}
+
+/// `at MODULE [CLASS::]NAME SECTION:LINE:COLUMN` or `at MODULE global NAME ..`, the place of the fault first.
+fn print_trace<W: Write>(alloc: Global, writer: &mut W, engine: &Engine) -> Result<(), Stop>
+{
+    let mut text = Vec::new(alloc);
+    for depth in 0..256 {
+        if let Some(frame) = engine.traced(depth) {
+            push_text(&mut text, "at ")?;
+            text.extend_from_slice(frame.module)?;
+            push_text(&mut text, if frame.is_global { " global " } else { " " })?;
+            if frame.class.len() > 0 {
+                text.extend_from_slice(frame.class)?;
+                push_text(&mut text, "::")?;
+            }
+            text.extend_from_slice(frame.name)?;
+            push_text(&mut text, " ")?;
+            push_number(&mut text, frame.place.sect as u64)?;
+            push_text(&mut text, ":")?;
+            push_number(&mut text, frame.place.line as u64)?;
+            push_text(&mut text, ":")?;
+            push_number(&mut text, frame.place.column as u64)?;
+            push_text(&mut text, " +")?;
+            push_number(&mut text, frame.at as u64)?;
+            push_text(&mut text, "\n")?;
+        }
+    }
     write_text(writer, &text)?;
     Ok(())
 }
@@ -80,6 +109,7 @@ fn run_command<W: Write>(
 {
     let reply = engine.apply(command);
     print_reply(alloc, writer, &reply)?;
+    print_trace(alloc, writer, engine)?;
     Ok(is_done(reply.outcome))
 }
 
