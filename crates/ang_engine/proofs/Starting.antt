@@ -27,14 +27,14 @@ use Rattle.ang_engine_modules.specs.Modules.{Module as RunModule, unbuilt, modul
 use Rattle.ang_source.specs.Meaning.{kind_of}
 use Rattle.ang_engine_modules.specs.Executed.{first_globals, initialization_of}
 use Rattle.ang_engine_modules.specs.Ends.{Ends}
-use Rattle.ang_engine_world.specs.declared.module.Module.{Module}
-use Rattle.ang_engine_world.specs.declared.module.ModuleList.{ModuleList}
-use Rattle.ang_engine_world.specs.World.{Program, globals_ended}
-use Rattle.ang_engine_world.specs.Sound.{HasSameName, HaveGlobals}
+use Rattle.ang_engine_modules.specs.declared.module.Module.{Module}
+use Rattle.ang_engine_modules.specs.declared.module.ModuleList.{ModuleList}
+use Rattle.ang_engine_modules.specs.World.{Program, globals_ended}
+use Rattle.ang_engine_modules.specs.Sound.{HasSameName, HaveGlobals}
 use Rattle.ang_engine.specs.Step.{globals_begun}
 use Rattle.ang_engine.specs.Asked.{HasRunOn}
-use Rattle.ang_engine_world.specs.States.{program_in}
-use Rattle.ang_engine_world.proofs.Lists.{map_at, map_length, map_set, set_at, set_length, set_set}
+use Rattle.ang_engine_modules.specs.States.{program_in}
+use Rattle.ang_engine_modules.proofs.PlaceLists.{map_at, map_length, map_set, set_at, set_length, set_set}
 use Rattle.ang_engine.proofs.GlobalsEnd.{globals_ends, ends_listed, ended_globals, begun_counted}
 
 -- ---- first values

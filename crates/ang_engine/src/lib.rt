@@ -12,7 +12,7 @@ mod refused;
 mod replies;
 mod trace;
 
-pub use ang_engine_world::{Command, Outcome, Refusal, Reply};
+pub use ang_engine_modules::{Command, Outcome, Refusal, Reply};
 pub use ang_host::{HostEvent, HostReply};
 pub use ang_kinds::{Denial, Error, ErrorKind};
 pub use ang_registry::Registry;

@@ -21,8 +21,12 @@ pub struct Traced<'a> {
     pub at: usize,
 }
 
-fn in_family<'a>(module: &'a [u8], family: &'a Family, number: usize, at: usize) -> Option<Traced<'a>>
-{
+fn in_family<'a>(
+    module: &'a [u8],
+    family: &'a Family,
+    number: usize,
+    at: usize,
+) -> Option<Traced<'a>> {
     for method in family.methods.as_slice() {
         if let Some(body) = method.body {
             if body == number {
@@ -53,8 +57,7 @@ fn in_family<'a>(module: &'a [u8], family: &'a Family, number: usize, at: usize)
 }
 
 /// What the body of a number of a module is declared as.
-pub fn traced_body<'a>(loaded: &'a LoadedModule, number: usize, at: usize) -> Traced<'a>
-{
+pub fn traced_body<'a>(loaded: &'a LoadedModule, number: usize, at: usize) -> Traced<'a> {
     let module = loaded.name.as_slice();
     let functions = loaded.names.functions();
     if number < functions.len() {
@@ -91,7 +94,11 @@ pub fn traced_body<'a>(loaded: &'a LoadedModule, number: usize, at: usize) -> Tr
         class: &[],
         name: &[],
         is_global: false,
-        place: Place { sect: 0, line: 0, column: 0 },
+        place: Place {
+            sect: 0,
+            line: 0,
+            column: 0,
+        },
         at,
     }
 }

@@ -29,8 +29,8 @@ use ang_view::View;
 use ang_vm::{Machine, Table, run};
 use ang_vm_stack::table::ModuleCode;
 use std::alloc::{AllocError, Global};
-use std::mem;
 use std::marker::Model;
+use std::mem;
 
 /// What a built module is loaded with.
 #[derive(Drop)]
@@ -177,8 +177,7 @@ impl Modules {
     }
 
     /// Takes a module out of its place as `unload` does, and gives what it was loaded with.
-    pub fn take(&mut self, alloc: Global, home: u32) -> Option<LoadedModule>
-    {
+    pub fn take(&mut self, alloc: Global, home: u32) -> Option<LoadedModule> {
         let place = home as usize;
         let mut taken = None;
         if place < self.loaded.len() {

@@ -11,21 +11,21 @@ ghost use Rattle.ang_heap.specs.Stores.{world_of, IsReady, StoreTold, HasMoved};
 ghost use Rattle.ang_vm_stack.specs.Stacks.{values};
 ghost use Rattle.ang_vm_stack.specs.Tables.{body_of};
 ghost use Rattle.ang_vm.specs.Legs.{Fits, begun, handed, outcome, resumed, standing};
-ghost use Rattle.ang_vm_body.specs.Crossings.{Comes};
-ghost use Rattle.ang_vm_body.specs.Running.{MayRun, RunMoves};
+ghost use Rattle.ang_vm.specs.Crossings.{Comes};
+ghost use Rattle.ang_vm.specs.BodyRunning.{MayRun, RunMoves};
 ghost use Rattle.ang_vm.specs.Running.{RunReaches};
 ghost use Rattle.ang_vm_steps.specs.Arms.{AreCounted};
 
 use crate::calls::enter;
+use crate::crossing::Crossing;
 use crate::returns::{Parted, leave_body, resume};
+use crate::turns::run_body;
 use ang_code::Frame;
 use ang_heap::Store;
 use ang_host::Driver;
 use ang_kinds::Fault;
 use ang_meaning::{Routine, Slot};
-use ang_vm_body::crossing::Crossing;
-use ang_vm_body::turns::run_body;
-use ang_vm_fuse::body::Body;
+use ang_vm_stack::body::Body;
 use ang_vm_stack::place::{Ending, Place, Standing};
 use ang_vm_stack::stop::Stop;
 use ang_vm_stack::table::{Table, body_at};
@@ -154,9 +154,12 @@ fn finish(stack: &Vec<Slot>, store: &mut Store, parted: Parted, ticks: u64) -> E
 
 /// Where the run stands is kept above its callers, as a caller is: the instruction after the one that it stands at. Where there is no memory for it, nothing is kept.
 #[inline(never)]
-pub fn note(frames: &mut Vec<Frame>, standing: Standing, at: usize)
-{
-    let frame = Frame { of: standing.body, at: at.saturating_add(1), room: standing.room };
+pub fn note(frames: &mut Vec<Frame>, standing: Standing, at: usize) {
+    let frame = Frame {
+        of: standing.body,
+        at: at.saturating_add(1),
+        room: standing.room,
+    };
     if frames.push(frame).is_err() {
         frames.clear();
     }

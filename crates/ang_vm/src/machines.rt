@@ -11,7 +11,7 @@ ghost use Rattle.ang_heap.specs.Stores.{world_of, IsReady, HasMoved};
 ghost use Rattle.ang_vm_stack.specs.Tables.{setting_of, texts_of, result_of};
 ghost use Rattle.ang_vm_ask.specs.Entities.{DriversThere};
 ghost use Rattle.ang_vm.specs.Legs.{Ends};
-ghost use Rattle.ang_vm_body.specs.Running.{MayRun, RunMoves};
+ghost use Rattle.ang_vm.specs.BodyRunning.{MayRun, RunMoves};
 ghost use Rattle.ang_vm.specs.Running.{HeldAt, IsSettled};
 ghost use Rattle.ang_vm.specs.Machines.{lent, IsLost, HasCalled, HasRun, HasInitialized, call_in, initializer_in};
 ghost use Rattle.ang_vm_ask.specs.Askings.{HasMovedOver};
@@ -106,7 +106,14 @@ fn run_call(
 }
 
 /// An initializer, from its beginning to its end.
-fn initialize(alloc: Global, table: &Table, store: &mut Store, frames: &mut Vec<Frame>, entry: Routine, ticks: u64) -> Ending
+fn initialize(
+    alloc: Global,
+    table: &Table,
+    store: &mut Store,
+    frames: &mut Vec<Frame>,
+    entry: Routine,
+    ticks: u64,
+) -> Ending
     requires may_run { MayRun ⟦<dyn Driver as Driver>⟧ table.now [] store.old }
     ensures ends { Ends (setting_of table.now 201) (texts_of table.now)
         (initializer_in ⟦<dyn Driver as Driver>⟧ table.now ticks entry store.old) result
@@ -115,14 +122,7 @@ fn initialize(alloc: Global, table: &Table, store: &mut Store, frames: &mut Vec<
 {
     let mut stack = Vec::new(alloc);
     match start_initializer(table, &mut stack, frames, store, entry, ticks) {
-        Ok(first) => run_from(
-            table,
-            WITH_INITIALIZER,
-            &mut stack,
-            frames,
-            store,
-            first,
-        ),
+        Ok(first) => run_from(table, WITH_INITIALIZER, &mut stack, frames, store, first),
         Err(ending) => ending,
     }
 }
@@ -261,7 +261,15 @@ pub fn run(
 {
     let alloc = *events.allocator();
     lend(machine, events);
-    let ended = call_told(alloc, table, &mut machine.store, &mut machine.frames, entry, args, budget);
+    let ended = call_told(
+        alloc,
+        table,
+        &mut machine.store,
+        &mut machine.frames,
+        entry,
+        args,
+        budget,
+    );
     take_back(machine, events);
     answer(result_type(table, entry), ended)
 }
@@ -298,7 +306,14 @@ pub fn run_initializer(
 {
     let alloc = *events.allocator();
     lend(machine, events);
-    let ended = initializer_told(alloc, table, &mut machine.store, &mut machine.frames, entry, ticks);
+    let ended = initializer_told(
+        alloc,
+        table,
+        &mut machine.store,
+        &mut machine.frames,
+        entry,
+        ticks,
+    );
     take_back(machine, events);
     ended
 }

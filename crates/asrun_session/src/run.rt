@@ -53,8 +53,7 @@ pub fn print_bad_line<W: Write>(alloc: Global, writer: &mut W, number: u64) -> R
 }
 
 /// `at MODULE [CLASS::]NAME SECTION:LINE:COLUMN` or `at MODULE global NAME ..`, the place of the fault first.
-fn print_trace<W: Write>(alloc: Global, writer: &mut W, engine: &Engine) -> Result<(), Stop>
-{
+fn print_trace<W: Write>(alloc: Global, writer: &mut W, engine: &Engine) -> Result<(), Stop> {
     let mut text = Vec::new(alloc);
     for depth in 0..256 {
         if let Some(frame) = engine.traced(depth) {
