@@ -57,7 +57,7 @@ module _ {V : Type 0} {P : V → Type 0} (m : Meanings P) where
 
   -- what is kept does not look at the events
   pub kept-same : (s : Store V P) (es : Vec HostEvent Global) → IsKept m (record s { events = es }) → IsKept m s
-  kept-same s es k = record { drivers = k.drivers; alive = k.alive; none = k.none }
+  kept-same s es k = record { drivers = k.drivers; alive = k.alive; none = k.none; due = k.due; tallied = k.tallied }
 
   -- nothing was asked
   pub asked-nothing : (R : RegistrationList) (after : World) (s : Store V P) → IsKept m s → IsCounted [] (world_of m s) → HasAsked m R after [] s s

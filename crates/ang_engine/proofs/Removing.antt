@@ -51,7 +51,7 @@ module _ {V : Type 0} {P : V → Type 0} (m : Meanings P) (R : RegistrationList)
   now = world_of m (record t { events = fs })
 
   has_ended : (is : List Input) → globals_ended home (running before is) ≡ with_inputs is now
-  has_ended is = ap (λ l. globals_ended home (world_by (objects_of s.heap) (counts_of m (members s.drivers)) (values_in s.globals) l is)) (sym first) ∙ ended is
+  has_ended is = ap (λ l. globals_ended home (world_by (objects_of s.heap) (counts_of m (members s.drivers)) (values_in s.globals) l s.spent is)) (sym first) ∙ ended is
 
   silent : answers_listed now.events ≡ []
   silent = sym (ended_silent home (running before []) now (has_ended []))

@@ -151,14 +151,15 @@ started-by r ls ks home budget p u v x code begun h =
 
 module _ {V : Type 0} {P : V → Type 0} (m : Meanings P) (ms : List RunModule) where
   ready_with : (s : Store V P) (gs : Globals) → IsReady m s → IsReady m (record s { globals = gs })
-  ready_with s gs r = record { kept = record { drivers = r.kept.drivers; alive = r.kept.alive; none = r.kept.none }; room = r.room }
+  ready_with s gs r = record { kept = record { drivers = r.kept.drivers; alive = r.kept.alive; none = r.kept.none; due = r.kept.due; tallied = r.kept.tallied }; room = r.room }
 
   -- a module's globals begin, which had none
   pub run-begun : (i : ℕ) (s : Store V P) (gs : Globals) (l : List Slot) → values_in gs ≡ slice_set (values_in s.globals) i l → ((x : Thing) → how_many x l ≡ 0)
       → slice_index_or (values_in s.globals) i [] ≡ [] → HasRunOn m ms s (record s { globals = gs })
   run-begun i s gs l e none empty = record {
     asked = λ h. h;
-    moves = λ roles h. record { parts = parts_none m roles (members s.drivers) s.events.items; ready = λ r. ready_with s gs r };
+    moves = λ roles h. record { parts = parts_none m roles (members s.drivers) s.events.items; ready = λ r. ready_with s gs r;
+      within = λ r n k w. record { places = w.places; most_places = w.most_places; events = w.events; most_events = w.most_events } };
     ready = λ r. ready_with s gs r;
     counted = λ h. subst (λ q. IsCounted [] (record (world_of m s) { globals = q })) (sym e) (begun_counted i l (world_of m s) none empty h);
   }

@@ -1,12 +1,12 @@
 //! Globals that end.
-ghost use Rattle.std.specs.Prelude.{◌≡◌, ◌+◌, ◌≤◌, List, [], slice_index_or, slice_set, vec_len, vec_capacity};
+ghost use Rattle.std.specs.Prelude.{Bool, ◌≡◌, ◌+◌, ◌≤◌, List, [], slice_index_or, slice_set, vec_len, vec_capacity};
 ghost use Rattle.ang_host.specs.declared.event.Role.{Role};
 ghost use Rattle.ang_host.specs.Boxes.{members};
 ghost use Rattle.ang_meaning.specs.World.{Input};
 ghost use Rattle.ang_meaning.specs.Results.{give_back as given_back};
 ghost use Rattle.ang_meaning.specs.Counting.{EnoughIn, CountedIn, IsCounted};
 ghost use Rattle.ang_heap.specs.Globals.{values_in};
-ghost use Rattle.ang_heap.specs.Heaps.{objects_of};
+ghost use Rattle.ang_heap.specs.Heaps.{IsTallied, IsLess, objects_of};
 ghost use Rattle.ang_heap.specs.Parts.{world_by, AreReady, PartsMove, states_among, counts_among, live_among};
 ghost use Rattle.ang_heap.specs.Stores.{world_of, IsReady, HasMoved, StoreBecomes};
 ghost use Rattle.ang_vm.specs.Machines.{lent};
@@ -26,11 +26,11 @@ fn give_back(heap: &mut Heap, drivers: &mut Drivers, events: &mut Vec<HostEvent>
         (vec_len events.old) (vec_capacity events.old) }
     requires enough { EnoughIn values.now (objects_of heap.old)
         (counts_among ⟦<dyn Driver as Driver>⟧ drivers.old) }
-    ensures gives { (gs : List (List Slot)) (is : List Input)
+    ensures gives { (gs : List (List Slot)) (sp : Bool) (is : List Input)
         → given_back values.now (world_by (objects_of heap.old)
-        (counts_among ⟦<dyn Driver as Driver>⟧ drivers.old) gs events.old.items is)
+        (counts_among ⟦<dyn Driver as Driver>⟧ drivers.old) gs events.old.items sp is)
         ≡ world_by (objects_of heap.new) (counts_among ⟦<dyn Driver as Driver>⟧ drivers.new) gs
-        events.new.items is }
+        events.new.items sp is }
     ensures ready { AreReady (states_among ⟦<dyn Driver as Driver>⟧ drivers.new)
         (vec_len events.new) (vec_capacity events.new) }
     ensures level { vec_len events.new + live_among ⟦<dyn Driver as Driver>⟧ drivers.new
@@ -41,6 +41,8 @@ fn give_back(heap: &mut Heap, drivers: &mut Drivers, events: &mut Vec<HostEvent>
     ensures moves { (roles : List Role)
         → PartsMove ⟦<dyn Driver as Driver>⟧ roles (members drivers.old) events.old.items
         (members drivers.new) events.new.items }
+    ensures counted { IsTallied heap.old → IsTallied heap.new }
+    ensures less { IsLess heap.old heap.new }
 {
     let mut left = values.len();
     while left > 0 {
@@ -73,12 +75,12 @@ fn end_module(
         (vec_len events.old) (vec_capacity events.old) }
     requires counted { CountedIn [] (objects_of heap.old)
         (counts_among ⟦<dyn Driver as Driver>⟧ drivers.old) (values_in globals.old) }
-    ensures ended { (is : List Input)
+    ensures ended { (sp : Bool) (is : List Input)
         → globals_ended home (world_by (objects_of heap.old)
         (counts_among ⟦<dyn Driver as Driver>⟧ drivers.old) (values_in globals.old)
-        events.old.items is)
+        events.old.items sp is)
         ≡ world_by (objects_of heap.new) (counts_among ⟦<dyn Driver as Driver>⟧ drivers.new)
-        (values_in globals.new) events.new.items is }
+        (values_in globals.new) events.new.items sp is }
     ensures ready { AreReady (states_among ⟦<dyn Driver as Driver>⟧ drivers.new)
         (vec_len events.new) (vec_capacity events.new) }
     ensures level { vec_len events.new + live_among ⟦<dyn Driver as Driver>⟧ drivers.new
@@ -89,6 +91,8 @@ fn end_module(
     ensures moves { (roles : List Role)
         → PartsMove ⟦<dyn Driver as Driver>⟧ roles (members drivers.old) events.old.items
         (members drivers.new) events.new.items }
+    ensures counted { IsTallied heap.old → IsTallied heap.new }
+    ensures less { IsLess heap.old heap.new }
 {
     let values = take_globals(alloc, globals, home);
     give_back(heap, drivers, events, &values);
@@ -108,12 +112,12 @@ pub fn end_all(
         (vec_capacity ends.old) }
     requires counted { CountedIn [] (objects_of heap.old)
         (counts_among ⟦<dyn Driver as Driver>⟧ drivers.old) (values_in globals.old) }
-    ensures ended { (is : List Input)
+    ensures ended { (sp : Bool) (is : List Input)
         → all_ended order.now (world_by (objects_of heap.old)
         (counts_among ⟦<dyn Driver as Driver>⟧ drivers.old) (values_in globals.old)
-        ends.old.items is)
+        ends.old.items sp is)
         ≡ world_by (objects_of heap.new) (counts_among ⟦<dyn Driver as Driver>⟧ drivers.new)
-        (values_in globals.new) ends.new.items is }
+        (values_in globals.new) ends.new.items sp is }
     ensures ready { AreReady (states_among ⟦<dyn Driver as Driver>⟧ drivers.new) (vec_len ends.new)
         (vec_capacity ends.new) }
     ensures moves { (roles : List Role)

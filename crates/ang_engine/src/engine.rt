@@ -95,6 +95,8 @@ fn machine_of(alloc: Global, drivers: Drivers) -> Machine
             events: Vec::new(alloc),
             ends,
             live: 0,
+            spent: false,
+            most_events: usize::MAX,
         },
     }
 }
@@ -435,6 +437,8 @@ impl Engine {
             events: _,
             mut ends,
             live: _,
+            spent: _,
+            most_events: _,
         } = store;
         end_all(
             alloc,

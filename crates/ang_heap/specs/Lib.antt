@@ -2,4 +2,5 @@ pub mod Globals
 pub mod Numbers
 pub mod Parts
 pub mod Heaps
+pub mod Places
 pub mod Stores

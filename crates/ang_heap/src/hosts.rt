@@ -1,5 +1,5 @@
 //! Places that hold a host object.
-ghost use Rattle.std.specs.Prelude.{ℕ, ◌+◌, ◌≡◌, ◌<◌, ◌≤◌, false, List, [], Some, length, vec_len, vec_capacity, if◌then◌else◌};
+ghost use Rattle.std.specs.Prelude.{ℕ, Bool, ◌+◌, ◌≡◌, ◌<◌, ◌≤◌, false, List, [], Some, length, vec_len, vec_capacity, if◌then◌else◌};
 ghost use Rattle.ang_host.specs.declared.event.Role.{Role};
 ghost use Rattle.ang_host.specs.State.{count_at};
 ghost use Rattle.ang_host.specs.Laws.{IsFull};
@@ -19,10 +19,10 @@ pub fn release(drivers: &mut Drivers, events: &mut Vec<HostEvent>, driver: u32, 
     requires ready { AreReady (states_among ⟦<dyn Driver as Driver>⟧ drivers.old)
         (vec_len events.old) (vec_capacity events.old) }
     requires held { 0 < count_at (counts_among ⟦<dyn Driver as Driver>⟧ drivers.old driver) key }
-    ensures gives { (os : ScriptObjects) (gs : List (List Slot)) (is : List Input)
+    ensures gives { (os : ScriptObjects) (gs : List (List Slot)) (sp : Bool) (is : List Input)
         → give (Host driver (Some key))
-        (world_by os (counts_among ⟦<dyn Driver as Driver>⟧ drivers.old) gs events.old.items is)
-        ≡ world_by os (counts_among ⟦<dyn Driver as Driver>⟧ drivers.new) gs events.new.items is }
+        (world_by os (counts_among ⟦<dyn Driver as Driver>⟧ drivers.old) gs events.old.items sp is)
+        ≡ world_by os (counts_among ⟦<dyn Driver as Driver>⟧ drivers.new) gs events.new.items sp is }
     ensures ready { AreReady (states_among ⟦<dyn Driver as Driver>⟧ drivers.new)
         (vec_len events.new) (vec_capacity events.new) }
     ensures level { vec_len events.new + live_among ⟦<dyn Driver as Driver>⟧ drivers.new

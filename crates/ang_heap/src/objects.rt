@@ -1,10 +1,11 @@
 //! Script objects made, read and changed.
-ghost use Rattle.std.specs.Prelude.{◌≡◌, Some, None, IfOk, OnErr, map as list_map, slice_index_or, slice_set};
+ghost use Rattle.std.specs.Prelude.{◌≡◌, Some, None, IfOk, OnErr, IfSome, ◌+◌, ◌≤◌, map as list_map, slice_index_or, slice_set};
 ghost use Rattle.std.specs.FinMap as map;
 ghost use Rattle.ang_meaning.specs.Perform.{field_of, with_field, new_object};
 ghost use Rattle.ang_meaning.specs.Setting.{default_of};
 ghost use Rattle.slab.specs.Slab.{get as slab_get, with_value};
-ghost use Rattle.ang_heap.specs.Heaps.{record_of, objects_in, objects_of, class_of_record, rank_of_record};
+ghost use Rattle.ang_heap.specs.Places.{places_of};
+ghost use Rattle.ang_heap.specs.Heaps.{IsTallied, IsLess, HasGrown, record_of, objects_in, objects_of, class_of_record, rank_of_record};
 
 use crate::heap::{Heap, ScriptObject};
 use ang_meaning::{Class, Slot, ValueKind};
@@ -12,14 +13,46 @@ use slab::Slab;
 use std::alloc::{AllocError, Global};
 
 impl Heap {
-    /// A heap without objects.
+    /// A heap without objects, which may take any number of places.
     pub fn new(alloc: Global) -> Heap
         ensures empty { objects_of result ≡ map.empty }
+        ensures counted { IsTallied result }
     {
         Heap {
             alloc,
             records: Slab::new(alloc),
+            places: 0,
+            most: usize::MAX,
         }
+    }
+
+    /// How many places the objects take.
+    pub fn places(&self) -> usize
+        ensures exact { IsTallied self.now → result ≡ places_of (objects_of self.now) }
+    {
+        self.places
+    }
+
+    /// From now on no object is made that would have all objects take more places than this.
+    pub fn set_most(&mut self, most: usize)
+        ensures same { self.new ≡ record self.old { most = most } }
+    {
+        self.most = most;
+    }
+
+    /// How many places are taken with one object more, of so many fields; none where that is more than there may be.
+    #[inline(always)]
+    fn places_with(&self, fields: usize) -> Option<usize>
+        ensures exact { IfSome result (λ n. n ≡ self.now.places + (1 + fields)) }
+        ensures within { IfSome result (λ n. n ≤ self.now.most) }
+    {
+        if self.places >= self.most {
+            return None;
+        }
+        if fields >= self.most - self.places {
+            return None;
+        }
+        Some(self.places + 1 + fields)
     }
 
     /// Makes an object of a class, whose fields name nothing and which has its first place, and answers its
@@ -32,9 +65,16 @@ impl Heap {
         ensures made { IfOk result
             (λ n. objects_of self.new ≡ map.insert (objects_of self.old) n (new_object class.now)) }
         ensures unchanged { OnErr result (objects_of self.new ≡ objects_of self.old) }
+        ensures counted { IsTallied self.old → IsTallied self.new }
+        ensures within { HasGrown self.old self.new }
     {
+        let Some(places) = self.places_with(class.fields.as_slice().len()) else {
+            return Err(AllocError);
+        };
         let fields = defaults(self.alloc, class.fields.as_slice())?;
-        insert(&mut self.records, new_record(class, fields))
+        let number = insert(&mut self.records, new_record(class, fields))?;
+        self.places = places;
+        Ok(number)
     }
 
     /// The class of an object, where there is one of that number.
@@ -78,6 +118,8 @@ impl Heap {
         ensures put { objects_of self.new
             ≡ with_field number (map.get (objects_of self.old) number) index value
             (objects_of self.old) }
+        ensures counted { IsTallied self.old → IsTallied self.new }
+        ensures less { IsLess self.old self.new }
     {
         let old = self.field(number, index, value);
         store(&mut self.records, number, index, value);

@@ -1,6 +1,8 @@
 //! What lies outside the stack of a run, as one thing.
 ghost use Rattle.std.specs.Prelude.{◌≡◌, ◌<◌, ℕ, ◌∷◌, false, List, [], Option, Some};
 ghost use Rattle.ang_host.specs.State.{count_at};
+ghost use Rattle.ang_host.specs.Laws.{IsFull};
+ghost use Rattle.ang_host.specs.Members.{state_at};
 ghost use Rattle.ang_meaning.specs.declared.slot.Slot.TheVariants.{Script as Handle, Host};
 ghost use Rattle.ang_meaning.specs.World.{hold as hold_in, give as give_in, if_told};
 ghost use Rattle.ang_meaning.specs.Counting.{CanGive, HasKey};
@@ -10,7 +12,7 @@ ghost use Rattle.ang_heap.specs.Stores.{world_of, IsReady, StoreTold, HasMoved, 
 
 use crate::globals::Globals;
 use crate::heap::{Heap, lower_shared, raise};
-use crate::hosts::release;
+use crate::hosts::{add, release};
 use ang_host::{Driver, Drivers, HostEvent};
 use ang_meaning::Slot;
 
@@ -31,6 +33,11 @@ pub struct Store {
     pub ends: Vec<HostEvent>,
     /// How many host objects live.
     pub live: usize,
+    /// Whether a driver refused one more reference to an object. Then some driver's tally has run out.
+    pub spent: bool,
+    /// How many events a command may list, with the end of each live host object counted as one: no entry is asked
+    /// that would have it list more.
+    pub most_events: usize,
 }
 
 /// One more place holds the value. False where a tally is full, and then nothing is done.
@@ -55,24 +62,32 @@ pub fn hold(store: &mut Store, value: Slot) -> bool
             Some(number) => raise(&mut store.heap.records, number),
             None => true,
         },
-        Slot::Host(_, _) => hold_object(store, value),
+        Slot::Host(driver, named) => match named {
+            Some(key) => hold_host(store, driver, key),
+            None => true,
+        },
     }
 }
 
+/// One more place holds a host object. It stays apart as `give_script` does.
 #[inline(never)]
-fn hold_object(store: &mut Store, value: Slot) -> bool
-    requires there { HasKey value (counts_among ⟦<dyn Driver as Driver>⟧ store.old.drivers) }
-    ensures told { StoreTold ⟦<dyn Driver as Driver>⟧ (hold_in value) store.old (if_told result)
-        store.new }
+fn hold_host(store: &mut Store, driver: u32, key: u64) -> bool
+    requires held { 0 < count_at
+        (counts_among ⟦<dyn Driver as Driver>⟧ store.old.drivers driver) key }
+    ensures told { StoreTold ⟦<dyn Driver as Driver>⟧ (hold_in (Host driver (Some key))) store.old
+        (if_told result) store.new }
     ensures full { result ≡ false
-        → IsTallyFull value (objects_of store.old.heap)
-        (states_among ⟦<dyn Driver as Driver>⟧ store.old.drivers) }
+        → IsFull (state_at (states_among ⟦<dyn Driver as Driver>⟧ store.old.drivers) driver) }
     ensures unchanged { result ≡ false
         → states_among ⟦<dyn Driver as Driver>⟧ store.new.drivers
         ≡ states_among ⟦<dyn Driver as Driver>⟧ store.old.drivers }
     ensures moves { HasMoved ⟦<dyn Driver as Driver>⟧ store.old store.new }
 {
-    store.heap.hold(&mut store.drivers, value).is_ok()
+    if add(&mut store.drivers, driver, key) {
+        return true;
+    }
+    store.spent = true;
+    false
 }
 
 /// One place gives up the value. It takes no memory and always succeeds.

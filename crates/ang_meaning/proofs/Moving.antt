@@ -22,7 +22,7 @@ use Rattle.ang_meaning.specs.declared.operation.Operation.TheVariants.{Work, Com
 use Rattle.ang_meaning.specs.declared.routine.Passing.{Passing}
 use Rattle.ang_meaning.specs.declared.routine.Passing.TheVariants.{In, Out, Object}
 use Rattle.ang_meaning.specs.Numbers.{Worked, Is, Cannot, Changed, Into, Never, worked}
-use Rattle.ang_meaning.specs.World.{World, HostCounts, Input, Room, Said, Tallied, Fresh, Tried, Yes, No, memory_told, memory_step, one_more, tally_told, tally_step, hold, Lowered, Gone, Kept, host_lowered, each_given, script_given, script_lowered, given, give, give_all, or_else}
+use Rattle.ang_meaning.specs.World.{World, HostCounts, Input, Room, Said, Tallied, Fresh, Tried, Yes, No, memory_told, memory_step, one_more, Ending, Inside, AtEnd, OfDriver, ending_of, refused_at, tally_told, tally_step, hold, Lowered, Gone, Kept, host_lowered, each_given, script_given, script_lowered, given, give, give_all, or_else}
 use Rattle.ang_meaning.specs.Told.{has_room, stopped_by, answers_told, answers_listed, Moves, GoesOn, Faults}
 use Rattle.ang_meaning.specs.declared.class.Class.{Class}
 use Rattle.ang_meaning.specs.Setting.{Setting, class_at, use_at}
@@ -179,21 +179,30 @@ pub memory_goes : (w : World) → TriedFrom Memory w (memory_step w)
 unfolding memory_step
 memory_goes w = memory_from w.inputs w refl
 
-tally_from : (inputs : List Input) (w : World) → w.inputs ≡ inputs → TriedFrom Tally w (tally_told inputs w)
-tally_from [] w e = faulted Tally w w (nothing w)
-tally_from (Tallied true ∷ rest) w e = record { used = Tallied true ∷ []; moves = told_one w (Tallied true) rest e refl; room = refl }
-tally_from (Tallied false ∷ rest) w e = record { used = Tallied false ∷ []; moves = told_one w (Tallied false) rest e refl; told = inr refl }
-tally_from (Said r ∷ rest) w e = faulted Tally w w (nothing w)
-tally_from (Room b ∷ rest) w e = faulted Tally w w (nothing w)
-tally_from (Fresh n ∷ rest) w e = faulted Tally w w (nothing w)
+refused_from : (x : Ending) (rest : List Input) (w : World) → w.inputs ≡ Tallied false ∷ rest → TriedFrom Tally w (refused_at x rest w)
+refused_from Inside rest w e = faulted Tally w w (nothing w)
+refused_from AtEnd rest w e = record { used = Tallied false ∷ []; moves = told_one w (Tallied false) rest e refl; told = inr refl }
+refused_from OfDriver rest w e = record {
+  used = Tallied false ∷ [];
+  moves = record { more = []; inputs = e; events = sym (append-nil w.events); answers = refl };
+  told = inr refl;
+}
+
+tally_from : (x : Ending) (inputs : List Input) (w : World) → w.inputs ≡ inputs → TriedFrom Tally w (tally_told x inputs w)
+tally_from x [] w e = faulted Tally w w (nothing w)
+tally_from x (Tallied true ∷ rest) w e = record { used = Tallied true ∷ []; moves = told_one w (Tallied true) rest e refl; room = refl }
+tally_from x (Tallied false ∷ rest) w e = refused_from x rest w e
+tally_from x (Said r ∷ rest) w e = faulted Tally w w (nothing w)
+tally_from x (Room b ∷ rest) w e = faulted Tally w w (nothing w)
+tally_from x (Fresh n ∷ rest) w e = faulted Tally w w (nothing w)
 
 tally_goes : (v : Slot) (w : World) → TriedFrom Tally w (tally_step v w)
 unfolding tally_step
 tally_goes (Bits n) w = nothing w
 tally_goes (Script None) w = nothing w
-tally_goes (Script (Some n)) w = tally_from w.inputs w refl
+tally_goes (Script (Some n)) w = tally_from (ending_of (map.get w.objects n)) w.inputs w refl
 tally_goes (Host d None) w = nothing w
-tally_goes (Host d (Some k)) w = tally_from w.inputs w refl
+tally_goes (Host d (Some k)) w = tally_from OfDriver w.inputs w refl
 
 more_moves : (v : Slot) (w : World) → Moves w [] (one_more v w)
 unfolding one_more

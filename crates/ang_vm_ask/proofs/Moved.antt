@@ -20,6 +20,7 @@ use Rattle.ang_host.specs.Events.{role_at, DriversFollow}
 use Rattle.ang_host.proofs.Events.{AllFollow-none, AllFollow-length}
 use Rattle.ang_heap.specs.declared.store.Store.{Store}
 use Rattle.ang_heap.specs.Stores.{IsReady, StoreMoves}
+use Rattle.ang_heap.proofs.Spending.{answered_out, made_out}
 use Rattle.ang_heap.proofs.Hosting.{answer_live, answer_ready, answer_length, born, made_live, made_ready}
 use Rattle.ang_heap.proofs.Storing.{moves_none, moves_join}
 use Rattle.ang_vm_ask.specs.Askings.{StoreAsked}
@@ -74,45 +75,55 @@ module _ {V : Type 0} {P : V → Type 0} (m : Meanings P) where
                 drivers = record { sound = r.kept.drivers.sound; room = omega (arith, r.kept.drivers.room, len', capacity') };
                 alive = r.kept.alive;
                 none = items' ∙ r.kept.none;
+                due = r.kept.due;
+                tallied = r.kept.tallied;
               };
               room = omega (arith, r.room, len, capacity);
             };
+            within = λ r n k w. record { places = w.places; most_places = w.most_places; events = omega (arith, w.events, len); most_events = w.most_events };
           })
 
       module _ (ds : Drivers V P) (es : Vec HostEvent Global) (event : HostEvent) (d : ℕ) (ask : Ask)
           (listed : es.items ≡ s.events.items ++ event ∷ []) (follow : (roles : List Role) → role_at roles e.0 ≡ role → DriversFollow m roles (members s.drivers) (event ∷ []) (members ds)) where
         pub answered_asked : (r : Answer) → DriverMoved m (members s.drivers) d (λ f x y. Answered f x ask r y) (members ds) → vec_len es + s.live ≤ vec_capacity es
-            → StoreAsked m e role s (record s { drivers = ds; events = es })
-        answered_asked r moved room =
+            → vec_len es + s.live ≤ s.most_events → StoreAsked m e role s (record s { drivers = ds; events = es })
+        answered_asked r moved room limit =
             let readied : IsReady m s → IsReady m (record s { drivers = ds; events = es }) = λ rd. record {
               kept = record {
                 drivers = answer_ready _ _ _ _ _ d ask r moved _ _ _ _ rd.kept.drivers rd.kept.drivers.room;
                 alive = rd.kept.alive ∙ sym (answer_live _ _ _ _ _ d ask r moved);
                 none = rd.kept.none;
+                due = λ h. answered_out (λ b. state_in m b) (λ b. b.vtable) (λ v. (m v).meaning.fits) (members s.drivers) (members ds) d ask r moved (rd.kept.due h);
+                tallied = rd.kept.tallied;
               };
               room = room;
             } in
             record {
-              moves = λ roles h. record { parts = record { more = event ∷ []; events = listed; follow = follow roles h }; ready = readied };
+              moves = λ roles h. record { parts = record { more = event ∷ []; events = listed; follow = follow roles h }; ready = readied;
+                within = λ rd n k w. record { places = w.places; most_places = w.most_places; events = omega (arith, limit, w.most_events); most_events = w.most_events } };
               ready = readied;
               same = answer_length _ _ _ _ _ d ask r moved;
             }
 
         -- an object more may live then
         pub made_asked : (fs : Vec HostEvent Global) (r : Made) → DriverMoved m (members s.drivers) d (λ f x y. WasMade f x ask r y) (members ds) → vec_len es + (s.live + 1) ≤ vec_capacity es
+            → vec_len es + (s.live + 1) ≤ s.most_events
             → fs.items ≡ s.ends.items → vec_len fs + (s.live + 1) ≤ vec_capacity fs
             → StoreAsked m e role s (record s { drivers = ds; events = es; ends = fs; live = s.live + objects_made r })
-        made_asked fs r moved room items room' =
+        made_asked fs r moved room limit items room' =
             let readied : IsReady m s → IsReady m (record s { drivers = ds; events = es; ends = fs; live = s.live + objects_made r }) = λ rd. record {
               kept = record {
                 drivers = made_ready _ _ _ _ _ d ask r moved _ _ _ _ rd.kept.drivers (omega (arith, room', rd.kept.alive, born_one r));
                 alive = omega (arith, born_as r, rd.kept.alive, made_live _ _ _ _ _ d ask r moved);
                 none = items ∙ rd.kept.none;
+                due = λ h. made_out (λ b. state_in m b) (λ b. b.vtable) (λ v. (m v).meaning.fits) (members s.drivers) (members ds) d ask r moved (rd.kept.due h);
+                tallied = rd.kept.tallied;
               };
               room = omega (arith, room, born_as r, born_one r);
             } in
             record {
-              moves = λ roles h. record { parts = record { more = event ∷ []; events = listed; follow = follow roles h }; ready = readied };
+              moves = λ roles h. record { parts = record { more = event ∷ []; events = listed; follow = follow roles h }; ready = readied;
+                within = λ rd n k w. record { places = w.places; most_places = w.most_places; events = omega (arith, limit, w.most_events, born_as r, born_one r); most_events = w.most_events } };
               ready = readied;
               same = made_length _ _ _ _ _ d r moved;
             }

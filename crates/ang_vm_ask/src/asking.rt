@@ -52,7 +52,7 @@ pub(crate) fn call(
     ensures asked { StoreAsked ⟦<dyn Driver as Driver>⟧ entity host.now.role store.old store.new }
 {
     let more = store.live + 1;
-    let Ok((caller, args)) = call_room(alloc, &mut store.events, more, caller, host, args) else {
+    let Ok((caller, args)) = call_room(alloc, &mut store.events, store.most_events, more, caller, host, args) else {
         return Err(Fault::Memory);
     };
     let answer = call_listed(
@@ -91,7 +91,7 @@ pub(crate) fn read(
     ensures asked { StoreAsked ⟦<dyn Driver as Driver>⟧ entity host.now.role store.old store.new }
 {
     let more = store.live + 1;
-    let Ok(caller) = room_for(alloc, &mut store.events, more, caller) else {
+    let Ok(caller) = room_for(alloc, &mut store.events, store.most_events, more, caller) else {
         return Err(Fault::Memory);
     };
     let answer = read_listed(
@@ -137,7 +137,7 @@ pub(crate) fn write(
 {
     let more = store.live + 1;
     let value = value_from(host.driver, host.result, value);
-    let Ok((caller, args)) = write_room(alloc, &mut store.events, more, caller, value) else {
+    let Ok((caller, args)) = write_room(alloc, &mut store.events, store.most_events, more, caller, value) else {
         return Err(Fault::Memory);
     };
     let answer = write_listed(
@@ -208,7 +208,7 @@ pub(crate) fn make(
     ensures asked { StoreAsked ⟦<dyn Driver as Driver>⟧ entity host.now.role store.old store.new }
 {
     let more = store.live + 2;
-    let Ok((caller, args)) = call_room(alloc, &mut store.events, more, caller, host, args) else {
+    let Ok((caller, args)) = call_room(alloc, &mut store.events, store.most_events, more, caller, host, args) else {
         return Err(Fault::Memory);
     };
     let Ok(()) = room_for_ends(&mut store.ends, more - 1) else {

@@ -1,5 +1,5 @@
 //! The memory for a host call, all of which is taken before the driver is asked.
-ghost use Rattle.std.specs.Prelude.{◌≡◌, ◌+◌, ◌≤◌, [], ◌∷◌, IfOk, OnOk, vec_len, vec_capacity};
+ghost use Rattle.std.specs.Prelude.{◌≡◌, ◌+◌, ◌≤◌, ◌↔◌, IsTrue, [], ◌∷◌, IfOk, OnOk, vec_len, vec_capacity};
 ghost use Rattle.ang_meaning.specs.Hosts.{value_of, values_of};
 
 use ang_host::HostEvent;
@@ -8,7 +8,15 @@ use ang_meaning::{HostType, HostUse, Slot};
 use ang_vm_numbers::value_from;
 use std::alloc::{AllocError, Global};
 
-/// Room for `more` events more, and a copy of the caller's name for one of them.
+/// Whether `more` events more are no more than there may be.
+#[inline(always)]
+fn is_within(count: usize, more: usize, most: usize) -> bool
+    ensures exact { IsTrue result ↔ (count + more ≤ most) }
+{
+    count <= most && more <= most - count
+}
+
+/// Room for `more` events more, where that is no more than `most` in all, and a copy of the caller's name for one of them.
 ///
 /// # Errors
 /// There is no memory. The room that there is by then stays.
@@ -16,6 +24,7 @@ use std::alloc::{AllocError, Global};
 pub(crate) fn room_for(
     alloc: Global,
     events: &mut Vec<HostEvent>,
+    most: usize,
     more: usize,
     caller: &[u8],
 ) -> Result<List<u8>, AllocError>
@@ -23,8 +32,12 @@ pub(crate) fn room_for(
     ensures len { vec_len events.new ≡ vec_len events.old }
     ensures capacity { vec_capacity events.old ≤ vec_capacity events.new }
     ensures room { OnOk result (vec_len events.new + more ≤ vec_capacity events.new) }
+    ensures within { OnOk result (vec_len events.new + more ≤ most) }
     ensures caller { IfOk result (λ name. name ≡ caller.now) }
 {
+    if !is_within(events.len(), more, most) {
+        return Err(AllocError);
+    }
     events.reserve(more)?;
     let caller = Vec::from_slice(alloc, caller)?;
     Ok(List::from_vec(caller))
@@ -53,6 +66,7 @@ pub(crate) fn values_from(
 pub(crate) fn call_room(
     alloc: Global,
     events: &mut Vec<HostEvent>,
+    most: usize,
     more: usize,
     caller: &[u8],
     host: &HostUse,
@@ -62,10 +76,11 @@ pub(crate) fn call_room(
     ensures len { vec_len events.new ≡ vec_len events.old }
     ensures capacity { vec_capacity events.old ≤ vec_capacity events.new }
     ensures room { OnOk result (vec_len events.new + more ≤ vec_capacity events.new) }
+    ensures within { OnOk result (vec_len events.new + more ≤ most) }
     ensures caller { IfOk result (λ p. p.0 ≡ caller.now) }
     ensures args { IfOk result (λ p. p.1 ≡ values_of host.now.driver host.now.params args.now) }
 {
-    let caller = room_for(alloc, events, more, caller)?;
+    let caller = room_for(alloc, events, most, more, caller)?;
     let args = values_from(alloc, host.driver, host.params.as_slice(), args)?;
     Ok((caller, args))
 }
@@ -74,6 +89,7 @@ pub(crate) fn call_room(
 pub(crate) fn write_room(
     alloc: Global,
     events: &mut Vec<HostEvent>,
+    most: usize,
     more: usize,
     caller: &[u8],
     value: Value,
@@ -82,10 +98,11 @@ pub(crate) fn write_room(
     ensures len { vec_len events.new ≡ vec_len events.old }
     ensures capacity { vec_capacity events.old ≤ vec_capacity events.new }
     ensures room { OnOk result (vec_len events.new + more ≤ vec_capacity events.new) }
+    ensures within { OnOk result (vec_len events.new + more ≤ most) }
     ensures caller { IfOk result (λ p. p.0 ≡ caller.now) }
     ensures args { IfOk result (λ p. p.1 ≡ value ∷ []) }
 {
-    let caller = room_for(alloc, events, more, caller)?;
+    let caller = room_for(alloc, events, most, more, caller)?;
     let mut args = Vec::with_capacity(alloc, 1)?;
     args.push(value)?;
     Ok((caller, List::from_vec(args)))

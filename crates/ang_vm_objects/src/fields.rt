@@ -1,5 +1,5 @@
 //! Operations on script objects: one is made, its fields are read, stored and changed, and handles are cast.
-ghost use Rattle.std.specs.Prelude.{◌≡◌, ℕ, ◌∷◌, nat_eq, List, []};
+ghost use Rattle.std.specs.Prelude.{◌≡◌, ℕ, Bool, ◌∷◌, nat_eq, List, []};
 ghost use Rattle.std.specs.List.{list_any};
 ghost use Rattle.ang_host.specs.declared.event.HostEvent.{HostEvent};
 ghost use Rattle.ang_meaning.specs.declared.operation.Operation.TheVariants.{Make, FieldGet, FieldSet, FieldChange, Cast};
@@ -48,8 +48,8 @@ fn is_lower(first: Option<usize>, second: Option<usize>) -> bool
 /// Whether a field of an object may take a value: a script object has to be of a lower rank than its holder.
 fn may_take(heap: &Heap, number: usize, value: Slot) -> bool
     ensures exact { (hs : HostCounts) (gs : List (List Slot)) (es : List HostEvent)
-        (is : List Input)
-        → result ≡ may_take_in number value (world_by (objects_of heap.now) hs gs es is) }
+        (sp : Bool) (is : List Input)
+        → result ≡ may_take_in number value (world_by (objects_of heap.now) hs gs es sp is) }
 {
     match value {
         Slot::Bits(_) => true,

@@ -2,6 +2,7 @@ pub mod Appending
 pub mod Doing
 pub mod LastEnds
 pub mod Loading
+pub mod Held
 pub mod ReadBytes
 pub mod Taking
 pub mod Telling

@@ -4,6 +4,7 @@ pub mod Drivers
 pub mod Engines
 pub mod LastEnds
 pub mod Profile
+pub mod Pieces
 pub mod Reading
 pub mod Session
 pub mod Whole

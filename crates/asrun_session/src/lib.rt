@@ -8,6 +8,7 @@
 
 mod action;
 mod ending;
+mod pieces;
 mod profile;
 mod reading;
 mod run;

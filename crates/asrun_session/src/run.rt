@@ -15,12 +15,12 @@ ghost use Rattle.asrun_session.specs.declared.action.Action.TheVariants as actio
 
 use crate::action::{Action, read_act};
 use crate::ending::{Status, Stop};
+use crate::pieces::print_pieces;
 use crate::text::push_bad_line;
 use crate::writing::write_text;
 use ang_engine::{Command, Engine, Outcome, Reply};
 use ang_host::Driver;
 use asrun_lines::{LineError, first_line, is_skipped, shown};
-use asrun_text::push_reply;
 use std::alloc::Global;
 use std::io::Write;
 
@@ -33,9 +33,7 @@ fn print_reply<W: Write>(alloc: Global, writer: &mut W, reply: &Reply) -> Result
     ensures fault { IfErr result (λ e. e ≢ unread) }
 {
     let mut text = Vec::new(alloc);
-    push_reply(&mut text, reply)?;
-    write_text(writer, &text)?;
-    Ok(())
+    print_pieces(writer, &mut text, reply)
 }
 
 /// Prints `line N BadLine`.

@@ -246,7 +246,7 @@ fn push_asked(
 }
 
 #[tactic(auto, using(crate::proofs::Texts::texts), unfolding(crate::specs::Text::event_text))]
-fn push_event(out: &mut Vec<u8>, event: &HostEvent) -> Result<(), AllocError>
+pub fn push_event(out: &mut Vec<u8>, event: &HostEvent) -> Result<(), AllocError>
     ensures added { OnOk result (out.new.items ≡ out.old.items ++ event_text event.now) }
 {
     match event {
@@ -288,7 +288,7 @@ fn push_name(out: &mut Vec<u8>, name: &[u8]) -> Result<(), AllocError>
 }
 
 #[tactic(auto, using(crate::proofs::Texts::texts), unfolding(crate::specs::Text::error_text))]
-fn push_error(out: &mut Vec<u8>, error: &Error) -> Result<(), AllocError>
+pub fn push_error(out: &mut Vec<u8>, error: &Error) -> Result<(), AllocError>
     ensures added { OnOk result (out.new.items ≡ out.old.items ++ error_text error.now) }
 {
     push_text(out, "error ")?;
@@ -319,7 +319,7 @@ fn push_mask(out: &mut Vec<u8>, mask: Mask) -> Result<(), AllocError>
 }
 
 #[tactic(auto, using(crate::proofs::Texts::texts), unfolding(crate::specs::Text::denial_text))]
-fn push_denial(out: &mut Vec<u8>, denial: Denial) -> Result<(), AllocError>
+pub fn push_denial(out: &mut Vec<u8>, denial: Denial) -> Result<(), AllocError>
     ensures added { OnOk result (out.new.items ≡ out.old.items ++ denial_text denial) }
 {
     push_text(out, "denied ")?;
@@ -366,7 +366,7 @@ fn push_refusal(out: &mut Vec<u8>, refusal: Refusal) -> Result<(), AllocError>
 }
 
 #[tactic(auto, using(crate::proofs::Texts::texts), unfolding(crate::specs::Text::outcome_text))]
-fn push_outcome(out: &mut Vec<u8>, outcome: Outcome) -> Result<(), AllocError>
+pub fn push_outcome(out: &mut Vec<u8>, outcome: Outcome) -> Result<(), AllocError>
     ensures added { OnOk result (out.new.items ≡ out.old.items ++ outcome_text outcome) }
 {
     match outcome {

@@ -98,6 +98,8 @@ fn machine_of(alloc: Global, drivers: Drivers, modules: Vec<Vec<Slot>>) -> Machi
             events: Vec::new(alloc),
             ends,
             live: 0,
+            spent: false,
+            most_events: usize::MAX,
         },
     }
 }
@@ -132,6 +134,8 @@ pub fn end(machine: Machine) {
         events: _,
         ends: _,
         live: _,
+        spent: _,
+        most_events: _,
     } = store;
     drop(drivers.into_boxes());
 }

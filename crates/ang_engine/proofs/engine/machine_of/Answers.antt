@@ -19,6 +19,8 @@ returns-clause-kept g c =
       drivers = room_fresh ss (vec_len c.new-ends.result) (vec_capacity c.new-ends.result) c.requires.fresh c.new-ends.ensures.len;
       alive = sym (live-fresh ss c.requires.fresh);
       none = c.new-ends.ensures.items;
+      due = λ e. absurd (let x : ⊥ = cc in x);
+      tallied = c.new-heap.ensures.counted;
     }
 
 pub returns-clause-counted : goal.returns-clause-counted

@@ -59,4 +59,5 @@ returns-clause-asked g c =
     (c.make_listed-answer.ensures.listed ∙ ap (λ es. es ++ event ∷ []) c.call_room.ensures.events) (λ roles h. c.make_listed-answer.ensures.follow roles (h ∙ c.requires.role))
     c.room_for_ends.new.ends made c.make_listed-answer.ensures.moved
     (omega (arith, c.make_listed-answer.ensures.len, c.make_listed-answer.ensures.capacity, c.in-Ok.ensures.room))
+    (omega (arith, c.make_listed-answer.ensures.len, c.in-Ok.ensures.within))
     c.room_for_ends.ensures.events (omega (arith, c.in-Ok-room_for_ends.ensures.room)))

@@ -34,5 +34,5 @@ returns-clause-asked g c =
     let event = Called c.in-Ok.caller c.args.entity host.driver c.args.object c.in-Ok.args (Asking c.write_listed-answer.result) in
     let all = answered_asked (λ v. (g.dyn-1.0.entry v).1) c.args.entity host.role c.args.store.now c.write_listed-answer.new.drivers c.write_listed-answer.new.events event host.driver _
     (c.write_listed-answer.ensures.listed ∙ ap (λ es. es ++ event ∷ []) c.write_room.ensures.events) (λ roles h. c.write_listed-answer.ensures.follow roles (h ∙ c.requires.role))
-    c.write_listed-answer.result c.write_listed-answer.ensures.moved (omega (arith, c.write_listed-answer.ensures.len, c.write_listed-answer.ensures.capacity, c.in-Ok.ensures.room)) in
+    c.write_listed-answer.result c.write_listed-answer.ensures.moved (omega (arith, c.write_listed-answer.ensures.len, c.write_listed-answer.ensures.capacity, c.in-Ok.ensures.room)) (omega (arith, c.write_listed-answer.ensures.len, c.in-Ok.ensures.within)) in
     asked_then (λ v. (g.dyn-1.0.entry v).1) c.args.entity host.role _ _ _ all (moved_asked (λ v. (g.dyn-1.0.entry v).1) c.args.entity host.role _ _ c.take_answer.ensures.moves)

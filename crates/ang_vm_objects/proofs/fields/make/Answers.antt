@@ -18,7 +18,7 @@ returns-in-Err-clause-told g c = λ z home number e.
     not_made z home number c.args.class.now e (world_of (λ v. (g.dyn-1.0.entry v).1) c.args.store.now) (objects_of c.make.new.self) (on_err c.make.result _ _ c.in-Err.is c.make.ensures.unchanged)
 
 pub returns-in-Ok-clause-moves : goal.returns-in-Ok-clause-moves
-returns-in-Ok-clause-moves g c = λ roles. moves_heap _ roles c.args.store.now c.make.new.self
+returns-in-Ok-clause-moves g c = λ roles. moves_heap _ roles c.args.store.now c.make.new.self c.make.ensures.counted c.make.ensures.within
 
 pub returns-in-Err-clause-moves : goal.returns-in-Err-clause-moves
-returns-in-Err-clause-moves g c = λ roles. moves_heap _ roles c.args.store.now c.make.new.self
+returns-in-Err-clause-moves g c = λ roles. moves_heap _ roles c.args.store.now c.make.new.self c.make.ensures.counted c.make.ensures.within

@@ -18,11 +18,13 @@ returns g c = record {
             drivers = ready_fresh ss (vec_len c.new-ends.result) (vec_capacity c.new-ends.result) c.requires.fresh c.new-ends.ensures.len;
             alive = sym (live_fresh ss c.requires.fresh);
             none = c.new-ends.ensures.items;
+            due = λ e. absurd (let x : ⊥ = cc in x);
+            tallied = c.new-heap.ensures.counted;
           };
           room = omega (arith, e);
         };
         counted = nothing_counted
-            (record { objects = objects_of c.new-heap.result; hosts = counts_by ss; globals = list_map (λ v. v.items) c.args.modules.items; events = events.items; inputs = [] })
+            (record { objects = objects_of c.new-heap.result; hosts = counts_by ss; globals = list_map (λ v. v.items) c.args.modules.items; events = events.items; spent = false; inputs = [] })
             c.new-heap.ensures.empty (no_counts ss c.requires.fresh) (λ x. empty_globals x c.args.modules.items c.requires.empty);
       };
 }
