@@ -17,7 +17,7 @@ use std::alloc::{AllocError, Global};
 
 /// On what a method is called: the number of the receiver's type, and whether the receiver may not
 /// be changed.
-#[derive(Clone, Copy, PartialEq, Eq, Debug)]
+#[derive(Clone, Copy)]
 pub struct Receiver {
     /// The number of its type.
     pub number: u32,

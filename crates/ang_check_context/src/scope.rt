@@ -20,7 +20,7 @@ pub struct LocalVariable<'a> {
 }
 
 /// The class in whose body an expression stands.
-#[derive(Clone, Copy, PartialEq, Eq, Debug)]
+#[derive(Clone, Copy)]
 pub struct Within {
     /// The class's number among the families.
     pub family: usize,

@@ -6,7 +6,7 @@ use ang_lex::TokenKind;
 use ang_typed::{Comparison, Operator};
 
 /// What an operator with a result of the operands' kind does.
-#[derive(Clone, Copy, PartialEq, Eq, Debug)]
+#[derive(Clone, Copy)]
 pub enum Work {
     /// Works on two integers in their common type.
     Arithmetic(Operator),
@@ -15,7 +15,7 @@ pub enum Work {
 }
 
 /// What a binary operator does.
-#[derive(Clone, Copy, PartialEq, Eq, Debug)]
+#[derive(Clone, Copy)]
 pub enum Form {
     /// Works on two integers.
     Works(Work),

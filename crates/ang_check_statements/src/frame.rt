@@ -6,7 +6,7 @@ use ang_types::ArgType;
 use std::marker::Model;
 
 /// How a body ends.
-#[derive(Clone, Copy, PartialEq, Eq, Debug)]
+#[derive(Clone, Copy)]
 pub enum Returns {
     /// With a value of this type, or with none where it is `void`.
     Value(ArgType),

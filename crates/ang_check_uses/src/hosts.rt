@@ -16,7 +16,7 @@ use ang_view::View;
 use std::alloc::{AllocError, Global};
 
 /// As what a function of the host is called.
-#[derive(Clone, Copy, PartialEq, Eq, Debug)]
+#[derive(Clone, Copy)]
 pub enum HostUse {
     /// By its name.
     Function,

@@ -16,7 +16,7 @@ use ang_types::Candidate;
 use std::alloc::{AllocError, Global};
 
 /// A list of functions that the scripts declare.
-#[derive(Clone, Copy, PartialEq, Eq, Debug)]
+#[derive(Clone, Copy)]
 pub enum Declared {
     /// Those with a body.
     Functions,

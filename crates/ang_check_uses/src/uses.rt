@@ -6,7 +6,7 @@ use ang_typed::{Callee, HostEntity, Variable};
 use ang_types::{ArgType, Candidate};
 
 /// What a call runs.
-#[derive(Clone, Copy, PartialEq, Eq, Debug)]
+#[derive(Clone, Copy)]
 pub enum Called {
     /// A function of the scripts.
     Script(Callee),
@@ -17,7 +17,7 @@ pub enum Called {
 }
 
 /// From where a member may be used.
-#[derive(Clone, Copy, PartialEq, Eq, Debug)]
+#[derive(Clone, Copy)]
 pub struct Reach {
     /// The family that declares the member.
     pub owner: usize,
@@ -39,7 +39,7 @@ pub struct Callable {
 }
 
 /// A value of an enumeration of the host.
-#[derive(Clone, Copy, PartialEq, Eq, Debug)]
+#[derive(Clone, Copy)]
 pub struct EnumerationValue {
     /// Its entry.
     pub entity: EntityNo,

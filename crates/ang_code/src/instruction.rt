@@ -4,7 +4,7 @@ use ang_meaning::{Callee, Change, Operation, Passing, Routine};
 
 /// One instruction. The stack's values are counted from its top, which is 0; a jump says how many
 /// instructions it passes.
-#[derive(Clone, Copy, PartialEq, Eq, Debug)]
+#[derive(Clone, Copy)]
 pub enum Instruction {
     /// Pushes a number or truth value.
     PushBits(u64),
@@ -75,7 +75,7 @@ pub enum Instruction {
 const _: () = prove!(std::mem::size_of::<Instruction>() <= 32);
 
 /// Where a caller goes on.
-#[derive(Clone, Copy, PartialEq, Eq, Debug)]
+#[derive(Clone, Copy)]
 pub struct Frame {
     /// The body.
     pub of: Routine,

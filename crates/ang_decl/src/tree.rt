@@ -5,7 +5,7 @@ use ang_lex::Token;
 use ang_tree::Reference;
 
 /// A type of a host declaration: `[ "const" ] ( PRIMITIVE | "void" | NAME ) [ "@" [ "+" ] [ "const" ] ]`.
-#[derive(Clone, Copy, PartialEq, Eq, Debug)]
+#[derive(Clone, Copy)]
 pub struct HostType {
     /// The word `const`, where it is written.
     pub constant: Option<Token>,
@@ -16,7 +16,7 @@ pub struct HostType {
 }
 
 /// What makes a type a handle: `"@" [ "+" ] [ "const" ]`.
-#[derive(Clone, Copy, PartialEq, Eq, Debug)]
+#[derive(Clone, Copy)]
 pub struct HostHandle {
     /// `@`
     pub at: Token,
@@ -27,7 +27,7 @@ pub struct HostHandle {
 }
 
 /// `type [ "&" [ "in" | "out" | "inout" ] ] [ NAME ]`
-#[derive(Clone, Copy, PartialEq, Eq, Debug)]
+#[derive(Clone, Copy)]
 pub struct HostParameter {
     /// The comma in front of it. The first has none.
     pub comma: Option<Token>,
@@ -40,7 +40,7 @@ pub struct HostParameter {
 }
 
 /// `"(" [ "void" | param { "," param } ] ")"`
-#[derive(Debug, Drop)]
+#[derive(Drop)]
 pub struct HostParameters {
     /// `(`
     pub open: Token,
@@ -53,7 +53,7 @@ pub struct HostParameters {
 }
 
 /// A function, a method or a factory: `type NAME params [ "const" ]`. Only a method has the `const`.
-#[derive(Debug, Drop)]
+#[derive(Drop)]
 pub struct HostFunction {
     /// The result's type.
     pub result: HostType,
@@ -66,7 +66,7 @@ pub struct HostFunction {
 }
 
 /// `type NAME`
-#[derive(Clone, Copy, PartialEq, Eq, Debug)]
+#[derive(Clone, Copy)]
 pub struct HostProperty {
     /// Its type.
     pub declared_type: HostType,

@@ -12,7 +12,7 @@ use std::alloc::{AllocError, Global};
 const FAILED: u32 = 9;
 
 /// How the one asking of a `Faulty` fails that does.
-#[derive(Clone, Copy, PartialEq, Eq, Debug)]
+#[derive(Clone, Copy, Debug)]
 pub enum Failing {
     /// By `Fault(9)`.
     Fault,

@@ -40,7 +40,7 @@ use std::alloc::{AllocError, Global};
 use std::mem;
 
 /// Why a module was not built.
-#[derive(Drop, Debug)]
+#[derive(Drop)]
 pub enum BuildRefused {
     /// Before anything was changed.
     Before(Refusal),

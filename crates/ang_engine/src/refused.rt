@@ -14,7 +14,7 @@ pub struct NewRefused {
 }
 
 /// The causes for which no engine is made.
-#[derive(Clone, Copy, PartialEq, Eq, Debug, Error)]
+#[derive(Clone, Copy, Debug, Error)]
 pub enum NewError {
     /// An entry names a driver that is not in the list.
     #[error("an entry's driver is not in the list")]

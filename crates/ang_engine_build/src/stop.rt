@@ -3,7 +3,7 @@ use ang_kinds::Error;
 use std::alloc::{AllocError, AllocFailed};
 
 /// Why nothing further is read.
-#[derive(Drop, Debug)]
+#[derive(Drop)]
 pub enum Stop {
     /// What is wrong, which is then the only error of the build.
     Fault(Error),

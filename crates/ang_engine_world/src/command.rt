@@ -5,7 +5,7 @@ use ang_kinds::{List, Mask, Value};
 ///
 /// Names and texts are bytes. A `budget` is a number of ticks, from 1 to 2,147,483,647: a tick is
 /// an entry of a script function, or a test of a loop.
-#[derive(Drop, Debug)]
+#[derive(Drop)]
 pub enum Command {
     /// Makes a module without sections, which sees what `mask` meets.
     NewModule {

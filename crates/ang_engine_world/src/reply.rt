@@ -4,7 +4,7 @@ use ang_kinds::{Denial, Error, Fault, List, Value};
 
 /// The answer to one command: what the host was asked meanwhile, what a build refused, and how the
 /// command ended (docs/EMBEDDING.md, "Replies").
-#[derive(Drop, Debug)]
+#[derive(Drop)]
 pub struct Reply {
     /// How the command ended.
     pub outcome: Outcome,
@@ -19,7 +19,7 @@ pub struct Reply {
 }
 
 /// How a command ended.
-#[derive(Clone, Copy, PartialEq, Eq, Debug)]
+#[derive(Clone, Copy)]
 pub enum Outcome {
     /// It was done; a call of a function with a result has its value.
     Done(Option<Value>),
@@ -33,7 +33,7 @@ pub enum Outcome {
 /// Why a command was refused. docs/EMBEDDING.md, "Commands", has the order in which each command
 /// looks for the causes. `Memory` may come in the place of any other, but never from `SetMask` and
 /// `Unbind`.
-#[derive(Clone, Copy, PartialEq, Eq, Debug)]
+#[derive(Clone, Copy)]
 pub enum Refusal {
     /// The name of a new module is no identifier.
     BadName,

@@ -43,7 +43,7 @@ pub struct Heap {
 }
 
 /// There is no room for one place more: the driver's tallies, or the script object's count, have run out.
-#[derive(Clone, Copy, Debug, Drop, PartialEq, Eq)]
+#[derive(Clone, Copy, Drop)]
 pub struct Tally;
 
 impl Heap {

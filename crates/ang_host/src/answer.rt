@@ -5,7 +5,7 @@ use ang_kinds::Value;
 ///
 /// Each answer but `Key` ends the run with a fault: `Nothing` with `NoObject`, `Fault(n)` with `Host(n)`,
 /// `Memory` with `Memory`, and `Full` with `Tally`.
-#[derive(Clone, Copy, PartialEq, Eq, Debug)]
+#[derive(Clone, Copy, PartialEq, Eq)]
 pub enum Made {
     /// The key of a new object, which was not live and is now, with one reference.
     Key(u64),
@@ -45,7 +45,7 @@ pub enum Answer {
 }
 
 /// The answer to one host call, as an event lists it.
-#[derive(Clone, Copy, PartialEq, Eq, Debug)]
+#[derive(Clone, Copy)]
 pub enum HostReply {
     /// The answer to `make`.
     Making(Made),

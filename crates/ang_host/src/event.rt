@@ -3,7 +3,7 @@ use crate::answer::HostReply;
 use ang_kinds::{EntityNo, List, Value};
 
 /// One host call, or the end of an object. A reply lists those of its command in order.
-#[derive(Drop, Debug)]
+#[derive(Drop)]
 pub enum HostEvent {
     /// A driver was asked by `make`, `call`, `read` or `write`, whatever it answered.
     Called {
@@ -31,7 +31,7 @@ pub enum HostEvent {
 
 /// By which method of its driver a registered entry is asked, and with which number `f`. A property's host
 /// call is `write` where it has an argument, and else `read`.
-#[derive(Clone, Copy, PartialEq, Eq, Debug)]
+#[derive(Clone, Copy, PartialEq, Eq)]
 pub enum Role {
     /// A factory: `make`.
     Making(u32),

@@ -90,7 +90,7 @@ pub enum Unbuilt {
 
 /// A hidden entity that a refused use asked for: with it, and the types that its declaration names,
 /// the use would have been that entity's; or one of those types.
-#[derive(Clone, Copy, PartialEq, Eq, Debug)]
+#[derive(Clone, Copy, Debug)]
 pub struct Denial {
     /// The place of the refused use.
     pub place: Place,

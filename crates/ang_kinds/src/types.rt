@@ -3,7 +3,7 @@ use crate::{List, Prim};
 
 /// How a declaration takes an object: the object itself, a handle `T@`, or an auto handle `T@+`,
 /// whose reference the engine holds and gives up (the AngelScript manual's chapter on object handles).
-#[derive(Clone, Copy, PartialEq, Eq, Debug)]
+#[derive(Clone, Copy)]
 pub enum Shape {
     /// `T`
     ByValue,
@@ -14,7 +14,7 @@ pub enum Shape {
 }
 
 /// A type as a declaration spells it.
-#[derive(Debug, Drop)]
+#[derive(Drop)]
 pub enum TypeRef {
     /// `void`
     Void,
@@ -40,7 +40,7 @@ pub enum TypeRef {
 }
 
 /// How an argument is passed.
-#[derive(Clone, Copy, PartialEq, Eq, Debug)]
+#[derive(Clone, Copy, PartialEq, Eq)]
 pub enum Pass {
     /// By value.
     Value,
@@ -53,7 +53,7 @@ pub enum Pass {
 }
 
 /// One parameter of a declaration.
-#[derive(Debug, Drop)]
+#[derive(Drop)]
 pub struct Param {
     /// The type.
     pub ty: TypeRef,
@@ -68,7 +68,7 @@ pub struct Param {
 /// What a declaration says: a name, a result and parameters.
 ///
 /// A property's type is its `result`, and it has no parameters.
-#[derive(Debug, Drop)]
+#[derive(Drop)]
 pub struct Signature {
     /// The declared name.
     pub name: List<u8>,

@@ -3,7 +3,7 @@
 use crate::token::TokenKind;
 
 /// A gap or a token, with its length in bytes.
-#[derive(Clone, Copy, PartialEq, Eq, Debug)]
+#[derive(Clone, Copy)]
 pub enum Piece {
     /// White space or a comment.
     Gap(usize),
@@ -11,7 +11,7 @@ pub enum Piece {
 }
 
 /// Why no gap and no token stands at a point.
-#[derive(Clone, Copy, PartialEq, Eq, Debug)]
+#[derive(Clone, Copy)]
 pub enum Fault {
     TooLong,
     BadByte,

@@ -3,7 +3,7 @@
 use ang_kinds::{Place, Prim};
 
 /// The bytes of a section from `start` up to, and without, `end`. Both count from 0.
-#[derive(Clone, Copy, PartialEq, Eq, Debug)]
+#[derive(Clone, Copy, PartialEq, Eq)]
 pub struct Span {
     /// The number of the first byte: how many bytes of the section stand before it.
     pub start: u32,
@@ -14,7 +14,7 @@ pub struct Span {
 /// A token of a section: what the grammar asks of it, its bytes, and the place of its first byte.
 ///
 /// Its text is the slice of the section at `span`.
-#[derive(Clone, Copy, PartialEq, Eq, Debug)]
+#[derive(Clone, Copy, PartialEq, Eq)]
 pub struct Token {
     /// What the grammar asks of it.
     pub kind: TokenKind,

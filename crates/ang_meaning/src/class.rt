@@ -2,7 +2,7 @@
 use ang_kinds::List;
 
 /// What a field of a script object, or a global, holds while nothing was stored in it.
-#[derive(Clone, Copy, PartialEq, Eq, Debug)]
+#[derive(Clone, Copy)]
 pub enum ValueKind {
     /// A number or truth value: 0 or false.
     Number,
@@ -11,7 +11,7 @@ pub enum ValueKind {
 }
 
 /// What code has to know of a script class to make its objects and to test them.
-#[derive(Debug, Drop)]
+#[derive(Drop)]
 pub struct Class {
     /// The class's number in its module.
     pub number: usize,

@@ -3,7 +3,7 @@ use ang_host::Role;
 use ang_kinds::{List, Prim};
 
 /// How a declared type of a host entity passes between the script and its driver.
-#[derive(Clone, Copy, PartialEq, Eq, Debug)]
+#[derive(Clone, Copy)]
 pub enum HostType {
     /// `void`
     Nothing,
@@ -14,7 +14,7 @@ pub enum HostType {
 }
 
 /// What code has to know of a registered entity to ask it.
-#[derive(Debug, Drop)]
+#[derive(Drop)]
 pub struct HostUse {
     /// The driver's number in the list, from 0.
     pub driver: u32,

@@ -2,7 +2,7 @@
 use ang_kinds::{EntityNo, Prim};
 
 /// What a binary operator on two integers computes (the AngelScript manual, "Expressions").
-#[derive(Clone, Copy, PartialEq, Eq, Debug)]
+#[derive(Clone, Copy, PartialEq, Eq)]
 pub enum Arithmetic {
     /// `+`, which wraps.
     Add,
@@ -29,7 +29,7 @@ pub enum Arithmetic {
 }
 
 /// What a comparison of two numbers tests.
-#[derive(Clone, Copy, PartialEq, Eq, Debug)]
+#[derive(Clone, Copy)]
 pub enum Comparison {
     /// `==`
     Equal,
@@ -47,7 +47,7 @@ pub enum Comparison {
 
 /// How a variable changes by an operand, in a compound assignment, `++` or `--`: its value is brought
 /// to the type `at`, the operation is done there, and the result is brought to the variable's type `to`.
-#[derive(Clone, Copy, PartialEq, Eq, Debug)]
+#[derive(Clone, Copy, PartialEq, Eq)]
 pub struct Change {
     /// The operation, whose first operand is the variable.
     pub work: Arithmetic,
@@ -60,7 +60,7 @@ pub struct Change {
 }
 
 /// A strict operation. Its width and sign are written in it, so no value carries a type.
-#[derive(Clone, Copy, PartialEq, Eq, Debug)]
+#[derive(Clone, Copy)]
 pub enum Operation {
     /// A binary operator on integers, done in that type.
     Work(Arithmetic, Prim),

@@ -3,7 +3,7 @@ use ang_kinds::Prim;
 
 /// A script function, or the body of a global's initializer: the module that it belongs to, and its
 /// number there.
-#[derive(Clone, Copy, PartialEq, Eq, Debug)]
+#[derive(Clone, Copy)]
 pub struct Routine {
     /// The module's number.
     pub home: u32,
@@ -13,7 +13,7 @@ pub struct Routine {
 }
 
 /// What a call names.
-#[derive(Clone, Copy, PartialEq, Eq, Debug)]
+#[derive(Clone, Copy)]
 pub enum Callee {
     /// A function of the running module.
     Own(usize),
@@ -35,7 +35,7 @@ pub enum Passing {
 }
 
 /// Where a variable stands that an `&out` parameter's value moves into.
-#[derive(Clone, Copy, PartialEq, Eq, Debug)]
+#[derive(Clone, Copy)]
 pub enum Spot {
     /// The local of that number, counted from the innermost one, which is 0.
     Local(usize),
@@ -51,7 +51,7 @@ pub enum Spot {
 }
 
 /// A variable that an `&out` parameter's value moves into.
-#[derive(Clone, Copy, PartialEq, Eq, Debug)]
+#[derive(Clone, Copy)]
 pub struct Target {
     /// Where it stands.
     pub spot: Spot,

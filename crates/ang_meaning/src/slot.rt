@@ -1,7 +1,7 @@
 //! What one place of a running script holds.
 
 /// What a local, a parameter, a global, a field or a value in flight holds.
-#[derive(Clone, Copy, PartialEq, Eq, Debug)]
+#[derive(Clone, Copy, PartialEq, Eq)]
 pub enum Slot {
     /// A number or a truth value. A number is kept in one canonical form: the value of its type,
     /// sign-extended to 64 bits where the type is signed and zero-extended where it is not. A truth

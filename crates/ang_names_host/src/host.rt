@@ -13,7 +13,7 @@ use ang_view::{Entry, EntryKind, View, belongs_to};
 use std::alloc::{AllocError, Global};
 
 /// A function, a factory or a method of the host that a module sees.
-#[derive(Debug, Drop)]
+#[derive(Drop)]
 pub struct HostFunction {
     /// Its entry.
     pub entity: EntityNo,
@@ -30,7 +30,7 @@ pub struct HostFunction {
 }
 
 /// A global property or an object property of the host that a module sees.
-#[derive(Clone, Copy, PartialEq, Eq, Debug)]
+#[derive(Clone, Copy)]
 pub struct HostProperty {
     /// Its entry.
     pub entity: EntityNo,

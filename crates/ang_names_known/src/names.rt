@@ -3,7 +3,7 @@ use ang_kinds::{List, Pass, Place};
 use ang_types::ArgType;
 
 /// Where a declaration stands in the scripts of a build. All three count from 0.
-#[derive(Clone, Copy, PartialEq, Eq, Debug)]
+#[derive(Clone, Copy)]
 pub struct Origin {
     /// The section.
     pub script: usize,
@@ -14,7 +14,7 @@ pub struct Origin {
 }
 
 /// A type as it is written, with what it means.
-#[derive(Clone, Copy, PartialEq, Eq, Debug)]
+#[derive(Clone, Copy)]
 pub struct Written {
     /// The type.
     pub ty: ArgType,
@@ -25,7 +25,7 @@ pub struct Written {
 }
 
 /// A parameter of a script's function.
-#[derive(Debug, Drop)]
+#[derive(Drop)]
 pub struct ScriptParameter {
     /// The type, as it is written.
     pub written: Written,
@@ -36,7 +36,7 @@ pub struct ScriptParameter {
 }
 
 /// A function of a script, an import, a method or a constructor.
-#[derive(Debug, Drop)]
+#[derive(Drop)]
 pub struct ScriptFunction {
     /// The name.
     pub name: List<u8>,
@@ -51,7 +51,7 @@ pub struct ScriptFunction {
 }
 
 /// A global variable of a script.
-#[derive(Debug, Drop)]
+#[derive(Drop)]
 pub struct ScriptGlobal {
     /// The name.
     pub name: List<u8>,
@@ -64,7 +64,7 @@ pub struct ScriptGlobal {
 }
 
 /// Who may use a member.
-#[derive(Clone, Copy, PartialEq, Eq, Debug)]
+#[derive(Clone, Copy)]
 pub enum Access {
     /// Any code.
     Public,
@@ -75,7 +75,7 @@ pub enum Access {
 }
 
 /// A field of a class.
-#[derive(Debug, Drop)]
+#[derive(Drop)]
 pub struct Field {
     /// The name.
     pub name: List<u8>,
@@ -90,7 +90,7 @@ pub struct Field {
 }
 
 /// A method of a class or an interface.
-#[derive(Debug, Drop)]
+#[derive(Drop)]
 pub struct Method {
     /// Its name, result and parameters, without the receiver.
     pub function: ScriptFunction,
@@ -110,7 +110,7 @@ pub struct Method {
 }
 
 /// A constructor of a class.
-#[derive(Debug, Drop)]
+#[derive(Drop)]
 pub struct Constructor {
     /// Its parameters; its name is the class's.
     pub function: ScriptFunction,
@@ -119,7 +119,7 @@ pub struct Constructor {
 }
 
 /// A class or an interface.
-#[derive(Debug, Drop)]
+#[derive(Drop)]
 pub struct Family {
     /// The name.
     pub name: List<u8>,
@@ -151,7 +151,7 @@ pub struct Family {
 /// Object types go by number: a seen host type has the number of its entry, and a family 1,024 and its place here.
 /// Bodies are numbered from 0: those of functions, and then those of methods and constructors in the order of families
 /// and members.
-#[derive(Debug, Drop)]
+#[derive(Drop)]
 pub struct Names {
     /// All names that are declared: one for each declaration.
     pub declared: List<List<u8>>,
@@ -166,7 +166,7 @@ pub struct Names {
 }
 
 /// A field as objects of a class have it.
-#[derive(Clone, Copy, PartialEq, Eq, Debug)]
+#[derive(Clone, Copy)]
 pub struct FoundField {
     /// The number of the class that declares it.
     pub owner: usize,
@@ -179,7 +179,7 @@ pub struct FoundField {
 }
 
 /// How an object of a class is made without arguments.
-#[derive(Clone, Copy, PartialEq, Eq, Debug)]
+#[derive(Clone, Copy)]
 pub enum Default {
     /// Not at all: the class has constructors, and none without parameters.
     Missing,

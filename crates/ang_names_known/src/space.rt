@@ -12,7 +12,7 @@ use ang_view::View;
 use std::marker::Model;
 
 /// What a name means as a type.
-#[derive(Clone, Copy, PartialEq, Eq, Debug)]
+#[derive(Clone, Copy)]
 pub enum Named {
     /// Nothing.
     Unknown,

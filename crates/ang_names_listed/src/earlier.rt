@@ -18,7 +18,7 @@ const NAMES: u64 = 0;
 const KEYS: u64 = 1;
 
 /// How many declarations there are of each kind.
-#[derive(Clone, Copy, PartialEq, Eq, Debug)]
+#[derive(Clone, Copy)]
 pub struct Counts {
     /// The classes and interfaces.
     pub families: usize,

@@ -67,7 +67,7 @@ pub enum MemberKind<'a> {
 }
 
 /// The words after a method's parameters.
-#[derive(Clone, Copy, PartialEq, Eq, Debug)]
+#[derive(Clone, Copy)]
 pub struct Attributes {
     /// `const`
     pub read_only: bool,

@@ -2,7 +2,7 @@
 use ang_kinds::Pass;
 
 /// Where a type is written.
-#[derive(Clone, Copy, PartialEq, Eq, Debug)]
+#[derive(Clone, Copy)]
 pub enum Role {
     /// As a function's or a method's result.
     Result,

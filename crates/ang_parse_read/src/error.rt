@@ -6,7 +6,7 @@ use ang_lex::Token;
 use std::alloc::{AllocError, AllocFailed};
 
 /// Why a reader has no answer.
-#[derive(Clone, Copy, Debug)]
+#[derive(Clone, Copy)]
 pub enum ReadError<'a> {
     /// Memory ran out.
     Memory,

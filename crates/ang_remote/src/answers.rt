@@ -30,7 +30,7 @@ pub const NOT_LIVE: u32 = 4_294_967_286;
 pub const MOST_ANSWER: usize = 64;
 
 /// What the host says to a host call, or what is taken for it where it says nothing of a right form.
-#[derive(Clone, Copy, PartialEq, Eq, Debug)]
+#[derive(Clone, Copy)]
 pub enum Said {
     /// `void`.
     Void,

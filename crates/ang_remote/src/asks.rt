@@ -8,7 +8,7 @@ use itoa::Buffer;
 use std::alloc::{AllocError, Global};
 
 /// What is asked.
-#[derive(Clone, Copy, PartialEq, Eq, Debug)]
+#[derive(Clone, Copy)]
 pub enum Kind {
     /// A factory, for an object.
     Make,

@@ -6,7 +6,7 @@ ghost use Rattle.ang_remote.specs.Lines.{IsHeard, IsKeeping, last_of};
 use std::io::Read;
 
 /// What a stream gave in the place of a line.
-#[derive(Clone, Copy, PartialEq, Eq, Debug)]
+#[derive(Clone, Copy, PartialEq, Eq)]
 pub enum Heard {
     /// A line with its LF, which stands after the text that was there.
     Line,
@@ -23,7 +23,7 @@ pub enum Heard {
 }
 
 /// Why no byte came.
-#[derive(Clone, Copy, PartialEq, Eq, Debug)]
+#[derive(Clone, Copy)]
 struct NotRead;
 
 /// The next byte. None at the end of the stream.

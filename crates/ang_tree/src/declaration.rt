@@ -52,7 +52,7 @@ pub struct Class {
 }
 
 /// A name in the list of a class or an interface after `:`.
-#[derive(Clone, Copy, PartialEq, Eq, Debug)]
+#[derive(Clone, Copy)]
 pub struct BaseName {
     /// `:` in front of the first name, `,` in front of each other.
     pub separator: Token,
@@ -121,7 +121,7 @@ pub struct Constructor {
 }
 
 /// The name of one of several fields of one type.
-#[derive(Clone, Copy, PartialEq, Eq, Debug)]
+#[derive(Clone, Copy)]
 pub struct FieldName {
     /// The comma in front of it. The first has none.
     pub comma: Option<Token>,
@@ -218,7 +218,7 @@ pub struct Parameters {
 }
 
 /// `type [ "&" [ "in" | "out" | "inout" ] ] [ NAME ]`
-#[derive(Clone, Copy, PartialEq, Eq, Debug)]
+#[derive(Clone, Copy)]
 pub struct Parameter {
     /// The comma in front of it. The first has none.
     pub comma: Option<Token>,
@@ -231,7 +231,7 @@ pub struct Parameter {
 }
 
 /// `"&" [ "in" | "out" | "inout" ]`
-#[derive(Clone, Copy, PartialEq, Eq, Debug)]
+#[derive(Clone, Copy)]
 pub struct Reference {
     /// The `&`.
     pub ampersand: Token,

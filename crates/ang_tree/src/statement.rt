@@ -64,7 +64,7 @@ pub struct Simple {
 }
 
 /// `break` or `continue`.
-#[derive(Clone, Copy, PartialEq, Eq, Debug)]
+#[derive(Clone, Copy)]
 pub struct Jump {
     /// The word.
     pub word: Token,

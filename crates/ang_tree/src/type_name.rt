@@ -3,7 +3,7 @@
 use ang_lex::Token;
 
 /// A type: `[ "const" ] ( PRIMITIVE | "void" | NAME ) [ "@" [ "const" ] ]`.
-#[derive(Clone, Copy, PartialEq, Eq, Debug)]
+#[derive(Clone, Copy)]
 pub struct TypeName {
     /// The word `const` in front of the type, where it is written.
     pub constant: Option<Token>,
@@ -14,7 +14,7 @@ pub struct TypeName {
 }
 
 /// What makes a type a handle: `"@" [ "const" ]`.
-#[derive(Clone, Copy, PartialEq, Eq, Debug)]
+#[derive(Clone, Copy, PartialEq, Eq)]
 pub struct Handle {
     /// `@`
     pub at: Token,

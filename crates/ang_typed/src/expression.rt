@@ -4,7 +4,7 @@ use ang_kinds::{EntityNo, Prim};
 use ang_types::ArgType;
 
 /// A registered entity that a use was resolved to, and how the host is asked for it.
-#[derive(Clone, Copy, PartialEq, Eq, Debug)]
+#[derive(Clone, Copy)]
 pub struct HostEntity {
     /// Its number in the registration list, which host events and masks speak of.
     pub entity: EntityNo,
@@ -15,7 +15,7 @@ pub struct HostEntity {
 }
 
 /// What a bare name stands for, where it can be read and written.
-#[derive(Clone, Copy, PartialEq, Eq, Debug)]
+#[derive(Clone, Copy)]
 pub enum Variable {
     /// A parameter or local of the function, by its number.
     Local(usize),
@@ -29,7 +29,7 @@ pub enum Variable {
 }
 
 /// What of an object can be read and written.
-#[derive(Clone, Copy, PartialEq, Eq, Debug)]
+#[derive(Clone, Copy)]
 pub enum Member {
     /// A field of a script's class, by its number, those of the base class first.
     Field(usize),
@@ -38,7 +38,7 @@ pub enum Member {
 }
 
 /// Which function of the scripts is called.
-#[derive(Clone, Copy, PartialEq, Eq, Debug)]
+#[derive(Clone, Copy)]
 pub enum Callee {
     /// A body of the module, by its number in `Typed::functions`: a function, a constructor, or a method that is
     /// named by its class.
@@ -66,7 +66,7 @@ pub enum Site {
 }
 
 /// An operator on two integers of one type, with a result of that type.
-#[derive(Clone, Copy, PartialEq, Eq, Debug)]
+#[derive(Clone, Copy)]
 pub enum Operator {
     /// `+`, which wraps.
     Add,
@@ -94,7 +94,7 @@ pub enum Operator {
 }
 
 /// A comparison of two values of one type.
-#[derive(Clone, Copy, PartialEq, Eq, Debug)]
+#[derive(Clone, Copy)]
 pub enum Comparison {
     /// `==`, of integers or of two `bool`.
     Equal,
@@ -111,7 +111,7 @@ pub enum Comparison {
 }
 
 /// What `++` and `--` do to a variable, and which of its values they give.
-#[derive(Clone, Copy, PartialEq, Eq, Debug)]
+#[derive(Clone, Copy)]
 pub enum StepKind {
     /// `++x`: one more, and the value is the new one.
     IncrementBefore,

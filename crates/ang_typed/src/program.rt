@@ -59,7 +59,7 @@ pub struct Function {
 }
 
 /// A parameter.
-#[derive(Clone, Copy, PartialEq, Eq, Debug)]
+#[derive(Clone, Copy)]
 pub struct Parameter {
     /// The type of the values that it holds.
     pub ty: ArgType,

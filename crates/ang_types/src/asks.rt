@@ -9,7 +9,7 @@ use ang_kinds::{Error, List};
 /// Host types go by their numbers.
 ///
 /// The name itself is that of the error that holds it (`Refused`).
-#[derive(Debug, Drop)]
+#[derive(Drop)]
 pub enum Asks {
     /// A variable: its value is read, or it is written.
     Value,
@@ -30,7 +30,7 @@ pub enum Asks {
 }
 
 /// Why a declaration, a body or an initializer is refused.
-#[derive(Debug, Drop)]
+#[derive(Drop)]
 pub struct Refused {
     /// The error.
     pub error: Error,

@@ -3,7 +3,7 @@ use crate::ArgType;
 use ang_kinds::{List, Pass};
 
 /// A function that a call may mean.
-#[derive(Debug, Drop)]
+#[derive(Drop)]
 pub struct Candidate {
     /// The type and the passing of each parameter, in order. A method's receiver comes first, as an
     /// object of the receiver's own type, which is read only where the method is `const`.
@@ -11,7 +11,7 @@ pub struct Candidate {
 }
 
 /// What became of a resolution.
-#[derive(Clone, Copy, PartialEq, Eq, Debug)]
+#[derive(Clone, Copy, PartialEq, Eq)]
 pub enum Pick {
     /// The candidate at this place, from 0, is the best.
     One(usize),

@@ -7,7 +7,7 @@ use std::marker::Model;
 /// For each object type, by its number, the numbers of the types above it: of a class its base classes
 /// and their bases, and all its interfaces and theirs; of an interface the interfaces that it extends.
 /// Whether a type is listed above itself makes no difference.
-#[derive(Debug, Drop)]
+#[derive(Drop)]
 pub struct Lineage {
     above: Vec<Vec<u32>>,
 }

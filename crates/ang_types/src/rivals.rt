@@ -13,7 +13,7 @@ use std::marker::Model;
 
 /// What is kept of the candidates of a use: for each argument the least rank of it among the viable ones, and
 /// whether one viable candidate has all of these.
-#[derive(Debug, Drop)]
+#[derive(Drop)]
 pub struct Rivals {
     least: Vec<Option<u8>>,
     tied: bool,

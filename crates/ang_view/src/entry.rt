@@ -3,7 +3,7 @@
 use ang_kinds::{EntityNo, Mask, Signature};
 
 /// What an entry of the registration list is.
-#[derive(Clone, Copy, PartialEq, Eq, Debug)]
+#[derive(Clone, Copy, PartialEq, Eq)]
 pub enum EntryKind {
     /// A type of host objects.
     HostType,
@@ -26,7 +26,7 @@ pub enum EntryKind {
 /// One entry of the registration list. Its name is its signature's.
 ///
 /// A field that an entry's kind has no use for is 0, `Void`, empty, false or none.
-#[derive(Debug, Drop)]
+#[derive(Drop)]
 pub struct Entry {
     /// What it is.
     pub kind: EntryKind,

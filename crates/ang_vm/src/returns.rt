@@ -24,7 +24,7 @@ use ang_vm_stack::stack::{peek, push};
 use ang_vm_steps::many::{give_top, give_top_in_line, nothing_lives};
 
 /// What a body leaves.
-#[derive(Clone, Copy, PartialEq, Eq, Debug)]
+#[derive(Clone, Copy)]
 pub struct Parted {
     /// The value that it gives.
     pub value: Slot,

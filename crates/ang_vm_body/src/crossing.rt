@@ -7,7 +7,7 @@ use ang_meaning::Callee;
 use ang_vm_stack::place::{Pause, Place};
 
 /// Why a body goes no further at a place.
-#[derive(Clone, Copy, PartialEq, Eq, Debug)]
+#[derive(Clone, Copy)]
 pub enum Crossing {
     /// A function is entered.
     Enters(Callee),

@@ -10,7 +10,7 @@ use ang_kinds::Fault;
 use ang_meaning::{Change, Slot};
 
 /// What a change stores into its variable, and what its expression gives.
-#[derive(Clone, Copy, PartialEq, Eq, Debug)]
+#[derive(Clone, Copy)]
 pub struct Altered {
     /// The variable's new value.
     pub stored: u64,

@@ -3,7 +3,7 @@ use ang_kinds::Fault;
 use ang_meaning::{Callee, Routine, Slot};
 
 /// Where a body stands.
-#[derive(Clone, Copy, PartialEq, Eq, Debug)]
+#[derive(Clone, Copy, PartialEq, Eq)]
 pub struct Place {
     /// The number of its next instruction.
     pub at: usize,
@@ -14,7 +14,7 @@ pub struct Place {
 }
 
 /// The running body, and where it stands.
-#[derive(Clone, Copy, PartialEq, Eq, Debug)]
+#[derive(Clone, Copy)]
 pub struct Standing {
     /// The body.
     pub body: Routine,
@@ -25,7 +25,7 @@ pub struct Standing {
 }
 
 /// Why a body pauses.
-#[derive(Clone, Copy, PartialEq, Eq, Debug)]
+#[derive(Clone, Copy)]
 pub enum Pause {
     /// Its next instruction calls a function.
     Enters(Place, Callee),
@@ -38,7 +38,7 @@ pub enum Pause {
 }
 
 /// How a run ends.
-#[derive(Clone, Copy, PartialEq, Eq, Debug)]
+#[derive(Clone, Copy)]
 pub enum Ending {
     /// With a value and the ticks that are left.
     Gives(Slot, u64),

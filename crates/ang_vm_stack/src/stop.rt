@@ -2,7 +2,7 @@
 use ang_kinds::Fault;
 
 /// Why the machine stops at an instruction.
-#[derive(Clone, Copy, PartialEq, Eq, Debug)]
+#[derive(Clone, Copy)]
 pub enum Stop {
     /// The script faults. The values in use are still held.
     Fails(Fault),

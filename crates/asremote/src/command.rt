@@ -36,7 +36,7 @@ const FORMATS: &str =
     and the exit status.";
 
 /// What the command line says.
-#[derive(Debug, Drop)]
+#[derive(Drop)]
 pub struct Options {
     /// The path of the profile.
     pub profile: String,

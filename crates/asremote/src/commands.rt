@@ -12,7 +12,7 @@ use std::io::Read;
 const MOST_COMMAND: usize = 16_777_216;
 
 /// What was read in the place of a command.
-#[derive(Clone, Copy, PartialEq, Eq, Debug)]
+#[derive(Clone, Copy)]
 pub enum Next {
     /// A line, with those of its section; another may follow.
     Command,

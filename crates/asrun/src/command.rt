@@ -42,7 +42,7 @@ A session of four commands, one of which has a line of script:
 docs/FORMATS.md has all lines, what is printed and the exit status; crates/examples/data has more.";
 
 /// What the command line says.
-#[derive(Debug, Drop)]
+#[derive(Drop)]
 pub struct Options {
     /// The path of the profile.
     pub profile: String,

@@ -5,7 +5,7 @@ use std::alloc::AllocError;
 use thiserror::Error;
 
 /// How a session ended that was read and written without a fault.
-#[derive(Clone, Copy, PartialEq, Eq, Debug)]
+#[derive(Clone, Copy, PartialEq, Eq)]
 pub enum Status {
     /// Every command ended in `ok`.
     AllOk,
@@ -29,7 +29,7 @@ pub enum IoFault {
 }
 
 /// What stops a session before its end.
-#[derive(Clone, Copy, PartialEq, Eq, Debug, Error)]
+#[derive(Clone, Copy, Debug, Error)]
 pub enum Stop {
     /// A fault of a reader or of the writer.
     #[error(transparent)]

@@ -9,7 +9,7 @@ use ang_registry::{RegError, Registry};
 use asrun_lines::{ProfileLine, first_line, is_skipped, profile_line, shown};
 
 /// What ends a run at a line of a profile. Lines are numbered from 1.
-#[derive(Clone, Copy, PartialEq, Eq, Debug)]
+#[derive(Clone, Copy)]
 pub enum ProfileFault {
     /// The line is of another form.
     BadLine(u64),
@@ -18,7 +18,7 @@ pub enum ProfileFault {
 }
 
 /// Why a profile was not loaded.
-#[derive(Clone, Copy, PartialEq, Eq, Debug)]
+#[derive(Clone, Copy)]
 pub enum ProfileStop {
     /// One of its lines ends the run.
     Fault(ProfileFault),

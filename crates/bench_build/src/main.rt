@@ -26,7 +26,7 @@ use std::time::Instant;
 const SMALL: &str = "void first() { put(1); put(2 - 3); }\nvoid second() {}\n";
 
 /// How far a turn goes.
-#[derive(Clone, Copy, PartialEq, Eq)]
+#[derive(Clone, Copy)]
 enum Stage {
     Parsed,
     Declared,

@@ -64,8 +64,8 @@ fn taking(alloc: Global, types: &[ArgType]) -> Result<ScriptFunction, AllocError
 
 fn are_bits(slots: &[Slot], bits: &[u64]) -> bool {
     for (i, slot) in slots.iter().enumerate() {
-        match bits.get(i) {
-            Some(bits) if *slot == Slot::Bits(*bits) => {}
+        match (*slot, bits.get(i)) {
+            (Slot::Bits(given), Some(bits)) if given == *bits => {}
             _ => return false,
         }
     }

@@ -3,7 +3,7 @@ use ang_code::{Instruction, RoutineCode};
 use ang_gen_body::generate_module;
 use ang_kinds::{List, Pass, Prim};
 use ang_lower::lower;
-use ang_meaning::{Arithmetic, Change, Comparison as Test, Operation, Passing};
+use ang_meaning::{Arithmetic, Callee, Change, Comparison as Test, Operation, Passing};
 use ang_typed::{
     Block, Comparison, Expression, Function, Global as GlobalVariable, Loop, Parameter, Site,
     Statement, StepKind, Typed, Variable,
@@ -151,13 +151,64 @@ const INITIALIZER: Code = (
 
 const CODES: [Code; 2] = [LOOPING, INITIALIZER];
 
+fn is_same_operation(one: Operation, other: Operation) -> bool {
+    match (one, other) {
+        (Operation::Work(one, at), Operation::Work(other, its)) => one == other && at == its,
+        (Operation::Compare(Test::Less, one), Operation::Compare(Test::Less, other)) => {
+            one == other
+        }
+        (Operation::GlobalSet(one), Operation::GlobalSet(other)) => one == other,
+        _ => false,
+    }
+}
+
+/// Whether two instructions are the same, of the forms that are wanted here.
+fn is_same(one: Instruction, other: Instruction) -> bool {
+    match (one, other) {
+        (Instruction::PushBits(one), Instruction::PushBits(other)) => one == other,
+        (Instruction::Load(one), Instruction::Load(other)) => one == other,
+        (Instruction::Change(by, to), Instruction::Change(other, its)) => by == other && to == its,
+        (Instruction::Do(one), Instruction::Do(other)) => is_same_operation(one, other),
+        (Instruction::Drop, Instruction::Drop) => true,
+        (Instruction::Leave(one), Instruction::Leave(other)) => one == other,
+        (Instruction::SkipIfFalse(one), Instruction::SkipIfFalse(other)) => one == other,
+        (Instruction::GoOn(one), Instruction::GoOn(other)) => one == other,
+        (Instruction::Tick, Instruction::Tick) => true,
+        (Instruction::Back(one), Instruction::Back(other)) => one == other,
+        (Instruction::Enter(Callee::Own(one)), Instruction::Enter(Callee::Own(other))) => {
+            one == other
+        }
+        (
+            Instruction::Swap { to, under, with },
+            Instruction::Swap {
+                to: its,
+                under: below,
+                with: at,
+            },
+        ) => to == its && under == below && with == at,
+        (Instruction::DropUnder(one), Instruction::DropUnder(other)) => one == other,
+        (Instruction::Return(one), Instruction::Return(other)) => one == other,
+        _ => false,
+    }
+}
+
+fn is_text(text: &[Instruction], want: &[Instruction]) -> bool {
+    for (at, one) in text.iter().enumerate() {
+        match want.get(at) {
+            Some(other) if is_same(*one, *other) => {}
+            _ => return false,
+        }
+    }
+    text.len() == want.len()
+}
+
 fn is_code(code: &RoutineCode, want: Option<&Code>) -> bool {
     match want {
         Some((params, ty, height, text)) => {
             code.params.as_slice() == *params
                 && code.result == *ty
                 && code.height == *height
-                && code.text.as_slice() == *text
+                && is_text(code.text.as_slice(), text)
         }
         None => false,
     }

@@ -53,7 +53,7 @@ const WORKS: [(Arithmetic, Prim, u64, u64, Result<u64, Fault>); 8] = [
 #[test]
 fn operators(rt: HostRuntime) {
     for (what, at, x, y, want) in WORKS {
-        assert!(rt; work(what, at, x, y) == want, "{what:?} of {x} and {y}");
+        assert!(rt; work(what, at, x, y) == want, "{x} and {y}");
     }
 }
 

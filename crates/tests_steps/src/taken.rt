@@ -652,7 +652,7 @@ fn is_same(step: Step, wanted: Step) -> bool {
             to == other && under == its && with == at
         }
         (Step::Same(one, two), Step::Same(other, its)) => one == other && two == its,
-        (Step::Enter(callee), Step::Enter(other)) => callee == other,
+        (Step::Enter(Callee::Own(number)), Step::Enter(Callee::Own(other))) => number == other,
         (Step::Return(count), Step::Return(other)) => count == other,
         (Step::ReturnNothing(count), Step::ReturnNothing(other)) => count == other,
         _ => match ends(wanted) {
