@@ -8,11 +8,11 @@ use Rattle.ang_view.specs.Registration.{RegistrationList, seen}
 use Rattle.ang_names_known.specs.declared.names.Names.{Names}
 use Rattle.ang_names_known.specs.Items.{list_or}
 use Rattle.ang_names_listed.specs.Declarations.{declarations_of, families_of}
-use Rattle.ang_names_written.specs.Sources.{Source}
+use Rattle.ang_names_listed.specs.Sources.{Source}
 use Rattle.ang_names.specs.Phases.{errors_in, refusals_of}
-use Rattle.ang_names_resolved.specs.Resolved.{names_of}
+use Rattle.ang_names_classes.specs.Resolved.{names_of}
 use Rattle.ang_names.proofs.Few.{asked_families}
-use Rattle.ang_check_bodies.specs.Bodies.{body_refusals}
+use Rattle.ang_check.specs.Bodies.{body_refusals}
 use Rattle.ang_check_uses.specs.Uses.{Scope}
 use Rattle.ang_check_denials.specs.Denials.{rows_asked, rows_for}
 use Rattle.ang_check.specs.Denials.{AreErrors, denials_of, scope_over, script_refusals, some_ask}

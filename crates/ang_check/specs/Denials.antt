@@ -12,10 +12,10 @@ use Rattle.ang_names_known.specs.Items.{list_or}
 use Rattle.ang_names_known.specs.Spaces.{ancestors_of}
 use Rattle.ang_names_listed.specs.Declarations.{declarations_of}
 use Rattle.ang_names.specs.Phases.{refusals_of, errors_in}
-use Rattle.ang_names_resolved.specs.Resolved.{names_of}
-use Rattle.ang_names_written.specs.Sources.{Source}
+use Rattle.ang_names_classes.specs.Resolved.{names_of}
+use Rattle.ang_names_listed.specs.Sources.{Source}
 use Rattle.ang_check_uses.specs.Uses.{Scope}
-use Rattle.ang_check_bodies.specs.Bodies.{body_refusals}
+use Rattle.ang_check.specs.Bodies.{body_refusals}
 use Rattle.ang_check_denials.specs.Denials.{denied, row, rows_for}
 
 -- ---- what is refused

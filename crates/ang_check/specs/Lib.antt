@@ -1,1 +1,5 @@
+pub mod Typing
+pub mod View
+pub mod Bodies
+pub mod Judging
 pub mod Denials

@@ -1,13 +1,13 @@
 //! The resolved tree of a build, or its errors.
 ghost use Rattle.std.specs.Prelude.{◌≡◌, [], IfOk, IfErr, OnOk, map as list_map};
 ghost use Rattle.ang_typed.specs.View.{view_typed};
-ghost use Rattle.ang_check_bodies.specs.Bodies as bodies;
+ghost use Rattle.ang_check.specs.Bodies as bodies;
 ghost use Rattle.ang_names_listed.specs.Declarations.{declarations_of};
 ghost use Rattle.ang_names.specs.Phases.{IsRefused, errors_in, refusals_of};
-ghost use Rattle.ang_names_resolved.specs.Resolved.{names_of};
-ghost use Rattle.ang_names_written.specs.Sources.{source_of};
+ghost use Rattle.ang_names_classes.specs.Resolved.{names_of};
+ghost use Rattle.ang_names_listed.specs.Sources.{source_of};
 
-use ang_check_bodies::{Judged, judge};
+use crate::{Judged, judge};
 use ang_kinds::Unbuilt;
 use ang_names::unbuilt;
 use ang_names_known::Names;

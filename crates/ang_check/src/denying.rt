@@ -4,14 +4,14 @@ ghost use Rattle.std.specs.List.{flat_map};
 ghost use Rattle.ang_view.specs.Registration.{seen};
 ghost use Rattle.ang_names_listed.specs.Declarations.{declarations_of};
 ghost use Rattle.ang_names_known.specs.Spaces.{AreFamilies};
-ghost use Rattle.ang_names_written.specs.Sources.{source_of};
+ghost use Rattle.ang_names_listed.specs.Sources.{source_of};
 ghost use Rattle.ang_names.specs.Phases.{refusals_of};
-ghost use Rattle.ang_names_resolved.specs.Resolved.{names_of};
-ghost use Rattle.ang_check_bodies.specs.Bodies.{body_refusals};
+ghost use Rattle.ang_names_classes.specs.Resolved.{names_of};
+ghost use Rattle.ang_check.specs.Bodies.{body_refusals};
 ghost use Rattle.ang_check_denials.specs.Denials.{rows_for};
 ghost use Rattle.ang_check.specs.Denials as spec;
 
-use ang_check_bodies::judge;
+use crate::judge;
 use ang_check_denials::{Masked, denied};
 use ang_check_uses::Scope;
 use ang_kinds::{Denial, Error, Mask};

@@ -15,7 +15,7 @@ use Rattle.ang_names_known.specs.declared.names.Names.{Names}
 use Rattle.ang_names_known.specs.declared.names.ScriptFunction.{ScriptFunction}
 use Rattle.ang_names_known.specs.declared.names.ScriptGlobal.{ScriptGlobal}
 use Rattle.ang_names_known.specs.Lookup.{default_of}
-use Rattle.ang_check_operand.specs.Operands.{Operand}
+use Rattle.ang_check_operators.specs.Operands.{Operand}
 use Rattle.ang_check_context.specs.declared.scope.LocalVariable.{LocalVariable}
 use Rattle.ang_check_context.specs.declared.scope.Within.{Within}
 use Rattle.ang_check_context.specs.Scope.{BodyContext}
@@ -23,8 +23,8 @@ use Rattle.ang_check_uses.specs.declared.uses.Resolution.{Resolution}
 use Rattle.ang_check_uses.specs.declared.uses.Resolution.TheVariants as resolution
 use Rattle.ang_check_typing.specs.Calls.{arguments_for}
 use Rattle.ang_check_typing.specs.Typing.{typing_of_args}
-use Rattle.ang_check_statements.specs.Typing.{block_typing, stmts_typing, initializer_typing}
-use Rattle.ang_check_body.specs.Typing.{parameter_local, typed_parameters, this_local, this_parameter, is_void, ending, frame_of, function_typing, method_body_typing, super_chosen, super_by, super_typing, default_base, implicit_super, base_typing, maker_frame, constructor_typing, global_typing}
+use Rattle.ang_check_stmt.specs.Typing.{block_typing, stmts_typing, initializer_typing}
+use Rattle.ang_check.specs.Typing.{parameter_local, typed_parameters, this_local, this_parameter, is_void, ending, frame_of, function_typing, method_body_typing, super_chosen, super_by, super_typing, default_base, implicit_super, base_typing, maker_frame, constructor_typing, global_typing}
 use Rattle.ang_check_asked.proofs.Judged.{Silent, silent_in, either_silent}
 use Rattle.ang_check_asked.proofs.Calls.{arguments_silent}
 use Rattle.ang_check_asked.proofs.Expressions.{args_use}

@@ -13,9 +13,9 @@ use Rattle.ang_types.specs.Ranks.{Ancestors}
 use Rattle.ang_typed.specs.declared.expression.Variable.{Variable}
 use Rattle.ang_names_known.specs.Lookup.{FoundMethod, may_use}
 use Rattle.ang_names_known.specs.Spaces.{family_type, family_of_type}
-use Rattle.ang_names_written.specs.Sources.{text_of}
-use Rattle.ang_check_operand.specs.Operands.{Operand, fit, integer, object_of, site_in}
-use Rattle.ang_check_operand.specs.Refusals.{Typing, fault}
+use Rattle.ang_names_listed.specs.Sources.{text_of}
+use Rattle.ang_check_operators.specs.Operands.{Operand, fit, integer, object_of, site_in}
+use Rattle.ang_check_operators.specs.Refusals.{Typing, fault}
 use Rattle.ang_check_context.specs.declared.scope.LocalVariable.{LocalVariable}
 use Rattle.ang_check_context.specs.declared.scope.Within.{Within}
 use Rattle.ang_check_context.specs.Access.{if_in_reach}

@@ -25,13 +25,13 @@ use Rattle.ang_names_listed.specs.declared.listed.Part.TheVariants as part
 use Rattle.ang_names_listed.specs.declared.listed.Shape.{Shape}
 use Rattle.ang_names_listed.specs.Declarations.{Declaring, declarations_of, families_of}
 use Rattle.ang_names_listed.specs.Taken.{is_taken, is_first_above, name_refusal}
-use Rattle.ang_names_tables.specs.Headings.{parameter_role}
-use Rattle.ang_names_resolved.specs.Resolved.{families_in, space_of_declared}
-use Rattle.ang_names_written.specs.declared.role.Role.{Role}
-use Rattle.ang_names_written.specs.declared.role.Role.TheVariants as role
-use Rattle.ang_names_written.specs.Sources.{Source, text_of}
-use Rattle.ang_names_written.specs.Types.{TypeOrError, type_in}
-use Rattle.ang_names_heirs.specs.Heirs.{at_name, ancestor_refusal, of_interfaces, missing_among, missing_by, missing_method, inherits, field_refusal, overridden, is_bad_override, method_refusal, first_refused, is_before, earlier, class_refusal, heir_refusal, cycle_refusal}
+use Rattle.ang_names_classes.specs.Headings.{parameter_role}
+use Rattle.ang_names_classes.specs.Resolved.{families_in, space_of_declared}
+use Rattle.ang_names_listed.specs.declared.role.Role.{Role}
+use Rattle.ang_names_listed.specs.declared.role.Role.TheVariants as role
+use Rattle.ang_names_listed.specs.Sources.{Source, text_of}
+use Rattle.ang_names_listed.specs.Types.{TypeOrError, type_in}
+use Rattle.ang_names.specs.Heirs.{at_name, ancestor_refusal, of_interfaces, missing_among, missing_by, missing_method, inherits, field_refusal, overridden, is_bad_override, method_refusal, first_refused, is_before, earlier, class_refusal, heir_refusal, cycle_refusal}
 use Rattle.ang_names.specs.Refusals.{refusal_if, why_refused, most_parameters, parameter_limit, type_refusal_of, parameters_refusal, parameter_list_refusal, result_role, heading_refusal, clashes_with_member, duplicate, member_refusal, members_refusal, most_members, shape_named, names_class, is_bad_base, bases_refusal, member_limit, family_refusal, part_refusal, type_refusal}
 use Rattle.ang_names.specs.Phases.{Phase, Names, Types, Ancestors, Heirs, Cycles, with_number, of_family, refusal, refusals, first_refusals, all_phases, refusals_of}
 use Rattle.ang_check_uses.specs.Uses.{Scope, type_meant}

@@ -2,8 +2,8 @@
 use Rattle.std.specs.Prelude.{◌≡◌, Bool, true, false, if◌then◌else◌, None, IfSome, Ok, Err, IfErr}
 use Rattle.std.proofs.Common.{sym, subst}
 use Rattle.ang_types.specs.declared.asks.Asks.{Asks}
-use Rattle.ang_check_operand.specs.declared.refusal.Refusal.{Refusal}
-use Rattle.ang_check_operand.specs.Refusals.{Typing, ◌>>=◌}
+use Rattle.ang_check_operators.specs.declared.refusal.Refusal.{Refusal}
+use Rattle.ang_check_operators.specs.Refusals.{Typing, ◌>>=◌}
 
 pub refused_in : {A B : Type 0} (P : Refusal → Type 0) (x : Typing A) (f : A → Typing B)
     → IfErr x P → ((a : A) → IfErr (f a) P) → IfErr (x >>= f) P

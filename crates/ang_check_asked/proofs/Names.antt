@@ -11,16 +11,16 @@ use Rattle.ang_types.specs.declared.asks.Asks.{Asks}
 use Rattle.ang_types.specs.declared.asks.Asks.TheVariants as asks
 use Rattle.ang_names_known.specs.declared.names.Access.{Access}
 use Rattle.ang_names_known.specs.declared.names.FoundField.{FoundField}
-use Rattle.ang_names_host.specs.declared.host.WantedProperty.TheVariants as property
-use Rattle.ang_names_host.specs.Host.{property_where}
+use Rattle.ang_names_known.specs.declared.host.WantedProperty.TheVariants as property
+use Rattle.ang_names_known.specs.Host.{property_where}
 use Rattle.ang_names_known.specs.Lookup.{field_named, may_use}
 use Rattle.ang_names_known.specs.Spaces.{family_of_type, type_of_name}
-use Rattle.ang_names_written.specs.declared.role.Role.{Role}
-use Rattle.ang_names_written.specs.declared.role.Role.TheVariants as role
-use Rattle.ang_names_written.specs.Sources.{text_of}
-use Rattle.ang_names_written.specs.Types.{TypeOrError, type_in}
-use Rattle.ang_check_operand.specs.Operands.{Operand, object_of}
-use Rattle.ang_check_operand.specs.Refusals.{Typing, use_refused}
+use Rattle.ang_names_listed.specs.declared.role.Role.{Role}
+use Rattle.ang_names_listed.specs.declared.role.Role.TheVariants as role
+use Rattle.ang_names_listed.specs.Sources.{text_of}
+use Rattle.ang_names_listed.specs.Types.{TypeOrError, type_in}
+use Rattle.ang_check_operators.specs.Operands.{Operand, object_of}
+use Rattle.ang_check_operators.specs.Refusals.{Typing, use_refused}
 use Rattle.ang_check_context.specs.declared.scope.LocalVariable.{LocalVariable}
 use Rattle.ang_check_context.specs.declared.scope.Within.{Within}
 use Rattle.ang_check_context.specs.Access.{if_reached}

@@ -9,12 +9,12 @@ use Rattle.ang_types.specs.Best.{best_of}
 use Rattle.ang_types.specs.Ranks.{Ancestors}
 use Rattle.ang_view.specs.Named.{values_named}
 use Rattle.ang_view.specs.Registration.{RegistrationList}
-use Rattle.ang_names_host.specs.declared.host.HostProperty.{HostProperty}
-use Rattle.ang_names_host.specs.declared.host.WantedProperty.TheVariants as property
+use Rattle.ang_names_known.specs.declared.host.HostProperty.{HostProperty}
+use Rattle.ang_names_known.specs.declared.host.WantedProperty.TheVariants as property
 use Rattle.ang_names_known.specs.declared.names.ScriptGlobal.{ScriptGlobal}
 use Rattle.ang_names_known.specs.declared.space.Named.{Named}
 use Rattle.ang_names_known.specs.declared.space.Named.TheVariants as named
-use Rattle.ang_names_host.specs.Host.{property_where}
+use Rattle.ang_names_known.specs.Host.{property_where}
 use Rattle.ang_names_known.specs.Items.{is_empty}
 use Rattle.ang_names_known.specs.Lookup.{global_named}
 use Rattle.ang_names_known.specs.Spaces.{type_of_name, space_of_names}

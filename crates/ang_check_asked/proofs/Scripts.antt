@@ -17,19 +17,19 @@ use Rattle.ang_names_known.specs.Items.{each_after}
 use Rattle.ang_names_known.specs.Spaces.{Space, space_of_names}
 use Rattle.ang_names_listed.specs.declared.listed.Declared.{Declared}
 use Rattle.ang_names_listed.specs.Declarations.{Declaring, declarations_of, families_of, family_name}
-use Rattle.ang_names_tables.specs.Headings.{signatures_of}
-use Rattle.ang_names_resolved.specs.Resolved.{families_after, functions_in, families_in, names_of, space_of_declared}
-use Rattle.ang_names_written.specs.Sources.{Source, name_of}
+use Rattle.ang_names_classes.specs.Headings.{signatures_of}
+use Rattle.ang_names_classes.specs.Resolved.{families_after, functions_in, families_in, names_of, space_of_declared}
+use Rattle.ang_names_listed.specs.Sources.{Source, name_of}
 use Rattle.ang_names.specs.Phases.{refusals_of}
-use Rattle.ang_check_operand.specs.declared.refusal.Refusal.{Refusal}
-use Rattle.ang_check_operand.specs.Refusals.{Typing}
+use Rattle.ang_check_operators.specs.declared.refusal.Refusal.{Refusal}
+use Rattle.ang_check_operators.specs.Refusals.{Typing}
 use Rattle.ang_check_context.specs.declared.scope.LocalVariable.{LocalVariable}
 use Rattle.ang_check_context.specs.Scope as context
 use Rattle.ang_check_context.specs.Scope.{BodyContext}
 use Rattle.ang_check_uses.specs.declared.uses.Resolution.TheVariants as resolution
 use Rattle.ang_check_uses.specs.Uses.{resolution_of}
-use Rattle.ang_check_body.specs.Typing.{function_typing, global_typing, method_body_typing, constructor_typing, implicit_super}
-use Rattle.ang_check_bodies.specs.Bodies.{Part, a_function, a_global, a_method, a_constructor, a_default, Judgement, context_in, within_of, base_of, base_name, judged_function, judged_global, method_at, judged_method, constructor_at, judged_constructor, judged, judgements, parts_of, refused_by, refusal_in, body_refusals}
+use Rattle.ang_check.specs.Typing.{function_typing, global_typing, method_body_typing, constructor_typing, implicit_super}
+use Rattle.ang_check.specs.Bodies.{Part, a_function, a_global, a_method, a_constructor, a_default, Judgement, context_in, within_of, base_of, base_name, judged_function, judged_global, method_at, judged_method, constructor_at, judged_constructor, judged, judgements, parts_of, refused_by, refusal_in, body_refusals}
 use Rattle.ang_check.specs.Denials.{scope_of, scope_over, script_refusals}
 use Rattle.ang_check_asked.specs.Asked.{IsAskedAgain, IsRefusedUse}
 use Rattle.ang_check_asked.proofs.Items.{every_flat, every_given, every_or, all_of_each}

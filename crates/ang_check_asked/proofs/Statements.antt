@@ -12,16 +12,16 @@ use Rattle.ang_types.specs.declared.arg_type.ArgType.TheVariants as type
 use Rattle.ang_types.specs.declared.asks.Asks.{Asks}
 use Rattle.ang_types.specs.Ranks.{Ancestors}
 use Rattle.ang_typed.specs.Typed as t
-use Rattle.ang_names_written.specs.Sources.{text_of}
-use Rattle.ang_check_operand.specs.declared.refusal.Refusal.{Refusal}
-use Rattle.ang_check_operand.specs.Operands.{Operand, truth}
-use Rattle.ang_check_operand.specs.Refusals.{Typing, ◌>>=◌}
+use Rattle.ang_names_listed.specs.Sources.{text_of}
+use Rattle.ang_check_operators.specs.declared.refusal.Refusal.{Refusal}
+use Rattle.ang_check_operators.specs.Operands.{Operand, truth}
+use Rattle.ang_check_operators.specs.Refusals.{Typing, ◌>>=◌}
 use Rattle.ang_check_context.specs.declared.scope.LocalVariable.{LocalVariable}
 use Rattle.ang_check_context.specs.Scope.{BodyContext}
 use Rattle.ang_check_typing.specs.Typing.{typing_of, typing_of_all}
-use Rattle.ang_check_statements.specs.declared.frame.Returns.{Returns}
-use Rattle.ang_check_statements.specs.declared.frame.Returns.TheVariants as returns
-use Rattle.ang_check_statements.specs.Typing.{Frame, with_same, optional_typing, expression_typing, condition_typing, optional_condition, steps_typing, local_type, local_name_error, name_judged, local_name, initializer_typing, local_typing, each_local, locals_typing, declaration_typing, value_returned, nothing_returned, return_nothing, return_value, result_typing, return_typing, jump, start_typing, head_typing, block_of, alone, tested_of, either_of, while_of, do_while_of, for_of, stmt_typing, block_typing, stmts_typing}
+use Rattle.ang_check_stmt.specs.declared.frame.Returns.{Returns}
+use Rattle.ang_check_stmt.specs.declared.frame.Returns.TheVariants as returns
+use Rattle.ang_check_stmt.specs.Typing.{Frame, with_same, optional_typing, expression_typing, condition_typing, optional_condition, steps_typing, local_type, local_name_error, name_judged, local_name, initializer_typing, local_typing, each_local, locals_typing, declaration_typing, value_returned, nothing_returned, return_nothing, return_value, result_typing, return_typing, jump, start_typing, head_typing, block_of, alone, tested_of, either_of, while_of, do_while_of, for_of, stmt_typing, block_typing, stmts_typing}
 use Rattle.ang_check_asked.specs.Asked.{IsRefusedUse}
 use Rattle.ang_check_asked.proofs.Judged.{Silent, refused_in, unasked}
 use Rattle.ang_check_asked.proofs.Operators.{fit_silent, truth_silent}

@@ -6,7 +6,7 @@ use Rattle.ang_types.specs.declared.asks.Asks.{Asks}
 use Rattle.ang_types.specs.declared.asks.Refused.{Refused}
 use Rattle.ang_view.specs.Hidden.{is_hidden, is_unmet, is_with}
 use Rattle.ang_view.specs.Registration.{RegistrationList, entry_at, seen}
-use Rattle.ang_names_written.specs.Sources.{Source}
+use Rattle.ang_names_listed.specs.Sources.{Source}
 use Rattle.ang_check_denials.specs.Denials.{helps, means_entry, stays}
 use Rattle.ang_check_uses.specs.declared.uses.Resolution.TheVariants as resolution
 use Rattle.ang_check_uses.specs.Uses.{Scope, resolution_of}

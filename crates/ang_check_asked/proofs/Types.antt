@@ -14,10 +14,10 @@ use Rattle.ang_types.specs.declared.arg_type.ArgType.TheVariants as type
 use Rattle.ang_names_known.specs.declared.space.Named.{Named}
 use Rattle.ang_names_known.specs.declared.space.Named.TheVariants as named
 use Rattle.ang_names_known.specs.Spaces.{Space, type_of_name, is_family_type}
-use Rattle.ang_names_written.specs.declared.role.Role.{Role}
-use Rattle.ang_names_written.specs.declared.role.Role.TheVariants as role
-use Rattle.ang_names_written.specs.Sources.{text_of}
-use Rattle.ang_names_written.specs.Types.{TypeOrError, ◌and_then◌, without_handle, object_type, written_type, no_void, no_object, taken_in, changed, passed, crossing, is_by_value, cast_to, admitted, type_in}
+use Rattle.ang_names_listed.specs.declared.role.Role.{Role}
+use Rattle.ang_names_listed.specs.declared.role.Role.TheVariants as role
+use Rattle.ang_names_listed.specs.Sources.{text_of}
+use Rattle.ang_names_listed.specs.Types.{TypeOrError, ◌and_then◌, without_handle, object_type, written_type, no_void, no_object, taken_in, changed, passed, crossing, is_by_value, cast_to, admitted, type_in}
 
 -- where a name that means this is refused as an unknown type
 abbrev pub IfUnknown : Named → ErrorKind → Type 0

@@ -6,14 +6,14 @@ use Rattle.ang_tree.specs.Stmt.{Init, absent, value, constructor}
 use Rattle.ang_types.specs.declared.arg_type.ArgType.{ArgType}
 use Rattle.ang_types.specs.declared.arg_type.ArgType.TheVariants as type
 use Rattle.ang_types.specs.Ranks.{Ancestors}
-use Rattle.ang_names_written.specs.declared.role.Role.TheVariants as role
-use Rattle.ang_check_operand.specs.Operands.{Operand, fit}
-use Rattle.ang_check_operand.specs.Refusals.{Typing}
+use Rattle.ang_names_listed.specs.declared.role.Role.TheVariants as role
+use Rattle.ang_check_operators.specs.Operands.{Operand, fit}
+use Rattle.ang_check_operators.specs.Refusals.{Typing}
 use Rattle.ang_check_context.specs.declared.scope.LocalVariable.{LocalVariable}
 use Rattle.ang_check_context.specs.Scope.{BodyContext}
 use Rattle.ang_check_typing.specs.Calls.{default_typing, made_typing}
 use Rattle.ang_check_typing.specs.Typing.{typing_of, typing_of_args}
-use Rattle.ang_check_statements.specs.Typing.{local_type, made, fitted, absent_typing, value_typing, arguments_typing, initializer_typing}
+use Rattle.ang_check_stmt.specs.Typing.{local_type, made, fitted, absent_typing, value_typing, arguments_typing, initializer_typing}
 use Rattle.ang_check_asked.specs.Asked.{IsAskedThere}
 use Rattle.ang_check_asked.proofs.Operators.{fit_silent}
 use Rattle.ang_check_asked.proofs.Names.{Uses, no_use, written_uses}

@@ -5,9 +5,9 @@ use Rattle.ang_kinds.specs.declared.error.ErrorKind.TheVariants as kind
 use Rattle.ang_lex.specs.declared.token.Token.{Token}
 use Rattle.ang_types.specs.declared.asks.Asks.{Asks}
 use Rattle.ang_types.specs.declared.asks.Refused.{Refused}
-use Rattle.ang_names_written.specs.Sources.{text_of}
-use Rattle.ang_check_operand.specs.declared.refusal.Refusal.{Refusal}
-use Rattle.ang_check_operand.specs.Refusals.{use_refused}
+use Rattle.ang_names_listed.specs.Sources.{text_of}
+use Rattle.ang_check_operators.specs.declared.refusal.Refusal.{Refusal}
+use Rattle.ang_check_operators.specs.Refusals.{use_refused}
 use Rattle.ang_check_context.specs.declared.scope.LocalVariable.{LocalVariable}
 use Rattle.ang_check_context.specs.Scope.{BodyContext, scope_of, is_there}
 use Rattle.ang_check_uses.specs.declared.uses.Resolution.TheVariants as resolution

@@ -7,7 +7,7 @@ use Rattle.ang_names_known.specs.declared.names.Access.{Access}
 use Rattle.ang_names_known.specs.declared.names.Access.TheVariants as access
 use Rattle.ang_check_uses.specs.declared.uses.Reach.{Reach}
 use Rattle.ang_names_known.specs.Lookup.{may_use}
-use Rattle.ang_check_operand.specs.Refusals.{Typing, refused}
+use Rattle.ang_check_operators.specs.Refusals.{Typing, refused}
 use Rattle.ang_check_context.specs.Scope.{BodyContext, family_of}
 
 abbrev pub access_error : Access → ErrorKind

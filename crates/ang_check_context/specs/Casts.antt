@@ -9,13 +9,13 @@ use Rattle.ang_types.specs.declared.arg_type.ArgType.TheVariants as type
 use Rattle.ang_types.specs.declared.asks.Asks.TheVariants as asks
 use Rattle.ang_typed.specs.Typed as t
 use Rattle.ang_check_context.specs.declared.scope.LocalVariable.{LocalVariable}
-use Rattle.ang_names_written.specs.declared.role.Role.TheVariants as role
+use Rattle.ang_names_listed.specs.declared.role.Role.TheVariants as role
 use Rattle.ang_names_known.specs.Spaces.{family_of_type}
-use Rattle.ang_check_operand.specs.Operands.{Operand, operand, object_of}
-use Rattle.ang_check_operand.specs.Refusals.{Typing, fault, refused, use_refused}
+use Rattle.ang_check_operators.specs.Operands.{Operand, operand, object_of}
+use Rattle.ang_check_operators.specs.Refusals.{Typing, fault, refused, use_refused}
 use Rattle.ang_check_context.specs.Scope.{BodyContext, space_of, is_there}
-use Rattle.ang_names_written.specs.Sources.{text_of}
-use Rattle.ang_names_written.specs.Types.{TypeOrError, type_in, is_unknown_type}
+use Rattle.ang_names_listed.specs.Sources.{text_of}
+use Rattle.ang_names_listed.specs.Types.{TypeOrError, type_in, is_unknown_type}
 
 -- a type that is refused at its name: an unknown name is a use of it
 abbrev pub type_or_refusal : BodyContext → List LocalVariable → Token → TypeOrError → Typing ArgType

@@ -11,12 +11,12 @@ use Rattle.ang_check_uses.specs.declared.uses.Resolution.{Resolution}
 use Rattle.ang_check_uses.specs.declared.uses.Resolution.TheVariants as resolution
 use Rattle.ang_names_known.specs.Lookup.{is_read_only, field_named}
 use Rattle.ang_names_known.specs.Spaces.{family_of_type}
-use Rattle.ang_check_operand.specs.Operands.{Operand, reading, object_of}
-use Rattle.ang_check_operand.specs.Refusals.{Typing, refused, use_refused}
+use Rattle.ang_check_operators.specs.Operands.{Operand, reading, object_of}
+use Rattle.ang_check_operators.specs.Refusals.{Typing, refused, use_refused}
 use Rattle.ang_check_context.specs.Access.{if_reached}
 use Rattle.ang_check_context.specs.Scope.{BodyContext, scope_of}
 use Rattle.ang_check_uses.specs.Uses.{resolution_of, entity_of, why}
-use Rattle.ang_names_written.specs.Sources.{text_of}
+use Rattle.ang_names_listed.specs.Sources.{text_of}
 
 abbrev pub member_at : Operand → Token → t.Site → ArgType → Bool → Operand
 member_at a x site ty read_only = reading a.place site ty (record { read_only = read_only; bare = false; name = x })

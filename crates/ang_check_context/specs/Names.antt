@@ -20,12 +20,12 @@ use Rattle.ang_check_uses.specs.declared.uses.Resolution.{Resolution}
 use Rattle.ang_check_uses.specs.declared.uses.Resolution.TheVariants as resolution
 use Rattle.ang_names_known.specs.Lookup.{is_read_only, field_named}
 use Rattle.ang_names_known.specs.Spaces.{family_type}
-use Rattle.ang_check_operand.specs.Operands.{Operand, operand, reading}
-use Rattle.ang_check_operand.specs.Refusals.{Typing, refused, use_refused}
+use Rattle.ang_check_operators.specs.Operands.{Operand, operand, reading}
+use Rattle.ang_check_operators.specs.Refusals.{Typing, refused, use_refused}
 use Rattle.ang_check_context.specs.Access.{if_reached}
 use Rattle.ang_check_context.specs.Scope.{BodyContext, scope_of, last_named, is_there}
 use Rattle.ang_check_uses.specs.Uses.{resolution_of, value_of, why}
-use Rattle.ang_names_written.specs.Sources.{text_of}
+use Rattle.ang_names_listed.specs.Sources.{text_of}
 
 -- ---- `this`
 

@@ -1,23 +1,23 @@
 //! Casts.
 ghost use Rattle.std.specs.Prelude.{◌≡◌, Ok};
-ghost use Rattle.ang_check_operand.specs.Operands as operands;
-ghost use Rattle.ang_check_operand.specs.Refusals.{Gives};
-ghost use Rattle.ang_check_operand.specs.View.{view_operand};
+ghost use Rattle.ang_check_operators.specs.Operands as operands;
+ghost use Rattle.ang_check_operators.specs.Refusals.{Gives};
+ghost use Rattle.ang_check_operators.specs.View.{view_operand};
 ghost use Rattle.ang_check_context.specs.Casts as spec;
 ghost use Rattle.ang_check_context.specs.Scope as scopes;
 ghost use Rattle.ang_names_known.specs.Spaces as spaces;
-ghost use Rattle.ang_names_written.specs.Types as types;
+ghost use Rattle.ang_names_listed.specs.Types as types;
 ghost use Rattle.ang_typed.specs.Typed as t;
 ghost use Rattle.ang_typed.specs.View.{view_tree};
 
 use crate::context::{BodyContext, type_or_refusal};
 use crate::receiver::Receiver;
 use crate::scope::Locals;
-use ang_check_operand::{Operand, Stop, boxed, fault, object_of, plain_operand};
+use ang_check_operators::{Operand, Stop, boxed, fault, object_of, plain_operand};
 use ang_kinds::{ErrorKind, Place};
 use ang_lex::Token;
 use ang_names_known::{Space, family_of_type};
-use ang_names_written::{Role, type_in};
+use ang_names_listed::{Role, type_in};
 use ang_tree::TypeName;
 use ang_typed::Expression;
 use ang_types::ArgType;

@@ -1,21 +1,21 @@
 //! What the expressions of a body stand in.
 ghost use Rattle.std.specs.Prelude.{◌≡◌, ◌≤◌, ◌<◌, bytes_eq, length, IfOk, IfSome};
 ghost use Rattle.std.specs.List.{list_any};
-ghost use Rattle.ang_check_operand.specs.Refusals.{Gives};
+ghost use Rattle.ang_check_operators.specs.Refusals.{Gives};
 ghost use Rattle.ang_check_context.specs.Access as accesses;
 ghost use Rattle.ang_check_context.specs.Casts as casts;
 ghost use Rattle.ang_check_context.specs.Scope as scopes;
 ghost use Rattle.ang_check_uses.specs.Uses as uses;
 ghost use Rattle.ang_names_known.specs.Lookup as lookup;
-ghost use Rattle.ang_names_written.specs.Sources as sources;
+ghost use Rattle.ang_names_listed.specs.Sources as sources;
 
 use crate::scope::{Locals, Within};
-use ang_check_operand::{Stop, refused, use_refused};
+use ang_check_operators::{Stop, refused, use_refused};
 use ang_check_uses::{Callables, Resolution, Scope, makers_of, resolution_of};
 use ang_kinds::ErrorKind;
 use ang_lex::Token;
 use ang_names_known::{Access, Family, Names, may_use};
-use ang_names_written::text_at;
+use ang_names_listed::text_at;
 use ang_types::{ArgType, Asks, Lineage};
 use ang_view::View;
 use std::alloc::{AllocError, Global};

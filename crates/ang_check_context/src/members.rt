@@ -1,7 +1,7 @@
 //! Fields and properties of objects.
 ghost use Rattle.std.specs.Prelude.{◌≡◌, IfOk};
-ghost use Rattle.ang_check_operand.specs.Refusals.{Gives};
-ghost use Rattle.ang_check_operand.specs.View.{view_operand};
+ghost use Rattle.ang_check_operators.specs.Refusals.{Gives};
+ghost use Rattle.ang_check_operators.specs.View.{view_operand};
 ghost use Rattle.ang_check_context.specs.Members as spec;
 ghost use Rattle.ang_names_known.specs.Spaces as spaces;
 ghost use Rattle.ang_typed.specs.Typed as t;
@@ -9,7 +9,7 @@ ghost use Rattle.ang_typed.specs.View.{view_tree};
 
 use crate::context::{BodyContext, access_error, may_reach, resolved};
 use crate::receiver::Receiver;
-use ang_check_operand::{Operand, Stop, Target, object_of, reading, refused, use_refused};
+use ang_check_operators::{Operand, Stop, Target, object_of, reading, refused, use_refused};
 use ang_check_uses::{Resolution, entity_of};
 use ang_kinds::ErrorKind;
 use ang_lex::Token;

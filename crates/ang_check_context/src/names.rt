@@ -1,15 +1,15 @@
 //! Bare names.
 ghost use Rattle.std.specs.Prelude.{◌≡◌, false, Some, IfOk, option_map};
-ghost use Rattle.ang_check_operand.specs.Refusals.{Gives, use_refused as refusal_of};
-ghost use Rattle.ang_check_operand.specs.View.{view_operand};
+ghost use Rattle.ang_check_operators.specs.Refusals.{Gives, use_refused as refusal_of};
+ghost use Rattle.ang_check_operators.specs.View.{view_operand};
 ghost use Rattle.ang_check_context.specs.Names as spec;
 ghost use Rattle.ang_check_context.specs.Scope as scopes;
-ghost use Rattle.ang_names_written.specs.Sources as sources;
+ghost use Rattle.ang_names_listed.specs.Sources as sources;
 
 use crate::context::{BodyContext, access_error, is_there, may_reach, resolved};
 use crate::scope::{Locals, Within};
 use crate::values::value_operand;
-use ang_check_operand::{Operand, Stop, Target, reading, refused, use_refused};
+use ang_check_operators::{Operand, Stop, Target, reading, refused, use_refused};
 use ang_check_uses::Resolution;
 use ang_kinds::ErrorKind;
 use ang_lex::Token;

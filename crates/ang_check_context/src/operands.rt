@@ -1,9 +1,9 @@
 //! Lists of operands.
 ghost use Rattle.std.specs.Prelude.{◌≡◌, IfOk};
-ghost use Rattle.ang_check_operand.specs.View.{view_operands};
+ghost use Rattle.ang_check_operators.specs.View.{view_operands};
 ghost use Rattle.ang_check_context.specs.Operands as spec;
 
-use ang_check_operand::Operand;
+use ang_check_operators::Operand;
 use ang_types::ArgType;
 use std::alloc::{AllocError, Global};
 

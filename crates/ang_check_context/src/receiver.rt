@@ -1,13 +1,13 @@
 //! `this`, and what methods are called on.
 ghost use Rattle.std.specs.Prelude.{◌≡◌, ◌<◌, IfOk};
-ghost use Rattle.ang_check_operand.specs.Refusals.{Gives};
-ghost use Rattle.ang_check_operand.specs.View.{view_operand};
+ghost use Rattle.ang_check_operators.specs.Refusals.{Gives};
+ghost use Rattle.ang_check_operators.specs.View.{view_operand};
 ghost use Rattle.ang_check_context.specs.Names as names;
 ghost use Rattle.ang_names_known.specs.Spaces as spaces;
 
 use crate::context::BodyContext;
 use crate::scope::Within;
-use ang_check_operand::{Operand, Stop, boxed, plain_operand, refused};
+use ang_check_operators::{Operand, Stop, boxed, plain_operand, refused};
 use ang_kinds::{ErrorKind, Place};
 use ang_lex::Token;
 use ang_names_known::family_type;

@@ -1,14 +1,14 @@
 //! Values of enumerations.
 ghost use Rattle.std.specs.Prelude.{◌≡◌, IfOk};
-ghost use Rattle.ang_check_operand.specs.Refusals.{Gives, use_refused as refusal_of};
-ghost use Rattle.ang_check_operand.specs.View.{view_operand};
+ghost use Rattle.ang_check_operators.specs.Refusals.{Gives, use_refused as refusal_of};
+ghost use Rattle.ang_check_operators.specs.View.{view_operand};
 ghost use Rattle.ang_check_context.specs.Names as spec;
 ghost use Rattle.ang_check_context.specs.Scope as scopes;
-ghost use Rattle.ang_names_written.specs.Sources as sources;
+ghost use Rattle.ang_names_listed.specs.Sources as sources;
 
 use crate::context::{BodyContext, is_there, resolved};
 use crate::scope::Locals;
-use ang_check_operand::{Operand, Stop, boxed, plain_operand, refused, use_refused};
+use ang_check_operators::{Operand, Stop, boxed, plain_operand, refused, use_refused};
 use ang_check_uses::{EnumerationValue, Resolution, value_of};
 use ang_kinds::{ErrorKind, Place, Prim};
 use ang_lex::Token;

@@ -19,11 +19,11 @@ use Rattle.ang_view.specs.Hidden.{seen_with}
 use Rattle.ang_view.specs.Registration.{RegistrationList, entry_at, is_function_named, is_number, seen}
 use Rattle.ang_view.specs.Named.{values_named}
 use Rattle.ang_view.specs.Types.{is_enumeration_named, is_type_named}
-use Rattle.ang_names_host.specs.declared.host.HostFunction.{HostFunction}
-use Rattle.ang_names_host.specs.declared.host.HostProperty.{HostProperty}
-use Rattle.ang_names_host.specs.declared.host.Wanted.TheVariants as wanted
-use Rattle.ang_names_host.specs.declared.host.WantedProperty.{WantedProperty}
-use Rattle.ang_names_host.specs.declared.host.WantedProperty.TheVariants as property
+use Rattle.ang_names_known.specs.declared.host.HostFunction.{HostFunction}
+use Rattle.ang_names_known.specs.declared.host.HostProperty.{HostProperty}
+use Rattle.ang_names_known.specs.declared.host.Wanted.TheVariants as wanted
+use Rattle.ang_names_known.specs.declared.host.WantedProperty.{WantedProperty}
+use Rattle.ang_names_known.specs.declared.host.WantedProperty.TheVariants as property
 use Rattle.ang_names_known.specs.declared.names.Default.{Default}
 use Rattle.ang_names_known.specs.declared.names.Default.TheVariants as default
 use Rattle.ang_names_known.specs.declared.names.Constructor.{Constructor}
@@ -32,12 +32,12 @@ use Rattle.ang_names_known.specs.declared.names.ScriptFunction.{ScriptFunction}
 use Rattle.ang_names_known.specs.declared.names.ScriptGlobal.{ScriptGlobal}
 use Rattle.ang_names_known.specs.declared.space.Named.{Named}
 use Rattle.ang_names_known.specs.declared.space.Named.TheVariants as named
-use Rattle.ang_names_host.specs.Added.{added_property}
-use Rattle.ang_names_host.specs.Host.{found, function_of_entry, host_where, is_factory, is_wanted, property_found, property_where}
+use Rattle.ang_names_known.specs.Added.{added_property}
+use Rattle.ang_names_known.specs.Host.{found, function_of_entry, host_where, is_factory, is_wanted, property_found, property_where}
 use Rattle.ang_names_known.specs.Items.{is_empty}
 use Rattle.ang_names_known.specs.Lookup.{default_of, functions_named, global_named}
 use Rattle.ang_names_known.specs.Spaces.{family_of_type}
-use Rattle.ang_names_host.proofs.AddingProperties.{one_property_added}
+use Rattle.ang_names_known.proofs.AddingProperties.{one_property_added}
 use Rattle.ang_check_uses.specs.declared.uses.Callable.{Callable}
 use Rattle.ang_check_uses.specs.declared.uses.Resolution.{Resolution}
 use Rattle.ang_check_uses.specs.declared.uses.Resolution.TheVariants as resolution

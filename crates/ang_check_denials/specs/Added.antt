@@ -15,17 +15,17 @@ use Rattle.ang_view.specs.Hidden.{is_with, seen_with}
 use Rattle.ang_view.specs.Registration.{RegistrationList, entry_at, is_function_named}
 use Rattle.ang_view.specs.Named.{is_value_named, values_named}
 use Rattle.ang_view.specs.Types.{is_enumeration_named, is_type_named}
-use Rattle.ang_names_host.specs.declared.host.HostFunction.{HostFunction}
-use Rattle.ang_names_host.specs.declared.host.HostProperty.{HostProperty}
-use Rattle.ang_names_host.specs.declared.host.Wanted.{Wanted}
-use Rattle.ang_names_host.specs.declared.host.Wanted.TheVariants as wanted
-use Rattle.ang_names_host.specs.declared.host.WantedProperty.{WantedProperty}
-use Rattle.ang_names_host.specs.declared.host.WantedProperty.TheVariants as property
+use Rattle.ang_names_known.specs.declared.host.HostFunction.{HostFunction}
+use Rattle.ang_names_known.specs.declared.host.HostProperty.{HostProperty}
+use Rattle.ang_names_known.specs.declared.host.Wanted.{Wanted}
+use Rattle.ang_names_known.specs.declared.host.Wanted.TheVariants as wanted
+use Rattle.ang_names_known.specs.declared.host.WantedProperty.{WantedProperty}
+use Rattle.ang_names_known.specs.declared.host.WantedProperty.TheVariants as property
 use Rattle.ang_names_known.specs.declared.names.ScriptGlobal.{ScriptGlobal}
 use Rattle.ang_names_known.specs.declared.space.Named.{Named}
 use Rattle.ang_names_known.specs.declared.space.Named.TheVariants as named
-use Rattle.ang_names_host.specs.Added.{added_property}
-use Rattle.ang_names_host.specs.Host.{found, host_where, is_factory, property_found, property_where}
+use Rattle.ang_names_known.specs.Added.{added_property}
+use Rattle.ang_names_known.specs.Host.{found, host_where, is_factory, property_found, property_where}
 use Rattle.ang_names_known.specs.Items.{is_empty}
 use Rattle.ang_names_known.specs.Lookup.{global_named}
 use Rattle.ang_names_known.specs.Spaces.{family_of_type, space_of_names, type_of_name}

@@ -7,7 +7,7 @@ use Rattle.ang_types.specs.declared.asks.Asks.TheVariants as asks
 use Rattle.ang_view.specs.declared.entry.Entry.{Entry}
 use Rattle.ang_view.specs.Hidden.{is_hidden, numbers_of}
 use Rattle.ang_view.specs.Registration.{RegistrationList, entry_at, is_type}
-use Rattle.ang_names_host.specs.Host.{is_factory}
+use Rattle.ang_names_known.specs.Host.{is_factory}
 
 -- ---- names
 

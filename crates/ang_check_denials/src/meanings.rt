@@ -5,10 +5,10 @@ ghost use Rattle.ang_types.specs.declared.candidate.Candidate.{Candidate};
 ghost use Rattle.ang_types.specs.Rivals.{AreRivals};
 ghost use Rattle.ang_view.specs.Named.{values_named};
 ghost use Rattle.ang_view.specs.Registration.{entry_at, seen};
-ghost use Rattle.ang_names_host.specs.declared.host.Wanted.TheVariants as sought;
-ghost use Rattle.ang_names_host.specs.declared.host.WantedProperty.TheVariants as sought_property;
-ghost use Rattle.ang_names_host.specs.Added.{added_property};
-ghost use Rattle.ang_names_host.specs.Host.{property_found};
+ghost use Rattle.ang_names_known.specs.declared.host.Wanted.TheVariants as sought;
+ghost use Rattle.ang_names_known.specs.declared.host.WantedProperty.TheVariants as sought_property;
+ghost use Rattle.ang_names_known.specs.Added.{added_property};
+ghost use Rattle.ang_names_known.specs.Host.{property_found};
 ghost use Rattle.ang_names_known.specs.Items.{is_empty};
 ghost use Rattle.ang_names_known.specs.Spaces as spaces;
 ghost use Rattle.ang_check_uses.specs.Uses.{candidates_of, functions_of};
@@ -20,8 +20,9 @@ use crate::masked::Masked;
 use crate::named::{is_a_type_named, is_called_by, is_enumeration_named, named_with};
 use ang_check_uses::{Scope, params_with_receiver, takes_number};
 use ang_kinds::EntityNo;
-use ang_names_host::{HostProperty, Wanted, WantedProperty, found_at, property_at};
-use ang_names_known::{Named, Names, Text, family_of_type};
+use ang_names_known::{
+    HostProperty, Named, Names, Text, Wanted, WantedProperty, family_of_type, found_at, property_at,
+};
 use ang_types::{ArgType, Asks, Lineage, Rivals};
 use ang_view::{EntryKind, View};
 use std::alloc::{AllocError, Global};

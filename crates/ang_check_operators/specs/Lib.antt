@@ -1,2 +1,5 @@
+pub mod Operands
+pub mod Refusals
+pub mod View
 pub mod Forms
 pub mod Operations

@@ -20,14 +20,14 @@ use Rattle.ang_typed.specs.declared.expression.Comparison.TheVariants as cmp
 use Rattle.ang_typed.specs.declared.expression.StepKind.{StepKind}
 use Rattle.ang_typed.specs.declared.expression.StepKind.TheVariants as step
 use Rattle.ang_typed.specs.Typed as t
-use Rattle.ang_check_operand.specs.declared.operand.Seat.{Seat}
-use Rattle.ang_check_operand.specs.declared.operand.Target.{Target}
+use Rattle.ang_check_operators.specs.declared.operand.Seat.{Seat}
+use Rattle.ang_check_operators.specs.declared.operand.Target.{Target}
 use Rattle.ang_check_operators.specs.declared.forms.Form.{Form}
 use Rattle.ang_check_operators.specs.declared.forms.Form.TheVariants as form
 use Rattle.ang_check_operators.specs.declared.forms.Work.{Work}
 use Rattle.ang_check_operators.specs.declared.forms.Work.TheVariants as work
-use Rattle.ang_check_operand.specs.Refusals.{Typing, ◌>>=◌, fault}
-use Rattle.ang_check_operand.specs.Operands.{Operand, operand, fit, integer, number, truth, identity, object_of, target, seat}
+use Rattle.ang_check_operators.specs.Refusals.{Typing, ◌>>=◌, fault}
+use Rattle.ang_check_operators.specs.Operands.{Operand, operand, fit, integer, number, truth, identity, object_of, target, seat}
 use Rattle.ang_check_operators.specs.Forms.{binary_form, compound_work}
 
 -- what no grammar puts here

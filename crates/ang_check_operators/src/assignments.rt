@@ -1,15 +1,13 @@
 //! Assignments.
 ghost use Rattle.std.specs.Prelude.{◌≡◌};
-ghost use Rattle.ang_check_operand.specs.Refusals.{Gives};
-ghost use Rattle.ang_check_operand.specs.View.{view_operand};
+ghost use Rattle.ang_check_operators.specs.Refusals.{Gives};
+ghost use Rattle.ang_check_operators.specs.View.{view_operand};
 ghost use Rattle.ang_check_operators.specs.Operations as spec;
 ghost use Rattle.ang_typed.specs.View.{view_site};
 
 use crate::forms::{Work, compound_work};
 use crate::trees::{assign, compound};
-use ang_check_operand::{
-    Operand, Seat, Stop, fault, fit, integer, number, plain_operand, seat, target,
-};
+use crate::{Operand, Seat, Stop, fault, fit, integer, number, plain_operand, seat, target};
 use ang_kinds::{ErrorKind, Place, Prim};
 use ang_lex::Token;
 use ang_typed::{Operator, Site};

@@ -1,12 +1,12 @@
 //! `?:`
 ghost use Rattle.std.specs.Prelude.{◌≡◌};
-ghost use Rattle.ang_check_operand.specs.Refusals.{Gives};
-ghost use Rattle.ang_check_operand.specs.View.{view_operand};
+ghost use Rattle.ang_check_operators.specs.Refusals.{Gives};
+ghost use Rattle.ang_check_operators.specs.View.{view_operand};
 ghost use Rattle.ang_check_operators.specs.Operations as spec;
 ghost use Rattle.ang_typed.specs.View.{view_tree};
 
 use crate::trees::choose;
-use ang_check_operand::{Operand, Stop, fault, fit, integer, object_of, plain_operand, truth};
+use crate::{Operand, Stop, fault, fit, integer, object_of, plain_operand, truth};
 use ang_kinds::{ErrorKind, Place, Prim};
 use ang_typed::Expression;
 use ang_types::{ArgType, Lineage, common, rank};

@@ -1,13 +1,13 @@
 //! Numbers, `true`, `false` and `null`.
 ghost use Rattle.std.specs.Prelude.{◌≡◌, IfOk};
-ghost use Rattle.ang_check_operand.specs.Operands.{operand};
-ghost use Rattle.ang_check_operand.specs.Refusals.{Gives};
-ghost use Rattle.ang_check_operand.specs.View.{view_operand};
+ghost use Rattle.ang_check_operators.specs.Operands.{operand};
+ghost use Rattle.ang_check_operators.specs.Refusals.{Gives};
+ghost use Rattle.ang_check_operators.specs.View.{view_operand};
 ghost use Rattle.ang_check_operators.specs.Operations as spec;
 ghost use Rattle.ang_typed.specs.Typed as tree;
 
 use crate::trees::{null_tree, number_tree, truth_tree};
-use ang_check_operand::{Operand, Stop, fault, plain_operand};
+use crate::{Operand, Stop, fault, plain_operand};
 use ang_kinds::{ErrorKind, Place, Prim};
 use ang_lex::{Token, TokenKind, number};
 use ang_types::ArgType;

@@ -1,11 +1,11 @@
 //! One operand: operators in front of it and after it, conversions, and parentheses.
 ghost use Rattle.std.specs.Prelude.{◌≡◌};
-ghost use Rattle.ang_check_operand.specs.Refusals.{Gives};
-ghost use Rattle.ang_check_operand.specs.View.{view_operand};
+ghost use Rattle.ang_check_operators.specs.Refusals.{Gives};
+ghost use Rattle.ang_check_operators.specs.View.{view_operand};
 ghost use Rattle.ang_check_operators.specs.Operations as spec;
 
 use crate::trees::{complement, negate, not, step_of};
-use ang_check_operand::{
+use crate::{
     Operand, Seat, Stop, Target, fault, fit, integer, number, plain_operand, target, truth,
 };
 use ang_kinds::{ErrorKind, Place, Prim};

@@ -3,7 +3,7 @@ ghost use Rattle.std.specs.Prelude.{◌≡◌, IfOk};
 ghost use Rattle.ang_typed.specs.Typed as tree;
 ghost use Rattle.ang_typed.specs.View.{view_site, view_tree};
 
-use ang_check_operand::boxed;
+use crate::boxed;
 use ang_kinds::Prim;
 use ang_typed::{Comparison, Expression, Operator, Site, StepKind};
 use ang_types::ArgType;

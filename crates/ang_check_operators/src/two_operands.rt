@@ -1,12 +1,12 @@
 //! Two operands with a binary operator between them.
 ghost use Rattle.std.specs.Prelude.{◌≡◌};
-ghost use Rattle.ang_check_operand.specs.Refusals.{Gives};
-ghost use Rattle.ang_check_operand.specs.View.{view_operand};
+ghost use Rattle.ang_check_operators.specs.Refusals.{Gives};
+ghost use Rattle.ang_check_operators.specs.View.{view_operand};
 ghost use Rattle.ang_check_operators.specs.Operations as spec;
 
 use crate::forms::{Form, Work, binary_form};
 use crate::trees::{and, compare, not, operate, or, same};
-use ang_check_operand::{Operand, Stop, fault, fit, identity, integer, plain_operand, truth};
+use crate::{Operand, Stop, fault, fit, identity, integer, plain_operand, truth};
 use ang_kinds::{ErrorKind, Prim};
 use ang_lex::TokenKind;
 use ang_typed::{Comparison, Operator};

@@ -19,7 +19,7 @@ use Rattle.ang_names_known.specs.declared.names.ScriptFunction.{ScriptFunction}
 use Rattle.ang_names_known.specs.declared.names.ScriptGlobal.{ScriptGlobal}
 use Rattle.ang_names_known.specs.Lookup.{default_of}
 use Rattle.ang_names_known.specs.Spaces.{family_type}
-use Rattle.ang_check_operand.specs.Operands.{Operand}
+use Rattle.ang_check_operators.specs.Operands.{Operand}
 use Rattle.ang_check_context.specs.declared.scope.LocalVariable.{LocalVariable}
 use Rattle.ang_check_context.specs.declared.scope.Within.{Within}
 use Rattle.ang_check_context.specs.Names.{own_type}
@@ -32,9 +32,9 @@ use Rattle.ang_check_uses.specs.declared.uses.Called.TheVariants as calls
 use Rattle.ang_check_uses.specs.declared.uses.Resolution.{Resolution}
 use Rattle.ang_check_uses.specs.declared.uses.Resolution.TheVariants as resolution
 use Rattle.ang_check_uses.specs.Uses.{makers_of}
-use Rattle.ang_check_statements.specs.declared.frame.Returns.TheVariants as returns
-use Rattle.ang_check_statements.specs.Typing.{block_typing, stmts_typing, initializer_typing, own_object}
-use Rattle.ang_check_body.specs.Typing.{Base, parameter_local, typed_parameter, typed_parameters, this_local, is_void, ending, frame_of, function_typing, method_body_typing, base_call, body_called, super_chosen, super_by, super_typing, default_base, implicit_super, base_typing, with_last, constructed, maker_frame, constructor_typing, global_typing}
+use Rattle.ang_check_stmt.specs.declared.frame.Returns.TheVariants as returns
+use Rattle.ang_check_stmt.specs.Typing.{block_typing, stmts_typing, initializer_typing, own_object}
+use Rattle.ang_check.specs.Typing.{Base, parameter_local, typed_parameter, typed_parameters, this_local, is_void, ending, frame_of, function_typing, method_body_typing, base_call, body_called, super_chosen, super_by, super_typing, default_base, implicit_super, base_typing, with_last, constructed, maker_frame, constructor_typing, global_typing}
 use Rattle.ang_source.specs.Sound.{Module, SoundOption, SoundStatement, SoundStatements, SoundArguments, SoundFunction, declared}
 use Rattle.ang_check_sound.specs.Checked.{with_this}
 use Rattle.ang_check_sound.specs.Built.{IsBuiltContext, HasThis}

@@ -7,11 +7,11 @@ use Rattle.ang_names_known.specs.declared.names.Family.{Family}
 use Rattle.ang_names_known.specs.declared.names.Method.{Method}
 use Rattle.ang_names_known.specs.declared.names.Names.{Names}
 use Rattle.ang_names_known.specs.Spaces.{first_family}
-use Rattle.ang_names_written.specs.Sources.{Source}
+use Rattle.ang_names_listed.specs.Sources.{Source}
 use Rattle.ang_names_listed.specs.Declarations.{declarations_of}
-use Rattle.ang_names_resolved.specs.Resolved.{names_of}
+use Rattle.ang_names_classes.specs.Resolved.{names_of}
 use Rattle.ang_check_context.specs.declared.scope.Within.{Within}
-use Rattle.ang_check_bodies.specs.Bodies.{context_in}
+use Rattle.ang_check.specs.Bodies.{context_in}
 use Rattle.ang_check_sound.specs.Checked.{module_in}
 use Rattle.ang_check_sound.specs.Built.{IsMethodIn, IsFamilyIn, IsBuiltContext}
 use Rattle.ang_check_sound.proofs.Slots.{has_slot}

@@ -24,10 +24,10 @@ use Rattle.ang_names_known.specs.declared.names.FoundField.{FoundField}
 use Rattle.ang_names_known.specs.Items.{is_empty}
 use Rattle.ang_names_known.specs.Lookup.{FoundMethod, field_named, methods_named, parameters_of, is_under, may_use}
 use Rattle.ang_names_known.specs.Spaces.{family_type}
-use Rattle.ang_names_written.specs.Sources.{text_of}
-use Rattle.ang_check_operand.specs.declared.operand.Target.{Target}
-use Rattle.ang_check_operand.specs.Refusals.{Typing, fault}
-use Rattle.ang_check_operand.specs.Operands.{Operand, fit, integer, site_in}
+use Rattle.ang_names_listed.specs.Sources.{text_of}
+use Rattle.ang_check_operators.specs.declared.operand.Target.{Target}
+use Rattle.ang_check_operators.specs.Refusals.{Typing, fault}
+use Rattle.ang_check_operators.specs.Operands.{Operand, fit, integer, site_in}
 use Rattle.ang_check_context.specs.declared.scope.LocalVariable.{LocalVariable}
 use Rattle.ang_check_context.specs.declared.scope.Within.{Within}
 use Rattle.ang_check_context.specs.Scope.{BodyContext, scope_of, last_named, family_of, is_there}

@@ -11,15 +11,15 @@ use Rattle.ang_names_known.specs.declared.names.Names.{Names}
 use Rattle.ang_names_known.specs.declared.names.ScriptFunction.{ScriptFunction}
 use Rattle.ang_names_known.specs.Items.{each_after}
 use Rattle.ang_names_known.specs.Spaces.{Space}
-use Rattle.ang_names_written.specs.Sources.{Source}
-use Rattle.ang_names_heritage.specs.Graphs.{leads, numbers_below, above}
+use Rattle.ang_names_listed.specs.Sources.{Source}
+use Rattle.ang_names_graph.specs.Graphs.{leads, numbers_below, above}
 use Rattle.ang_names_listed.specs.declared.listed.Declared.{Declared}
 use Rattle.ang_names_listed.specs.Declarations.{Declaring, declarations_of, families_of}
-use Rattle.ang_names_resolved.specs.Resolved.{space_of_declared}
-use Rattle.ang_names_tables.specs.Headings.{signatures_of}
-use Rattle.ang_names_tables.specs.Hierarchy.{is_parent, is_base}
-use Rattle.ang_names_resolved.specs.Resolved.{families_after, functions_in, families_in, names_of}
-use Rattle.ang_check_bodies.specs.Bodies.{slot_and_body, typed_class, typed_classes}
+use Rattle.ang_names_classes.specs.Resolved.{space_of_declared}
+use Rattle.ang_names_classes.specs.Headings.{signatures_of}
+use Rattle.ang_names_classes.specs.Hierarchy.{is_parent, is_base}
+use Rattle.ang_names_classes.specs.Resolved.{families_after, functions_in, families_in, names_of}
+use Rattle.ang_check.specs.Bodies.{slot_and_body, typed_class, typed_classes}
 use Rattle.ang_source.specs.Sound.{Module, IsChosen, AreChosen, SoundClasses}
 use Rattle.ang_check_sound.specs.Checked.{with_this}
 use Rattle.ang_check_sound.specs.Built.{IsMethodIn, IsFamilyIn}

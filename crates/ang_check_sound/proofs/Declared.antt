@@ -2,10 +2,10 @@
 use Rattle.std.specs.Prelude.{◌≡◌, ℕ, ◌+◌, List, [], ◌∷◌, ◌++◌, map}
 use Rattle.std.proofs.Common.{refl, append_assoc}
 use Rattle.ang_tree.specs.Declarations.{Decl}
-use Rattle.ang_names_written.specs.Sources.{Source}
+use Rattle.ang_names_listed.specs.Sources.{Source}
 use Rattle.ang_names_listed.specs.declared.listed.Declared.{Declared}
 use Rattle.ang_names_listed.specs.Declarations.{declared_at, declared_from, declarations_from, declarations_of}
-use Rattle.ang_check_bodies.specs.Bodies.{InSection, in_sections}
+use Rattle.ang_check.specs.Bodies.{InSection, in_sections}
 
 -- these declarations declare these, wherever they stand
 abbrev pub Declare : List InSection → List Declared → Type 0

@@ -6,9 +6,9 @@ use Rattle.ang_lex.specs.declared.token.TokenKind.TheVariants as k
 use Rattle.ang_tree.specs.Stmt.{Every}
 use Rattle.ang_tree.specs.Tree.{Tree, Args, Trees, literal, name, call, scoped_call, scoped_name, cast, convert, group, postfix, member, method_call, prefix, binary, conditional, assignment, arguments, none, more}
 use Rattle.ang_types.specs.declared.arg_type.ArgType.{ArgType}
-use Rattle.ang_names_written.specs.Sources.{text_of}
-use Rattle.ang_check_operand.specs.Refusals.{Typing}
-use Rattle.ang_check_operand.specs.Operands.{Operand, object_of}
+use Rattle.ang_names_listed.specs.Sources.{text_of}
+use Rattle.ang_check_operators.specs.Refusals.{Typing}
+use Rattle.ang_check_operators.specs.Operands.{Operand, object_of}
 use Rattle.ang_check_context.specs.declared.scope.LocalVariable.{LocalVariable}
 use Rattle.ang_check_context.specs.Casts.{cast_type}
 use Rattle.ang_check_context.specs.Scope.{BodyContext}

@@ -1,6 +1,6 @@
 -- What holds of what was typed, where the first part's value has what the second one wants of it.
 use Rattle.std.specs.Prelude.{Bool, true, false, Ok, Err, IfOk, if◌then◌else◌}
-use Rattle.ang_check_operand.specs.Refusals.{Typing, ◌>>=◌}
+use Rattle.ang_check_operators.specs.Refusals.{Typing, ◌>>=◌}
 
 pub holds : {A B : Type 0} (P : A → Type 0) (Q : B → Type 0) (x : Typing A) (f : A → Typing B)
     → IfOk x P → ((a : A) → P a → IfOk (f a) Q) → IfOk (x >>= f) Q

@@ -19,13 +19,13 @@ use Rattle.ang_names_known.specs.declared.names.Origin.{Origin}
 use Rattle.ang_names_known.specs.declared.names.ScriptFunction.{ScriptFunction}
 use Rattle.ang_names_known.specs.Items.{each_after}
 use Rattle.ang_names_known.specs.Spaces.{Space}
-use Rattle.ang_names_written.specs.Sources.{text_of}
+use Rattle.ang_names_listed.specs.Sources.{text_of}
 use Rattle.ang_names_listed.specs.declared.listed.Member.{Member}
 use Rattle.ang_names_listed.specs.declared.listed.MemberKind.TheVariants as member
 use Rattle.ang_names_listed.specs.Declarations.{Declaring, access_of, attributes_of, field_as, members_by, member_of, class_shape, interface_shape}
-use Rattle.ang_names_resolved.specs.Resolved.{has_body, with_bodies, methods_after, constructors_after}
-use Rattle.ang_check_bodies.specs.Bodies.{Part, a_function, a_global, a_method, a_constructor, a_default, is_method_tree, is_constructor_tree, member_parts, class_parts, method_at, constructor_at}
-use Rattle.ang_check_bodies.specs.Judging.{default_parts}
+use Rattle.ang_names_classes.specs.Resolved.{has_body, with_bodies, methods_after, constructors_after}
+use Rattle.ang_check.specs.Bodies.{Part, a_function, a_global, a_method, a_constructor, a_default, is_method_tree, is_constructor_tree, member_parts, class_parts, method_at, constructor_at}
+use Rattle.ang_check.specs.Judging.{default_parts}
 use Rattle.ang_check_sound.specs.Parts.{IsPartOf}
 use Rattle.std.proofs.lemmas.List.Elements.{Contains-append_right}
 use Rattle.ang_check_sound.proofs.Places.{Behind, all_left, next_item, next_left, counted, not_counted, EachFrom, has_first, has_later, IsIn}

@@ -18,8 +18,8 @@ use Rattle.ang_names_listed.specs.declared.listed.Member.{Member}
 use Rattle.ang_names_listed.specs.declared.listed.MemberKind.{MemberKind}
 use Rattle.ang_names_listed.specs.declared.listed.MemberKind.TheVariants as member
 use Rattle.ang_names_listed.specs.Declarations.{Declaring}
-use Rattle.ang_names_tables.specs.Headings.{heading_of}
-use Rattle.ang_names_resolved.specs.Resolved.{has_body, with_bodies, body_members, body_number, method_with, methods_by, constructors_by, methods_after, constructors_after, families_after, family_with}
+use Rattle.ang_names_classes.specs.Headings.{heading_of}
+use Rattle.ang_names_classes.specs.Resolved.{has_body, with_bodies, body_members, body_number, method_with, methods_by, constructors_by, methods_after, constructors_after, families_after, family_with}
 use Rattle.ang_check_sound.specs.Checked.{NumberedBody, with_this, method_bodies, constructor_bodies, bodies_of}
 use Rattle.ang_check_sound.proofs.Items.{every_joined}
 

@@ -15,10 +15,10 @@ use Rattle.ang_names_known.specs.declared.names.Family.{Family}
 use Rattle.ang_names_known.specs.declared.names.FoundField.{FoundField}
 use Rattle.ang_names_known.specs.Lookup.{field_named, may_use}
 use Rattle.ang_names_known.specs.Spaces.{family_of_type}
-use Rattle.ang_names_written.specs.declared.role.Role.TheVariants as role
-use Rattle.ang_names_written.specs.Sources.{text_of}
-use Rattle.ang_names_written.specs.Types.{TypeOrError, is_unknown_type, type_in}
-use Rattle.ang_check_operand.specs.Operands.{Operand, object_of}
+use Rattle.ang_names_listed.specs.declared.role.Role.TheVariants as role
+use Rattle.ang_names_listed.specs.Sources.{text_of}
+use Rattle.ang_names_listed.specs.Types.{TypeOrError, is_unknown_type, type_in}
+use Rattle.ang_check_operators.specs.Operands.{Operand, object_of}
 use Rattle.ang_check_context.specs.declared.scope.LocalVariable.{LocalVariable}
 use Rattle.ang_check_context.specs.Scope.{BodyContext, scope_of, space_of, family_of, is_there}
 use Rattle.ang_check_context.specs.Casts.{type_or_refusal, cast_type, cast_between, cast_from, cast_by, cast_typing}

@@ -20,14 +20,14 @@ use Rattle.ang_typed.specs.declared.expression.StepKind.{StepKind}
 use Rattle.ang_typed.specs.declared.expression.StepKind.TheVariants as step
 use Rattle.ang_typed.specs.declared.expression.Variable.{Variable}
 use Rattle.ang_typed.specs.Typed as t
-use Rattle.ang_check_operand.specs.declared.operand.Seat.{Seat}
-use Rattle.ang_check_operand.specs.declared.operand.Target.{Target}
+use Rattle.ang_check_operators.specs.declared.operand.Seat.{Seat}
+use Rattle.ang_check_operators.specs.declared.operand.Target.{Target}
 use Rattle.ang_check_operators.specs.declared.forms.Form.{Form}
 use Rattle.ang_check_operators.specs.declared.forms.Form.TheVariants as form
 use Rattle.ang_check_operators.specs.declared.forms.Work.{Work}
 use Rattle.ang_check_operators.specs.declared.forms.Work.TheVariants as work
-use Rattle.ang_check_operand.specs.Operands.{Operand, operand, reading, conversion, fit_by, fit, integer, number, truth_in, truth, identity_in, identity, object_of, site_in, site_or, target_by, target, seat_by, seat}
-use Rattle.ang_check_operand.specs.Refusals.{Typing, ◌>>=◌, refused}
+use Rattle.ang_check_operators.specs.Operands.{Operand, operand, reading, conversion, fit_by, fit, integer, number, truth_in, truth, identity_in, identity, object_of, site_in, site_or, target_by, target, seat_by, seat}
+use Rattle.ang_check_operators.specs.Refusals.{Typing, ◌>>=◌, refused}
 use Rattle.ang_check_operators.specs.Forms.{binary_form, compound_work}
 use Rattle.ang_check_operators.specs.Operations.{literal_by, literal_typing, raised_type, worked_in, arithmetic, shift, compared_in, order, equality_by, equality, conjunction, disjunction, exclusion, sameness, difference, formed, binary_typing, negated, complemented, raised_operand, opposite, seat_of, handle_in, handle_typing, stepped, prefix_by, prefix_typing, postfix_by, postfix_typing, converted_by, convert_typing, inside, group_typing, choice_as, choice_of_integers, stands_for, choice_of, choice_of_objects, choice_of_enumerations, choice_by, choice, conditional_typing, assign_in, assigned, reseated, assigned_by, compound_in, compound_arithmetic, compound_shift, assignment_by, assignment_typing}
 use Rattle.ang_source.specs.Sound.{Module, IsVariable, IsStored, IsMember, IsStoredMember, Sound}

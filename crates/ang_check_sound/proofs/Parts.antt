@@ -17,14 +17,14 @@ use Rattle.ang_names_known.specs.declared.names.ScriptGlobal.{ScriptGlobal}
 use Rattle.ang_names_known.specs.Items.{each_after}
 use Rattle.ang_names_known.specs.Spaces.{Space, space_of_names}
 use Rattle.ang_names_known.specs.declared.names.Written.{Written}
-use Rattle.ang_names_written.specs.declared.role.Role.TheVariants as role
-use Rattle.ang_names_written.specs.Types.{written_in}
-use Rattle.ang_names_written.specs.Sources.{Source}
+use Rattle.ang_names_listed.specs.declared.role.Role.TheVariants as role
+use Rattle.ang_names_listed.specs.Types.{written_in}
+use Rattle.ang_names_listed.specs.Sources.{Source}
 use Rattle.ang_names_listed.specs.declared.listed.Declared.{Declared}
 use Rattle.ang_names_listed.specs.Declarations.{Declaring, stands_at, class_shape, interface_shape, globals_from, declared_at, declarations_of, declaring_of, families_of, family_name}
-use Rattle.ang_names_tables.specs.Headings.{signatures_of}
-use Rattle.ang_names_resolved.specs.Resolved.{function_of, global_of, body_members, families_after, family_with, functions_in, families_in, names_of, space_of_declared}
-use Rattle.ang_check_bodies.specs.Bodies.{Part, a_function, a_global, a_method, a_constructor, a_default, InSection, function_count, global_count, family_count, initializer_parts, class_parts, declaration_parts, in_sections, parts_of, judged_method, judged_constructor, judged_function, judged_global, base_name, base_of, judged, judgements}
+use Rattle.ang_names_classes.specs.Headings.{signatures_of}
+use Rattle.ang_names_classes.specs.Resolved.{function_of, global_of, body_members, families_after, family_with, functions_in, families_in, names_of, space_of_declared}
+use Rattle.ang_check.specs.Bodies.{Part, a_function, a_global, a_method, a_constructor, a_default, InSection, function_count, global_count, family_count, initializer_parts, class_parts, declaration_parts, in_sections, parts_of, judged_method, judged_constructor, judged_function, judged_global, base_name, base_of, judged, judgements}
 use Rattle.ang_check_sound.specs.Parts.{IsPartOf}
 use Rattle.ang_check_sound.proofs.Declared.{Declare, all_declared}
 use Rattle.ang_check_sound.proofs.Members.{AreNumbered, IsMethodWritten, IsConstructorWritten, class_numbered, class_written, interface_methods, interface_constructors, interface_bodies}

@@ -13,7 +13,7 @@ use Rattle.ang_meaning.specs.declared.routine.Passing.TheVariants.{Out}
 use Rattle.ang_source.specs.Meaning.{referred, passing_by, passing_of, passings_of}
 use Rattle.ang_names_known.specs.declared.names.ScriptParameter.{ScriptParameter}
 use Rattle.ang_names_known.specs.Lookup.{type_and_pass}
-use Rattle.ang_check_body.specs.Typing.{typed_parameter}
+use Rattle.ang_check.specs.Typing.{typed_parameter}
 
 -- how a parameter of this type and passing takes its argument
 abbrev pub takes : ArgType × Pass → Passing

@@ -20,13 +20,13 @@ use Rattle.ang_names_known.specs.declared.names.Method.{Method}
 use Rattle.ang_names_known.specs.declared.names.Names.{Names}
 use Rattle.ang_names_known.specs.declared.names.ScriptFunction.{ScriptFunction}
 use Rattle.ang_names_known.specs.declared.names.ScriptGlobal.{ScriptGlobal}
-use Rattle.ang_names_written.specs.Sources.{Source}
+use Rattle.ang_names_listed.specs.Sources.{Source}
 use Rattle.ang_names_listed.specs.Declarations.{declarations_of, families_of}
-use Rattle.ang_names_tables.specs.Headings.{signatures_of}
-use Rattle.ang_names_resolved.specs.Resolved.{functions_in, families_in, names_of, space_of_declared}
-use Rattle.ang_check_operand.specs.Refusals.{Typing}
-use Rattle.ang_check_body.specs.Typing.{Base, typed_parameters, function_typing, method_body_typing, constructor_typing, global_typing}
-use Rattle.ang_check_bodies.specs.Bodies.{Part, a_function, a_global, a_method, a_constructor, a_default, parts_of, Judgement, of_function, of_global, of_member, of_default, context_in, within_of, base_of, base_name, judged_function, judged_global, method_at, judged_method, constructor_at, judged_constructor, judged, judgements, refusal_in, function_given, member_given, global_given, body_refusals, program_of, HasMethodBody, HasConstructorBody, HasBodies}
+use Rattle.ang_names_classes.specs.Headings.{signatures_of}
+use Rattle.ang_names_classes.specs.Resolved.{functions_in, families_in, names_of, space_of_declared}
+use Rattle.ang_check_operators.specs.Refusals.{Typing}
+use Rattle.ang_check.specs.Typing.{Base, typed_parameters, function_typing, method_body_typing, constructor_typing, global_typing}
+use Rattle.ang_check.specs.Bodies.{Part, a_function, a_global, a_method, a_constructor, a_default, parts_of, Judgement, of_function, of_global, of_member, of_default, context_in, within_of, base_of, base_name, judged_function, judged_global, method_at, judged_method, constructor_at, judged_constructor, judged, judgements, refusal_in, function_given, member_given, global_given, body_refusals, program_of, HasMethodBody, HasConstructorBody, HasBodies}
 use Rattle.ang_check_sound.specs.Checked.{NumberedBody, with_this, bodies_of, body_parameters, HasNames}
 use Rattle.ang_check_sound.proofs.Bodies.{IsOf, IsGlobal, function_declared, method_declared, constructor_declared, global_declared}
 use Rattle.ang_check_sound.proofs.Members.{number_of, IsMethod, IsConstructor, AreNumbered, IsMethodWritten, IsConstructorWritten}

@@ -27,17 +27,17 @@ use Rattle.ang_names_known.specs.declared.names.ScriptParameter.{ScriptParameter
 use Rattle.ang_names_known.specs.Items.{each_after}
 use Rattle.ang_names_known.specs.Lookup.{same_type, same_written, same_parameter, same_parameters}
 use Rattle.ang_names_known.specs.Spaces.{Space}
-use Rattle.ang_names_written.specs.Sources.{Source}
+use Rattle.ang_names_listed.specs.Sources.{Source}
 use Rattle.ang_names_listed.specs.declared.listed.Declared.{Declared}
 use Rattle.ang_names_listed.specs.declared.listed.Member.{Member}
 use Rattle.ang_names_listed.specs.declared.listed.MemberKind.{MemberKind}
 use Rattle.ang_names_listed.specs.declared.listed.MemberKind.TheVariants as member
 use Rattle.ang_names_listed.specs.Declarations.{Declaring, declarations_of, families_of}
-use Rattle.ang_names_resolved.specs.Resolved.{space_of_declared}
-use Rattle.ang_names_tables.specs.Headings.{heading_of as written_as, signature_by, signatures_of, same_signature, slot_of}
-use Rattle.ang_names_resolved.specs.Resolved.{with_bodies, body_members, methods_by, methods_after, families_after, functions_in, families_in, names_of}
-use Rattle.ang_check_body.specs.Typing.{typed_parameter}
-use Rattle.ang_check_bodies.specs.Bodies.{method_heading, method_headings}
+use Rattle.ang_names_classes.specs.Resolved.{space_of_declared}
+use Rattle.ang_names_classes.specs.Headings.{heading_of as written_as, signature_by, signatures_of, same_signature, slot_of}
+use Rattle.ang_names_classes.specs.Resolved.{with_bodies, body_members, methods_by, methods_after, families_after, functions_in, families_in, names_of}
+use Rattle.ang_check.specs.Typing.{typed_parameter}
+use Rattle.ang_check.specs.Bodies.{method_heading, method_headings}
 use Rattle.ang_check_sound.proofs.Items.{first_true, second_true, every_joined, every_at, at_front}
 use Rattle.ang_check_sound.proofs.Places.{in_second}
 

@@ -20,13 +20,13 @@ use Rattle.ang_names_known.specs.declared.names.ScriptFunction.{ScriptFunction}
 use Rattle.ang_names_known.specs.declared.names.ScriptGlobal.{ScriptGlobal}
 use Rattle.ang_names_known.specs.Items.{each_after}
 use Rattle.ang_names_known.specs.Spaces.{first_family}
-use Rattle.ang_names_written.specs.Sources.{Source}
+use Rattle.ang_names_listed.specs.Sources.{Source}
 use Rattle.ang_names_listed.specs.Declarations.{declarations_of}
-use Rattle.ang_names_resolved.specs.Resolved.{names_of}
-use Rattle.ang_check_operand.specs.Refusals.{Typing}
+use Rattle.ang_names_classes.specs.Resolved.{names_of}
+use Rattle.ang_check_operators.specs.Refusals.{Typing}
 use Rattle.ang_check_context.specs.declared.scope.Within.{Within}
-use Rattle.ang_check_body.specs.Typing.{Base, typed_parameters, function_typing, method_body_typing, constructor_typing, global_typing, implicit_super}
-use Rattle.ang_check_bodies.specs.Bodies.{Part, a_function, a_global, a_method, a_constructor, a_default, parts_of, Judgement, of_function, of_global, of_member, of_default, context_in, within_of, base_of, base_name, judged_function, judged_global, method_at, judged_method, constructor_at, judged_constructor, judged, judgements, refusal_in, function_given, member_given, global_given, body_refusals, typed_class, method_headings, import_heading, program_of}
+use Rattle.ang_check.specs.Typing.{Base, typed_parameters, function_typing, method_body_typing, constructor_typing, global_typing, implicit_super}
+use Rattle.ang_check.specs.Bodies.{Part, a_function, a_global, a_method, a_constructor, a_default, parts_of, Judgement, of_function, of_global, of_member, of_default, context_in, within_of, base_of, base_name, judged_function, judged_global, method_at, judged_method, constructor_at, judged_constructor, judged, judgements, refusal_in, function_given, member_given, global_given, body_refusals, typed_class, method_headings, import_heading, program_of}
 use Rattle.ang_source.specs.Sound.{Module, module_of, SoundOption, SoundFunction, SoundFunctions, SoundGlobals, SoundClasses, SoundProgram}
 use Rattle.ang_check_sound.specs.Checked.{module_in, HasNames}
 use Rattle.ang_check_sound.specs.Built.{IsBuiltContext}

@@ -16,16 +16,16 @@ use Rattle.ang_names_known.specs.declared.names.Names.{Names}
 use Rattle.ang_names_known.specs.declared.names.ScriptFunction.{ScriptFunction}
 use Rattle.ang_names_known.specs.Items.{each_after}
 use Rattle.ang_names_known.specs.Spaces.{Space}
-use Rattle.ang_names_written.specs.Sources.{Source}
+use Rattle.ang_names_listed.specs.Sources.{Source}
 use Rattle.ang_names_listed.specs.declared.listed.Declared.{Declared}
 use Rattle.ang_names_listed.specs.declared.listed.Member.{Member}
 use Rattle.ang_names_listed.specs.declared.listed.MemberKind.{MemberKind}
 use Rattle.ang_names_listed.specs.declared.listed.MemberKind.TheVariants as member
 use Rattle.ang_names_listed.specs.Declarations.{Declaring, declarations_of, families_of}
-use Rattle.ang_names_resolved.specs.Resolved.{space_of_declared}
-use Rattle.ang_names_tables.specs.Headings.{heading_of, maker_of, signatures_of}
-use Rattle.ang_names_resolved.specs.Resolved.{has_body, with_bodies, body_members, body_number, methods_by, methods_after, constructors_by, constructors_after, families_after, functions_in, families_in, names_of}
-use Rattle.ang_check_body.specs.Typing.{typed_parameters}
+use Rattle.ang_names_classes.specs.Resolved.{space_of_declared}
+use Rattle.ang_names_classes.specs.Headings.{heading_of, maker_of, signatures_of}
+use Rattle.ang_names_classes.specs.Resolved.{has_body, with_bodies, body_members, body_number, methods_by, methods_after, constructors_by, constructors_after, families_after, functions_in, families_in, names_of}
+use Rattle.ang_check.specs.Typing.{typed_parameters}
 use Rattle.ang_check_sound.specs.Checked.{NumberedBody, with_this, bodies_of, body_parameters, module_in}
 use Rattle.ang_check_sound.proofs.Items.{every_joined, every_other, every_at, at_front}
 use Rattle.ang_check_sound.proofs.Numbers.{bodies_counted, has_number, every_body, found, method_numbered, constructor_numbered}

@@ -10,16 +10,16 @@ use Rattle.ang_tree.specs.Stmt.{Init, absent, value, constructor, Var, Vars, Sta
 use Rattle.ang_tree.specs.Stmt as written
 use Rattle.ang_typed.specs.Typed as t
 use Rattle.ang_types.specs.Ranks.{Ancestors}
-use Rattle.ang_check_operand.specs.Refusals.{Typing}
-use Rattle.ang_check_operand.specs.Operands.{Operand, fit}
+use Rattle.ang_check_operators.specs.Refusals.{Typing}
+use Rattle.ang_check_operators.specs.Operands.{Operand, fit}
 use Rattle.ang_check_context.specs.declared.scope.LocalVariable.{LocalVariable}
 use Rattle.ang_check_context.specs.declared.scope.Within.{Within}
 use Rattle.ang_check_typing.specs.Calls.{default_typing, made_typing}
 use Rattle.ang_check_context.specs.Scope.{BodyContext}
 use Rattle.ang_check_typing.specs.Typing.{typing_of, typing_of_args, typing_of_all}
-use Rattle.ang_check_statements.specs.declared.frame.Returns.{Returns}
-use Rattle.ang_check_statements.specs.declared.frame.Returns.TheVariants as returns
-use Rattle.ang_check_statements.specs.Typing.{Frame, with_same, optional_typing, expression_typing, condition_typing, optional_condition, trees_of, steps_typing, local_type, local_name, fitted, absent_typing, value_typing, arguments_typing, initializer_typing, made, local_with, local_typing, each_local, locals_typing, declaration_typing, value_returned, nothing_returned, return_nothing, return_value, result_typing, return_typing, jump, start_typing, head_typing, block_of, alone, tested_of, either_of, while_of, do_while_of, for_of, stmt_typing, block_typing, stmts_typing}
+use Rattle.ang_check_stmt.specs.declared.frame.Returns.{Returns}
+use Rattle.ang_check_stmt.specs.declared.frame.Returns.TheVariants as returns
+use Rattle.ang_check_stmt.specs.Typing.{Frame, with_same, optional_typing, expression_typing, condition_typing, optional_condition, trees_of, steps_typing, local_type, local_name, fitted, absent_typing, value_typing, arguments_typing, initializer_typing, made, local_with, local_typing, each_local, locals_typing, declaration_typing, value_returned, nothing_returned, return_nothing, return_value, result_typing, return_typing, jump, start_typing, head_typing, block_of, alone, tested_of, either_of, while_of, do_while_of, for_of, stmt_typing, block_typing, stmts_typing}
 use Rattle.ang_source.specs.Sound.{Module, Sound, SoundOption, SoundEach, SoundLocals, SoundStatement, SoundStatements, declared}
 use Rattle.ang_check_sound.specs.Built.{IsBuiltContext, HasThis}
 use Rattle.ang_check_sound.proofs.Judged.{holds, any}

@@ -16,10 +16,10 @@ use Rattle.ang_types.specs.Best.{best_of}
 use Rattle.ang_types.proofs.BestLaws.{best_of-says}
 use Rattle.ang_view.specs.declared.entry.EntryKind.TheVariants as entry
 use Rattle.ang_view.specs.Named.{values_named}
-use Rattle.ang_names_host.specs.declared.host.HostFunction.{HostFunction}
-use Rattle.ang_names_host.specs.declared.host.HostProperty.{HostProperty}
-use Rattle.ang_names_host.specs.declared.host.Wanted.TheVariants as wanted
-use Rattle.ang_names_host.specs.declared.host.WantedProperty.TheVariants as property
+use Rattle.ang_names_known.specs.declared.host.HostFunction.{HostFunction}
+use Rattle.ang_names_known.specs.declared.host.HostProperty.{HostProperty}
+use Rattle.ang_names_known.specs.declared.host.Wanted.TheVariants as wanted
+use Rattle.ang_names_known.specs.declared.host.WantedProperty.TheVariants as property
 use Rattle.ang_names_known.specs.declared.names.Constructor.{Constructor}
 use Rattle.ang_names_known.specs.declared.names.Default.{Default}
 use Rattle.ang_names_known.specs.declared.names.Default.TheVariants as default
@@ -29,7 +29,7 @@ use Rattle.ang_names_known.specs.declared.names.ScriptGlobal.{ScriptGlobal}
 use Rattle.ang_names_known.specs.declared.names.ScriptParameter.{ScriptParameter}
 use Rattle.ang_names_known.specs.declared.space.Named.{Named}
 use Rattle.ang_names_known.specs.declared.space.Named.TheVariants as named
-use Rattle.ang_names_host.specs.Host.{host_where, property_where}
+use Rattle.ang_names_known.specs.Host.{host_where, property_where}
 use Rattle.ang_names_known.specs.Items.{is_empty}
 use Rattle.ang_names_known.specs.Lookup.{functions_named, global_named, parameters_of, takes_nothing, default_of}
 use Rattle.ang_names_known.specs.Spaces.{family_of_type, type_of_name, space_of_names}
@@ -41,7 +41,7 @@ use Rattle.ang_check_uses.specs.declared.uses.EnumerationValue.{EnumerationValue
 use Rattle.ang_check_uses.specs.declared.uses.Resolution.{Resolution}
 use Rattle.ang_check_uses.specs.declared.uses.Resolution.TheVariants as resolution
 use Rattle.ang_check_uses.specs.Uses.{value_at, one_value, value_among, value_meant, takes_number, host_meant, variable_meant, global_or_host, global_meant, own_function, imported_function, callable_in, callable_at, script_callables, host_callable, maker, factories_of, constructor_of, default_maker, makers_in, makers_for, makers_of, candidates_of, called_at, picked, best_of_those, functions_of, called_by, called_name, property_meant, host_method, host_methods, unmatched, best_method, resolution_of}
-use Rattle.ang_check_body.specs.Typing.{typed_parameter, typed_parameters, this_parameter}
+use Rattle.ang_check.specs.Typing.{typed_parameter, typed_parameters, this_parameter}
 use Rattle.ang_source.specs.Sound as sound
 use Rattle.ang_source.specs.Sound.{Module, IsVariable, IsStored, IsHostCallee}
 use Rattle.ang_tree.specs.Stmt.{Every}

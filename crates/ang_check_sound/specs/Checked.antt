@@ -10,10 +10,10 @@ use Rattle.ang_names_known.specs.declared.names.Method.{Method}
 use Rattle.ang_names_known.specs.declared.names.Names.{Names}
 use Rattle.ang_names_known.specs.declared.names.ScriptFunction.{ScriptFunction}
 use Rattle.ang_names_known.specs.Items.{each_after}
-use Rattle.ang_names_written.specs.Sources.{Source}
+use Rattle.ang_names_listed.specs.Sources.{Source}
 use Rattle.ang_check_context.specs.declared.scope.Within.{Within}
-use Rattle.ang_check_body.specs.Typing.{this_parameter, typed_parameters}
-use Rattle.ang_check_bodies.specs.Bodies.{HasBodies, method_headings}
+use Rattle.ang_check.specs.Typing.{this_parameter, typed_parameters}
+use Rattle.ang_check.specs.Bodies.{HasBodies, method_headings}
 use Rattle.ang_source.specs.Sound.{Module}
 
 -- a body by its number, with its parameters

@@ -8,10 +8,10 @@ use Rattle.ang_names_known.specs.declared.names.Names.{Names}
 use Rattle.ang_names_known.specs.declared.names.ScriptFunction.{ScriptFunction}
 use Rattle.ang_names_known.specs.declared.names.ScriptGlobal.{ScriptGlobal}
 use Rattle.ang_names_known.specs.Spaces.{space_of_names}
-use Rattle.ang_names_written.specs.declared.role.Role.TheVariants as role
-use Rattle.ang_names_written.specs.Sources.{text_of}
-use Rattle.ang_names_written.specs.Types.{written_in}
-use Rattle.ang_check_bodies.specs.Bodies.{Part, a_function, a_global, a_method, a_constructor, a_default, method_at, constructor_at}
+use Rattle.ang_names_listed.specs.declared.role.Role.TheVariants as role
+use Rattle.ang_names_listed.specs.Sources.{text_of}
+use Rattle.ang_names_listed.specs.Types.{written_in}
+use Rattle.ang_check.specs.Bodies.{Part, a_function, a_global, a_method, a_constructor, a_default, method_at, constructor_at}
 
 -- What has the number of a part is what the part is written for: a function, a method or a constructor of its name at its place, a global
 -- of its type, a class without a constructor.

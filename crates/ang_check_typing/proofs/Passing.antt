@@ -6,8 +6,8 @@ use Rattle.ang_kinds.specs.declared.types.Pass.{Pass}
 use Rattle.ang_types.specs.declared.arg_type.ArgType.{ArgType}
 use Rattle.ang_types.specs.Ranks.{Ancestors}
 use Rattle.ang_typed.specs.Typed as t
-use Rattle.ang_check_operand.specs.Refusals.{Typing, ◌>>=◌}
-use Rattle.ang_check_operand.specs.Operands.{Operand}
+use Rattle.ang_check_operators.specs.Refusals.{Typing, ◌>>=◌}
+use Rattle.ang_check_operators.specs.Operands.{Operand}
 use Rattle.ang_check_typing.specs.Calls.{argument, arguments_for}
 use Rattle.ang_check_typing.proofs.SoFar.{all_behind}
 

@@ -1,6 +1,6 @@
 -- What a loop has so far, in front of what is left.
 use Rattle.std.specs.Prelude.{List, ◌++◌, Ok, Err}
-use Rattle.ang_check_operand.specs.Refusals.{Typing}
+use Rattle.ang_check_operators.specs.Refusals.{Typing}
 
 abbrev pub all_behind : {A : Type 0} → List A → Typing (List A) → Typing (List A)
 all_behind xs (Err r) = Err r

@@ -20,7 +20,7 @@ use Rattle.ang_typed.specs.declared.expression.Variable.TheVariants as variable
 use Rattle.ang_typed.specs.Typed as t
 use Rattle.ang_names_known.specs.declared.names.Family.{Family}
 use Rattle.ang_names_known.specs.declared.names.Method.{Method}
-use Rattle.ang_check_operand.specs.declared.operand.Target.{Target}
+use Rattle.ang_check_operators.specs.declared.operand.Target.{Target}
 use Rattle.ang_check_context.specs.declared.scope.LocalVariable.{LocalVariable}
 use Rattle.ang_check_context.specs.declared.scope.Within.{Within}
 use Rattle.ang_check_uses.specs.declared.uses.Callable.{Callable}
@@ -31,14 +31,14 @@ use Rattle.ang_check_uses.specs.declared.uses.Resolution.TheVariants as resoluti
 use Rattle.ang_names_known.specs.Items.{is_empty}
 use Rattle.ang_names_known.specs.Lookup.{FoundMethod, is_under, methods_named, parameters_of}
 use Rattle.ang_names_known.specs.Spaces.{family_type, family_of_type}
-use Rattle.ang_check_operand.specs.Operands.{Operand, operand, fit, integer, object_of, site_in}
-use Rattle.ang_check_operand.specs.Refusals.{Typing, ◌>>=◌, fault, refused, use_refused}
+use Rattle.ang_check_operators.specs.Operands.{Operand, operand, fit, integer, object_of, site_in}
+use Rattle.ang_check_operators.specs.Refusals.{Typing, ◌>>=◌, fault, refused, use_refused}
 use Rattle.ang_check_context.specs.Access.{if_in_reach}
 use Rattle.ang_check_context.specs.Names.{this_operand}
 use Rattle.ang_check_context.specs.Operands.{types_of}
 use Rattle.ang_check_context.specs.Scope.{BodyContext, scope_of, is_there}
 use Rattle.ang_check_uses.specs.Uses.{resolution_of, best_method, best_of_those, makers_of, why}
-use Rattle.ang_names_written.specs.Sources.{text_of}
+use Rattle.ang_names_listed.specs.Sources.{text_of}
 
 -- ---- arguments
 

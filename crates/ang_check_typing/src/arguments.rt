@@ -1,12 +1,12 @@
 //! Arguments, each for its parameter.
 ghost use Rattle.std.specs.Prelude.{◌≡◌, map as list_map};
-ghost use Rattle.ang_check_operand.specs.Operands.{site_in as site_in_tree};
-ghost use Rattle.ang_check_operand.specs.Refusals.{Gives};
-ghost use Rattle.ang_check_operand.specs.View.{view_operand, view_operands};
+ghost use Rattle.ang_check_operators.specs.Operands.{site_in as site_in_tree};
+ghost use Rattle.ang_check_operators.specs.Refusals.{Gives};
+ghost use Rattle.ang_check_operators.specs.View.{view_operand, view_operands};
 ghost use Rattle.ang_check_typing.specs.Calls as spec;
 ghost use Rattle.ang_typed.specs.View.{view_arg, view_site, view_tree};
 
-use ang_check_operand::{Operand, Stop, fault, fit, site_in};
+use ang_check_operators::{Operand, Stop, fault, fit, site_in};
 use ang_kinds::{ErrorKind, List, Pass, Place};
 use ang_typed::{Argument, Expression, Site, Variable};
 use ang_types::{ArgType, Lineage};

@@ -1,15 +1,15 @@
 //! Calls of what was resolved.
 ghost use Rattle.std.specs.Prelude.{◌≡◌, ◌∷◌, false, map as list_map, IfOk};
-ghost use Rattle.ang_check_operand.specs.Refusals.{Gives, use_refused as refusal_of};
-ghost use Rattle.ang_check_operand.specs.View.{view_operand, view_operands};
+ghost use Rattle.ang_check_operators.specs.Refusals.{Gives, use_refused as refusal_of};
+ghost use Rattle.ang_check_operators.specs.View.{view_operand, view_operands};
 ghost use Rattle.ang_check_context.specs.Scope as scopes;
 ghost use Rattle.ang_check_typing.specs.Calls as spec;
-ghost use Rattle.ang_names_written.specs.Sources as sources;
+ghost use Rattle.ang_names_listed.specs.Sources as sources;
 ghost use Rattle.ang_typed.specs.View.{view_arg, view_tree};
 
 use crate::arguments::arguments_for;
 use ang_check_context::{BodyContext, Locals, access_error, is_there, may_reach};
-use ang_check_operand::{Operand, Stop, boxed, plain_operand, refused, use_refused};
+use ang_check_operators::{Operand, Stop, boxed, plain_operand, refused, use_refused};
 use ang_check_uses::{Callable, Called, Resolution};
 use ang_kinds::{ErrorKind, List, Place};
 use ang_lex::Token;

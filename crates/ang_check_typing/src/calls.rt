@@ -4,14 +4,14 @@ ghost use Rattle.std.specs.Prelude.{Some, IfOk, IfSome, map as list_map};
 ghost use Rattle.std.specs.List.{flat_map, position};
 ghost use Rattle.ang_names_known.specs.Lookup as lookup;
 ghost use Rattle.ang_names_known.specs.Spaces as spaces;
-ghost use Rattle.ang_check_operand.specs.Refusals.{Gives};
-ghost use Rattle.ang_check_operand.specs.View.{view_operand, view_operands};
+ghost use Rattle.ang_check_operators.specs.Refusals.{Gives};
+ghost use Rattle.ang_check_operators.specs.View.{view_operand, view_operands};
 ghost use Rattle.ang_check_typing.specs.Calls as spec;
 ghost use Rattle.ang_check_context.specs.Names.{this_operand as own_operand};
 ghost use Rattle.ang_check_context.specs.Operands.{types_of as all_types};
 ghost use Rattle.ang_check_context.specs.Scope as scopes;
 ghost use Rattle.ang_check_uses.specs.Uses as uses;
-ghost use Rattle.ang_names_written.specs.Sources as sources;
+ghost use Rattle.ang_names_listed.specs.Sources as sources;
 
 use crate::called::{CallSite, called_bare};
 use crate::enumerated::enumerated_of;
@@ -19,7 +19,7 @@ use crate::methods::{called_on, direct_meant, own_method};
 use ang_check_context::{
     BodyContext, Locals, Receiver, Within, receiver_within, resolved, this_operand, types_of,
 };
-use ang_check_operand::{Operand, Stop, refused};
+use ang_check_operators::{Operand, Stop, refused};
 use ang_check_uses::Resolution;
 use ang_kinds::{ErrorKind, List};
 use ang_lex::Token;

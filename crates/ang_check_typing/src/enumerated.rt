@@ -1,10 +1,10 @@
 //! Conversions to enumerations.
 ghost use Rattle.std.specs.Prelude.{◌≡◌, ◌∷◌, []};
-ghost use Rattle.ang_check_operand.specs.Refusals.{Gives};
-ghost use Rattle.ang_check_operand.specs.View.{view_operand, view_operands};
+ghost use Rattle.ang_check_operators.specs.Refusals.{Gives};
+ghost use Rattle.ang_check_operators.specs.View.{view_operand, view_operands};
 ghost use Rattle.ang_check_typing.specs.Calls as spec;
 
-use ang_check_operand::{Operand, Stop, boxed, integer, plain_operand, refused};
+use ang_check_operators::{Operand, Stop, boxed, integer, plain_operand, refused};
 use ang_kinds::{ErrorKind, Place, Prim};
 use ang_lex::Token;
 use ang_typed::Expression;

@@ -1,8 +1,8 @@
 //! The typing of expressions.
 ghost use Rattle.std.specs.Prelude.{◌≡◌, IfOk, true, ◌++◌, ◌∷◌, []};
 ghost use Rattle.ang_tree.specs.View as trees;
-ghost use Rattle.ang_check_operand.specs.Refusals.{Gives};
-ghost use Rattle.ang_check_operand.specs.View.{view_operand, view_operands};
+ghost use Rattle.ang_check_operators.specs.Refusals.{Gives};
+ghost use Rattle.ang_check_operators.specs.View.{view_operand, view_operands};
 ghost use Rattle.ang_check_typing.specs.Operands.{has_one_operand, has_two_operands};
 ghost use Rattle.ang_check_typing.specs.Operands.{has_three_operands, is_of_object};
 ghost use Rattle.ang_check_typing.specs.Typing as spec;
@@ -12,9 +12,8 @@ use crate::object_methods::method_call;
 use ang_check_context::{
     BodyContext, Locals, cast, cast_type, member_of, named, scoped_name, this,
 };
-use ang_check_operand::{Operand, Stop};
 use ang_check_operators::{
-    assignment, binary, conditional, convert, group, literal, postfix, prefix,
+    Operand, Stop, assignment, binary, conditional, convert, group, literal, postfix, prefix,
 };
 use ang_lex::{Token, TokenKind};
 use ang_tree::{Argument, Expression};

@@ -1,7 +1,7 @@
 //! Objects that declarations make.
 ghost use Rattle.std.specs.Prelude.{◌≡◌, IfOk};
-ghost use Rattle.ang_check_operand.specs.Refusals.{Gives};
-ghost use Rattle.ang_check_operand.specs.View.{view_operand, view_operands};
+ghost use Rattle.ang_check_operators.specs.Refusals.{Gives};
+ghost use Rattle.ang_check_operators.specs.View.{view_operand, view_operands};
 ghost use Rattle.ang_check_typing.specs.Calls as spec;
 ghost use Rattle.ang_check_context.specs.Operands.{types_of as all_types};
 ghost use Rattle.ang_check_context.specs.Scope as scopes;
@@ -10,7 +10,7 @@ ghost use Rattle.ang_names_known.specs.Spaces as spaces;
 
 use crate::called::{CallSite, called_bare, called_own};
 use ang_check_context::{BodyContext, Locals, makers, resolved, types_of};
-use ang_check_operand::{Operand, Stop};
+use ang_check_operators::{Operand, Stop};
 use ang_check_uses::{Resolution, best_of_those};
 use ang_kinds::{ErrorKind, List};
 use ang_lex::Token;

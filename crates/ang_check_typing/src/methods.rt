@@ -1,8 +1,8 @@
 //! Methods of the scripts.
 ghost use Rattle.std.specs.Prelude.{◌≡◌, ◌++◌, ◌∷◌, IfOk, OnOk, map as list_map};
 ghost use Rattle.std.specs.List.{flat_map};
-ghost use Rattle.ang_check_operand.specs.Refusals.{Gives};
-ghost use Rattle.ang_check_operand.specs.View.{view_operand, view_operands};
+ghost use Rattle.ang_check_operators.specs.Refusals.{Gives};
+ghost use Rattle.ang_check_operators.specs.View.{view_operand, view_operands};
 ghost use Rattle.ang_check_typing.specs.Calls as spec;
 ghost use Rattle.ang_check_typing.specs.Methods as methods_spec;
 ghost use Rattle.ang_check_context.specs.Operands.{types_of as all_types};
@@ -10,7 +10,7 @@ ghost use Rattle.ang_check_uses.specs.Uses as uses;
 
 use crate::called::{CallSite, called_own, with_receiver};
 use ang_check_context::{BodyContext, Receiver, types_of};
-use ang_check_operand::{Operand, Stop};
+use ang_check_operators::{Operand, Stop};
 use ang_check_uses::{Callable, Callables, Called, Reach, Resolution, best_method};
 use ang_kinds::{List, Pass};
 use ang_lex::Token;

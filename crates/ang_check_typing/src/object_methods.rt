@@ -1,13 +1,13 @@
 //! Methods of objects.
 ghost use Rattle.std.specs.Prelude.{None};
-ghost use Rattle.ang_check_operand.specs.Refusals.{Gives};
-ghost use Rattle.ang_check_operand.specs.View.{view_operand, view_operands};
+ghost use Rattle.ang_check_operators.specs.Refusals.{Gives};
+ghost use Rattle.ang_check_operators.specs.View.{view_operand, view_operands};
 ghost use Rattle.ang_check_typing.specs.Calls as spec;
 
 use crate::called::{CallSite, called_member, with_receiver};
 use crate::methods::own_method;
 use ang_check_context::{BodyContext, Receiver, resolved, types_of};
-use ang_check_operand::{Operand, Stop, object_of, refused};
+use ang_check_operators::{Operand, Stop, object_of, refused};
 use ang_kinds::{ErrorKind, List};
 use ang_lex::Token;
 use ang_names_known::family_of_type;

@@ -6,7 +6,7 @@ use Rattle.ang_types.specs.declared.arg_type.ArgType.{ArgType}
 use Rattle.ang_types.specs.declared.arg_type.ArgType.TheVariants as type
 use Rattle.ang_typed.specs.declared.expression.Callee.TheVariants as callee
 use Rattle.ang_typed.specs.declared.expression.HostEntity.{HostEntity}
-use Rattle.ang_names_host.specs.declared.host.HostFunction.{HostFunction}
+use Rattle.ang_names_known.specs.declared.host.HostFunction.{HostFunction}
 use Rattle.ang_names_known.specs.declared.names.ScriptFunction.{ScriptFunction}
 use Rattle.ang_names_known.specs.Spaces.{family_type}
 use Rattle.ang_check_uses.specs.declared.hosts.HostUse.{HostUse}

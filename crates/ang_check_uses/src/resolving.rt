@@ -1,7 +1,7 @@
 //! What any use means.
 ghost use Rattle.std.specs.Prelude.{◌≡◌, IfOk};
-ghost use Rattle.ang_names_host.specs.declared.host.WantedProperty.TheVariants as property;
-ghost use Rattle.ang_names_host.specs.Host as host;
+ghost use Rattle.ang_names_known.specs.declared.host.WantedProperty.TheVariants as property;
+ghost use Rattle.ang_names_known.specs.Host as host;
 ghost use Rattle.ang_names_known.specs.Spaces as spaces;
 ghost use Rattle.ang_check_uses.specs.Uses as spec;
 
@@ -13,8 +13,9 @@ use crate::scripts::functions_of;
 use crate::uses::Resolution;
 use crate::values::{enumeration_called, value_meant};
 use ang_kinds::ErrorKind;
-use ang_names_host::{HostProperty, WantedProperty, property_where};
-use ang_names_known::{Named, ScriptGlobal, Space, Text, is_read_only};
+use ang_names_known::{
+    HostProperty, Named, ScriptGlobal, Space, Text, WantedProperty, is_read_only, property_where,
+};
 use ang_typed::Variable;
 use ang_types::{ArgType, Asks};
 use ang_view::View;

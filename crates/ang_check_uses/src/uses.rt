@@ -1,7 +1,6 @@
 //! What a use of a name means.
 use ang_kinds::{EntityNo, ErrorKind};
-use ang_names_host::HostProperty;
-use ang_names_known::Access;
+use ang_names_known::{Access, HostProperty};
 use ang_typed::{Callee, HostEntity, Variable};
 use ang_types::{ArgType, Candidate};
 

@@ -1,3 +1,6 @@
+pub mod Worlds
+pub mod Operations
+pub mod Keeping
 pub mod Events
 pub mod Performing
 pub mod Asking

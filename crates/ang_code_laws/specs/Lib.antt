@@ -1,3 +1,4 @@
+pub mod Globals
 pub mod Asked
 pub mod Determined
 pub mod Counting

@@ -1,8 +1,20 @@
 //! What each run of code asks and counts, that it has one end, and that the numbers of objects do not show.
+//!
+//! What each run of code keeps of the globals.
+ghost use Rattle.ang_code_laws.specs.Globals.{StepsKeep, CallRunsKeep, InitializerRunsKeep};
 ghost use Rattle.ang_code_laws.specs.Alike.{StepsAlike, CallRunsAlike, InitializerRunsAlike, GrantedCallsAlike, GrantedInitializersAlike};
 ghost use Rattle.ang_code_laws.specs.Asked.{CallsAsk, InitializersAsk, CallRunsAsk, InitializerRunsAsk};
 ghost use Rattle.ang_code_laws.specs.Counting.{CallsCount, InitializersCount, StepsCount, CallRunsCount, InitializerRunsCount};
 ghost use Rattle.ang_code_laws.specs.Determined.{HasOneEnd};
+
+/// At each place of a run, whatever it is told and whatever its code is, each module has as many globals as
+/// before it, and there are as many modules that may have some. So it is at the end of a whole run, told by the
+/// inputs that it takes.
+pub fn globals_are_kept()
+    ensures steps { StepsKeep }
+    ensures calls { CallRunsKeep }
+    ensures initializers { InitializerRunsKeep }
+{}
 
 /// A run lists, as far as it has come, host calls by modules and ends of objects. Each host call is of an entity
 /// that this module sees and of its driver, of an object just where it is a member, with as many arguments

@@ -3,6 +3,11 @@
 //! numbers of objects do not show (docs/MEANING.md, "Code").
 //!
 //! `specs/` says what that means; `laws` says that it holds.
+//!
+//! A run of code writes globals, and makes and drops none: each module has as many after it as before
+//! (docs/MEANING.md, "Code").
+//!
+//! `specs/` says what that means; `laws` says that it holds.
 #![tactic(auto)]
 
 pub mod laws;

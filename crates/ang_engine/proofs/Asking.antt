@@ -20,11 +20,11 @@ use Rattle.ang_heap.proofs.Storing.{moves_join}
 use Rattle.ang_engine_modules.specs.declared.modules.LoadedModule.{LoadedModule}
 use Rattle.ang_engine_modules.specs.Loaded.{modules_of}
 use Rattle.ang_engine_modules.specs.Modules.{Module as RunModule, AgreesWith, IsAskedIn}
-use Rattle.ang_engine_world.specs.declared.command.Command.{Command}
-use Rattle.ang_engine_world.specs.declared.module.Module.{Module}
-use Rattle.ang_engine_world.specs.declared.reply.Reply.{Reply}
-use Rattle.ang_engine_world.specs.World.{World, left_to, globals_ended}
-use Rattle.ang_engine_world.specs.States.{places_of}
+use Rattle.ang_engine_modules.specs.declared.command.Command.{Command}
+use Rattle.ang_engine_modules.specs.declared.module.Module.{Module}
+use Rattle.ang_engine_modules.specs.declared.reply.Reply.{Reply}
+use Rattle.ang_engine_modules.specs.World.{World, left_to, globals_ended}
+use Rattle.ang_engine_modules.specs.States.{places_of}
 use Rattle.ang_engine.specs.Step.{Takes, IsEntitled}
 use Rattle.ang_engine.specs.Sound.{IsSoundPlace}
 use Rattle.ang_engine.specs.Asked.{HasRunOn, HasAsked}

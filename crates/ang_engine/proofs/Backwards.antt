@@ -8,7 +8,7 @@ use Rattle.ang_meaning.specs.Results.{give_back}
 use Rattle.ang_meaning.specs.Counting.{how_many, EnoughIn, CanGive}
 use Rattle.ang_meaning.proofs.Counting.{many_append}
 use Rattle.ang_meaning.proofs.Enough.{enough_as, give_can}
-use Rattle.ang_engine_world.specs.World.{globals_ended, all_ended}
+use Rattle.ang_engine_modules.specs.World.{globals_ended, all_ended}
 use Rattle.ang_engine.proofs.GlobalsEnd.{back_last}
 
 -- the last of the first n

@@ -14,11 +14,11 @@ use Rattle.ang_meaning.specs.World.{World as RunWorld, ScriptObjects}
 use Rattle.ang_meaning.specs.Counting.{IsCounted, counts_by}
 use Rattle.ang_meaning.proofs.Roots.{nothing_counted}
 use Rattle.ang_heap.specs.Parts.{world_by, AreReady}
-use Rattle.ang_engine_world.specs.declared.module.Module.{Module}
-use Rattle.ang_engine_world.specs.declared.module.ModuleList.{ModuleList}
-use Rattle.ang_engine_world.specs.World.{no_modules, running, left_to}
-use Rattle.ang_engine_world.specs.States.{places_of, states_in}
-use Rattle.ang_engine_world.specs.Sound.{HaveGlobals}
+use Rattle.ang_engine_modules.specs.declared.module.Module.{Module}
+use Rattle.ang_engine_modules.specs.declared.module.ModuleList.{ModuleList}
+use Rattle.ang_engine_modules.specs.World.{no_modules, running, left_to}
+use Rattle.ang_engine_modules.specs.States.{places_of, states_in}
+use Rattle.ang_engine_modules.specs.Sound.{HaveGlobals}
 use Rattle.ang_engine.specs.Sound.{IsSoundPlace, AreSoundModules}
 use Rattle.ang_engine.proofs.States.{counts-fresh, ready-fresh}
 

@@ -12,15 +12,15 @@ use Rattle.ang_engine_call.specs.Named.{function_named_by}
 use Rattle.ang_engine_modules.specs.declared.modules.LoadedModule.{LoadedModule}
 use Rattle.ang_engine_modules.specs.Loaded.{loaded_at, linked_in, modules_of, with_link as with_link_to}
 use Rattle.ang_engine_modules.specs.Modules.{LinkFits}
-use Rattle.ang_engine_world.specs.declared.module.Module.{Module}
-use Rattle.ang_engine_world.specs.declared.reply.Outcome.TheVariants.{Done}
-use Rattle.ang_engine_world.specs.declared.reply.Refusal.{Refusal}
-use Rattle.ang_engine_world.specs.declared.reply.Refusal.TheVariants.{NoModule, NotBuilt, NoFunction, SignatureDiffers}
-use Rattle.ang_engine_world.specs.World.{Program, ModuleState, World, module_named, module_in, module_at, left_to}
-use Rattle.ang_engine_world.specs.States.{program_in, place_of, places_of}
-use Rattle.ang_engine_world.specs.Commands.{Stepped, answered, refused, linked, on_both, with_link}
-use Rattle.ang_engine_world.specs.Outcomes.{IsDone}
-use Rattle.ang_engine_world.proofs.Worlds.{places_at, places_loaded}
+use Rattle.ang_engine_modules.specs.declared.module.Module.{Module}
+use Rattle.ang_engine_modules.specs.declared.reply.Outcome.TheVariants.{Done}
+use Rattle.ang_engine_modules.specs.declared.reply.Refusal.{Refusal}
+use Rattle.ang_engine_modules.specs.declared.reply.Refusal.TheVariants.{NoModule, NotBuilt, NoFunction, SignatureDiffers}
+use Rattle.ang_engine_modules.specs.World.{Program, ModuleState, World, module_named, module_in, module_at, left_to}
+use Rattle.ang_engine_modules.specs.States.{program_in, place_of, places_of}
+use Rattle.ang_engine_modules.specs.Commands.{Stepped, answered, refused, linked, on_both, with_link}
+use Rattle.ang_engine_modules.specs.Outcomes.{IsDone}
+use Rattle.ang_engine_modules.proofs.Worlds.{places_at, places_loaded}
 use Rattle.ang_engine.specs.Outcomes.{IsLinked, IsRefusedBy, binding}
 use Rattle.ang_engine.specs.Sound.{IsSoundPlace}
 use Rattle.ang_engine.specs.Step.{link_to, link_to_number, link_of, bound, bind_programs, bind}

@@ -19,14 +19,14 @@ use Rattle.ang_engine_modules.specs.Executed.{initialization_of}
 use Rattle.ang_engine_modules.specs.Ends.{Ends, end_of}
 use Rattle.ang_engine.specs.declared.building.BuildRefused.{BuildRefused}
 use Rattle.ang_engine.specs.declared.building.BuildRefused.TheVariants as why
-use Rattle.ang_engine_world.specs.declared.reply.Reply.{Reply}
-use Rattle.ang_engine_world.specs.declared.reply.Outcome.TheVariants.{Done, Refused}
-use Rattle.ang_engine_world.specs.declared.reply.Refusal.TheVariants.{BuildMemory, InitFailed}
-use Rattle.ang_engine_world.specs.World.{Program, ModuleState, ModuleStates, World, placed, all_unbound_from, built_in, running, left_to, globals_ended}
+use Rattle.ang_engine_modules.specs.declared.reply.Reply.{Reply}
+use Rattle.ang_engine_modules.specs.declared.reply.Outcome.TheVariants.{Done, Refused}
+use Rattle.ang_engine_modules.specs.declared.reply.Refusal.TheVariants.{BuildMemory, InitFailed}
+use Rattle.ang_engine_modules.specs.World.{Program, ModuleState, ModuleStates, World, placed, all_unbound_from, built_in, running, left_to, globals_ended}
 use Rattle.ang_engine.specs.Engines.{resolved_in}
-use Rattle.ang_engine_world.specs.States.{program_in}
+use Rattle.ang_engine_modules.specs.States.{program_in}
 use Rattle.ang_engine.specs.Step.{Leads, after_errors, errors_reply, emptied, with_program, program_over, globals_begun, started, initialized, after_build, build}
-use Rattle.ang_engine_world.specs.Commands.{after_run, reply_of}
+use Rattle.ang_engine_modules.specs.Commands.{after_run, reply_of}
 use Rattle.ang_engine.specs.Outcomes.{IsCompiled, HasStarted, refused_by, reply_to_build}
 use Rattle.ang_engine.proofs.Leading.{told_by}
 

@@ -15,8 +15,8 @@ use Rattle.ang_typed.specs.Typed as t
 use Rattle.ang_names_known.specs.declared.names.Names.{Names}
 use Rattle.ang_names_known.specs.declared.names.ScriptFunction.{ScriptFunction}
 use Rattle.ang_names_known.specs.declared.names.ScriptParameter.{ScriptParameter}
-use Rattle.ang_names_written.specs.Sources.{Source}
-use Rattle.ang_check_body.specs.Typing.{typed_parameter, typed_parameters}
+use Rattle.ang_names_listed.specs.Sources.{Source}
+use Rattle.ang_check.specs.Typing.{typed_parameter, typed_parameters}
 use Rattle.ang_check_sound.specs.Checked.{HasNames, module_in}
 use Rattle.ang_meaning.specs.declared.slot.Slot.{Slot}
 use Rattle.ang_meaning.specs.declared.slot.Slot.TheVariants.{Bits}
@@ -34,13 +34,13 @@ use Rattle.ang_engine_modules.specs.Modules.{Module, module_at, result_in, Takes
 use Rattle.ang_engine_modules.specs.Executed.{call_of}
 use Rattle.ang_engine_modules.specs.Ends.{end_of}
 use Rattle.ang_engine.specs.declared.calling.ChosenCall.{ChosenCall}
-use Rattle.ang_engine_world.proofs.Lists.{get-map, map-get, get-front}
-use Rattle.ang_engine_world.specs.declared.reply.Outcome.{Outcome}
-use Rattle.ang_engine_world.specs.declared.reply.Refusal.TheVariants.{NotCallable}
-use Rattle.ang_engine_world.specs.World.{Program, ModuleStates, World, built_in, running, left_to}
+use Rattle.ang_engine_modules.proofs.PlaceLists.{get-map, map-get, get-front}
+use Rattle.ang_engine_modules.specs.declared.reply.Outcome.{Outcome}
+use Rattle.ang_engine_modules.specs.declared.reply.Refusal.TheVariants.{NotCallable}
+use Rattle.ang_engine_modules.specs.World.{Program, ModuleStates, World, built_in, running, left_to}
 use Rattle.ang_engine.specs.Step.{Chosen, Not}
 use Rattle.ang_engine.specs.Step.{choice_of, of_number, of_function, with_arguments, Leads, call_chosen, call_ended, called}
-use Rattle.ang_engine_world.specs.Commands.{reply_of}
+use Rattle.ang_engine_modules.specs.Commands.{reply_of}
 use Rattle.ang_engine.specs.Outcomes.{NameNothing, HasCalled, IsTyped, outcome_as, outcome_by}
 use Rattle.ang_engine.proofs.Leading.{told_by}
 

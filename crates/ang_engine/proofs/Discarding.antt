@@ -16,10 +16,10 @@ use Rattle.ang_meaning.specs.declared.slot.Slot.{Slot}
 use Rattle.ang_meaning.specs.World.{World as RunWorld}
 use Rattle.ang_meaning.specs.Counting.{IsCounted, counts_by}
 use Rattle.ang_heap.specs.Parts.{PartsMove}
-use Rattle.ang_engine_world.specs.declared.module.Module.{Module}
-use Rattle.ang_engine_world.specs.declared.module.ModuleList.{ModuleList}
-use Rattle.ang_engine_world.specs.Sound.{HaveGlobals}
-use Rattle.ang_engine_world.specs.World.{all_ended}
+use Rattle.ang_engine_modules.specs.declared.module.Module.{Module}
+use Rattle.ang_engine_modules.specs.declared.module.ModuleList.{ModuleList}
+use Rattle.ang_engine_modules.specs.Sound.{HaveGlobals}
+use Rattle.ang_engine_modules.specs.World.{all_ended}
 use Rattle.ang_engine.specs.Sound.{AreSoundModules}
 use Rattle.ang_engine.proofs.GlobalsEnd.{all_given_back}
 use Rattle.ang_engine.proofs.States.{All-state_at, fresh-balanced}

@@ -5,11 +5,11 @@ use Rattle.std.specs.List.{AllZip}
 use Rattle.ang_view.specs.Registration.{RegistrationList}
 use Rattle.ang_engine_modules.specs.declared.modules.LoadedModule.{LoadedModule}
 use Rattle.ang_engine_modules.specs.Loaded.{modules_of, without_links, unbound_in}
-use Rattle.ang_engine_world.specs.declared.module.Module.{Module}
-use Rattle.ang_engine_world.specs.World.{ModuleState, module_in, unbound_module, built_in}
-use Rattle.ang_engine_world.specs.States.{program_in, place_of, places_of}
-use Rattle.ang_engine_world.proofs.Lists.{map_set, set_set}
-use Rattle.ang_engine_world.proofs.Worlds.{places_set, places_unbound, zip_length, zip_set}
+use Rattle.ang_engine_modules.specs.declared.module.Module.{Module}
+use Rattle.ang_engine_modules.specs.World.{ModuleState, module_in, unbound_module, built_in}
+use Rattle.ang_engine_modules.specs.States.{program_in, place_of, places_of}
+use Rattle.ang_engine_modules.proofs.PlaceLists.{map_set, set_set}
+use Rattle.ang_engine_modules.proofs.Worlds.{places_set, places_unbound, zip_length, zip_set}
 use Rattle.ang_engine.specs.Sound.{IsSoundPlace}
 use Rattle.ang_engine.specs.Step.{emptied, with_program}
 use Rattle.ang_engine.proofs.Places.{places_built, zip_unbound}

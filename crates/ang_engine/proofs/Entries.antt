@@ -23,9 +23,9 @@ use Rattle.ang_lower.specs.Hosts.{is_asked, use_of, asked_as, use_in, role_in}
 use Rattle.ang_engine_modules.specs.declared.modules.LoadedModule.{LoadedModule}
 use Rattle.ang_engine_modules.specs.Loaded.{modules_of}
 use Rattle.ang_engine_modules.specs.Modules.{module_at, AreDriversThere, AgreesWith, IsAskedIn}
-use Rattle.ang_engine_world.specs.declared.module.Module.{Module}
-use Rattle.ang_engine_world.specs.World.{ModuleState, World, has_name, module_in, left_to}
-use Rattle.ang_engine_world.specs.States.{state_of, place_of, places_of}
+use Rattle.ang_engine_modules.specs.declared.module.Module.{Module}
+use Rattle.ang_engine_modules.specs.World.{ModuleState, World, has_name, module_in, left_to}
+use Rattle.ang_engine_modules.specs.States.{state_of, place_of, places_of}
 use Rattle.ang_engine.specs.Step.{IsEntitled}
 use Rattle.ang_engine.specs.Sound.{IsSoundPlace, HaveDrivers, has_driver}
 

@@ -17,7 +17,7 @@ use Rattle.ang_meaning.proofs.Counting.{many_append, give_globals}
 use Rattle.ang_meaning.proofs.Counted.{counted_as, give_counted}
 use Rattle.ang_meaning.proofs.Moving.{give_moves, give_back_moves}
 use Rattle.ang_meaning.proofs.Driving.{all_balanced}
-use Rattle.ang_engine_world.specs.World.{running, globals_ended, all_ended}
+use Rattle.ang_engine_modules.specs.World.{running, globals_ended, all_ended}
 use Rattle.ang_engine.specs.Ending.{ends_of, GivingListsEnds, EndingListsEnds}
 
 -- ---- values that are given up, the last one first

@@ -11,15 +11,15 @@ use Rattle.ang_meaning.specs.World.{World as RunWorld}
 use Rattle.ang_meaning.specs.Counting.{IsCounted}
 use Rattle.ang_engine_modules.specs.declared.modules.LoadedModule.{LoadedModule}
 use Rattle.ang_engine_modules.specs.Loaded.{with_link, linked_in, unbound_in}
-use Rattle.ang_engine_world.specs.declared.module.Module.{Module}
-use Rattle.ang_engine_world.specs.declared.module.ModuleList.{ModuleList}
-use Rattle.ang_engine_world.specs.declared.reply.Refusal.{Refusal}
-use Rattle.ang_engine_world.specs.Sound.{IsKeptPlace, ArePlacesKept, IsSameList, HaveGlobals}
-use Rattle.ang_engine_world.specs.Taken.{HasTaken}
-use Rattle.ang_engine_world.proofs.Adding.{taken_modules, taken_globals, ready_counted, same_globals}
-use Rattle.ang_engine_world.proofs.Keeping.{WasThere, same_modules}
-use Rattle.ang_engine_world.proofs.Lists.{set_length}
-use Rattle.ang_engine_world.proofs.Worlds.{zip_length, zip_set, place_changed}
+use Rattle.ang_engine_modules.specs.declared.module.Module.{Module}
+use Rattle.ang_engine_modules.specs.declared.module.ModuleList.{ModuleList}
+use Rattle.ang_engine_modules.specs.declared.reply.Refusal.{Refusal}
+use Rattle.ang_engine_modules.specs.Sound.{IsKeptPlace, ArePlacesKept, IsSameList, HaveGlobals}
+use Rattle.ang_engine_modules.specs.Taken.{HasTaken}
+use Rattle.ang_engine_modules.proofs.Adding.{taken_modules, taken_globals, ready_counted, same_globals}
+use Rattle.ang_engine_modules.proofs.Keeping.{WasThere, same_modules}
+use Rattle.ang_engine_modules.proofs.PlaceLists.{set_length}
+use Rattle.ang_engine_modules.proofs.Worlds.{zip_length, zip_set, place_changed}
 use Rattle.ang_engine.specs.Sound.{IsBuiltBy, IsSoundPlace, AreSoundModules}
 use Rattle.ang_engine.proofs.GlobalsEnd.{emptied_at}
 use Rattle.ang_engine.proofs.Places.{zip_unbound}

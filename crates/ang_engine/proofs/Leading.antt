@@ -8,16 +8,16 @@ use Rattle.ang_meaning.specs.declared.slot.Slot.{Slot}
 use Rattle.ang_meaning.specs.World.{Input, Room}
 use Rattle.ang_meaning.specs.Told.{has_room, stopped_by}
 use Rattle.ang_engine_modules.specs.Ends.{IsTold}
-use Rattle.ang_engine_world.specs.declared.command.Command.{Command}
-use Rattle.ang_engine_world.specs.declared.reply.Reply.{Reply}
-use Rattle.ang_engine_world.specs.declared.reply.Outcome.{Outcome}
-use Rattle.ang_engine_world.specs.declared.reply.Outcome.TheVariants.{Done, Refused}
-use Rattle.ang_engine_world.specs.declared.reply.Refusal.{Refusal}
-use Rattle.ang_engine_world.specs.declared.reply.Refusal.TheVariants.{Memory}
-use Rattle.ang_engine_world.specs.World.{World}
-use Rattle.ang_engine_world.specs.Commands.{Stepped, answered, reply_of}
+use Rattle.ang_engine_modules.specs.declared.command.Command.{Command}
+use Rattle.ang_engine_modules.specs.declared.reply.Reply.{Reply}
+use Rattle.ang_engine_modules.specs.declared.reply.Outcome.{Outcome}
+use Rattle.ang_engine_modules.specs.declared.reply.Outcome.TheVariants.{Done, Refused}
+use Rattle.ang_engine_modules.specs.declared.reply.Refusal.{Refusal}
+use Rattle.ang_engine_modules.specs.declared.reply.Refusal.TheVariants.{Memory}
+use Rattle.ang_engine_modules.specs.World.{World}
+use Rattle.ang_engine_modules.specs.Commands.{Stepped, answered, reply_of}
 use Rattle.ang_engine.specs.Step.{Leads, Takes, judged, granted, may_want_memory, step}
-use Rattle.ang_engine_world.specs.Outcomes.{IsRefused, IsDone, IsDoneWithoutMemory, outcome_of}
+use Rattle.ang_engine_modules.specs.Outcomes.{IsRefused, IsDone, IsDoneWithoutMemory, outcome_of}
 use Rattle.ang_engine.specs.Outcomes.{IsCalled, IsDiscarded, reply_to_call, reply_to_discard}
 
 -- ---- what was told

@@ -11,9 +11,9 @@ use Rattle.ang_typed.specs.View.{view_typed}
 use Rattle.ang_names_known.specs.declared.names.ScriptFunction.{ScriptFunction}
 use Rattle.ang_names_known.specs.declared.names.ScriptParameter.{ScriptParameter}
 use Rattle.ang_names_known.specs.Lookup.{same_call}
-use Rattle.ang_names_written.specs.Sources.{Source}
-use Rattle.ang_check_body.specs.Typing.{typed_parameter, typed_parameters}
-use Rattle.ang_check_bodies.specs.Bodies.{import_heading, program_of}
+use Rattle.ang_names_listed.specs.Sources.{Source}
+use Rattle.ang_check.specs.Typing.{typed_parameter, typed_parameters}
+use Rattle.ang_check.specs.Bodies.{import_heading, program_of}
 use Rattle.ang_check_sound.specs.Checked.{HasNames, module_in}
 use Rattle.ang_meaning.specs.declared.routine.Passing.{Passing}
 use Rattle.ang_meaning.specs.declared.routine.Routine.{Routine}
@@ -28,9 +28,9 @@ use Rattle.ang_engine_modules.specs.declared.modules.LoadedModule.{LoadedModule}
 use Rattle.ang_engine_modules.specs.Loaded.{loaded_at, module_of, modules_of}
 use Rattle.ang_engine_modules.specs.Modules.{module_at, LinkFits}
 use Rattle.ang_engine_modules.proofs.Loading.{module_loaded}
-use Rattle.ang_engine_world.specs.declared.reply.Refusal.TheVariants.{SignatureDiffers}
-use Rattle.ang_engine_world.specs.World.{Program}
-use Rattle.ang_engine_world.proofs.Lists.{get-map, map-get, get-front}
+use Rattle.ang_engine_modules.specs.declared.reply.Refusal.TheVariants.{SignatureDiffers}
+use Rattle.ang_engine_modules.specs.World.{Program}
+use Rattle.ang_engine_modules.proofs.PlaceLists.{get-map, map-get, get-front}
 use Rattle.ang_engine.specs.Engines.{resolved_in}
 use Rattle.ang_engine.specs.Sound.{IsBuiltBy}
 use Rattle.ang_engine.specs.Step.{link_to, link_to_number, link_of}

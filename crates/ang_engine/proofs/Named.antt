@@ -7,7 +7,7 @@ use Rattle.ang_host.specs.declared.event.HostEvent.{HostEvent}
 use Rattle.ang_view.specs.Registration.{RegistrationList}
 use Rattle.ang_typed.specs.Typed as t
 use Rattle.ang_typed.specs.View.{view_typed}
-use Rattle.ang_names_written.specs.Sources.{Source}
+use Rattle.ang_names_listed.specs.Sources.{Source}
 use Rattle.ang_check_sound.specs.Checked.{HasNames}
 use Rattle.ang_meaning.specs.World.{Input}
 use Rattle.ang_engine_build.proofs.Programs.{program-families, program-named}
@@ -15,21 +15,21 @@ use Rattle.ang_engine_modules.specs.declared.modules.LoadedModule.{LoadedModule}
 use Rattle.ang_engine_modules.specs.Loaded.{module_of, modules_of}
 use Rattle.ang_engine_modules.specs.Modules.{module_at as run_module_at, TakesSoMany}
 use Rattle.ang_engine.specs.declared.calling.ChosenCall.{ChosenCall}
-use Rattle.ang_engine_world.specs.declared.module.Module.{Module}
-use Rattle.ang_engine_world.specs.declared.reply.Outcome.{Outcome}
-use Rattle.ang_engine_world.specs.declared.reply.Refusal.{Refusal}
-use Rattle.ang_engine_world.specs.declared.reply.Refusal.TheVariants.{NotBuilt, BadBudget}
-use Rattle.ang_engine_world.specs.World.{Program, World, module_named, module_in, module_at}
-use Rattle.ang_engine_world.specs.States.{program_in, place_of, places_of}
-use Rattle.ang_engine_world.proofs.Worlds.{places_at}
+use Rattle.ang_engine_modules.specs.declared.module.Module.{Module}
+use Rattle.ang_engine_modules.specs.declared.reply.Outcome.{Outcome}
+use Rattle.ang_engine_modules.specs.declared.reply.Refusal.{Refusal}
+use Rattle.ang_engine_modules.specs.declared.reply.Refusal.TheVariants.{NotBuilt, BadBudget}
+use Rattle.ang_engine_modules.specs.World.{Program, World, module_named, module_in, module_at}
+use Rattle.ang_engine_modules.specs.States.{program_in, place_of, places_of}
+use Rattle.ang_engine_modules.proofs.Worlds.{places_at}
 use Rattle.ang_engine.specs.Engines.{resolved_in}
 use Rattle.ang_engine.specs.Sound.{IsBuiltBy, IsSoundPlace}
 use Rattle.ang_engine.specs.Step.{Choice, choice_of, call, call_chosen, call_program, is_budget}
-use Rattle.ang_engine_world.specs.Commands.{refused}
-use Rattle.ang_engine_world.specs.Outcomes.{IsRefused}
+use Rattle.ang_engine_modules.specs.Commands.{refused}
+use Rattle.ang_engine_modules.specs.Outcomes.{IsRefused}
 use Rattle.ang_engine.specs.Outcomes.{IsChosen, IsTyped, IsCalled, calling}
 use Rattle.ang_engine.proofs.Calls.{choice-one, takes-named, typed-named}
-use Rattle.ang_engine_world.proofs.Finding.{on_module-found}
+use Rattle.ang_engine_modules.proofs.Finding.{on_module-found}
 use Rattle.ang_engine.proofs.Leading.{leads-same}
 
 -- what a module of the list has

@@ -6,10 +6,10 @@ use Rattle.ang_view.specs.Registration.{RegistrationList}
 use Rattle.ang_typed.specs.View.{view_typed}
 use Rattle.ang_engine_modules.specs.declared.modules.LoadedModule.{LoadedModule}
 use Rattle.ang_engine_modules.specs.Loaded.{module_of, modules_of, without_links, unbound_in}
-use Rattle.ang_engine_world.specs.declared.module.Module.{Module}
-use Rattle.ang_engine_world.specs.World.{built_at, built_in}
-use Rattle.ang_engine_world.specs.States.{place_of, places_of}
-use Rattle.ang_engine_world.proofs.Worlds.{zip_changed, place_changed}
+use Rattle.ang_engine_modules.specs.declared.module.Module.{Module}
+use Rattle.ang_engine_modules.specs.World.{built_at, built_in}
+use Rattle.ang_engine_modules.specs.States.{place_of, places_of}
+use Rattle.ang_engine_modules.proofs.Worlds.{zip_changed, place_changed}
 use Rattle.ang_engine.specs.Sound.{IsBuiltBy, IsSoundPlace}
 
 one_built : (R : RegistrationList) (m : Option Module) (l : Option LoadedModule) → IsSoundPlace R m l → built_at (place_of m l) ≡ module_of l

@@ -28,22 +28,22 @@ use Rattle.ang_engine_modules.specs.Loaded.{loaded_at, modules_of, without_links
 use Rattle.ang_engine_modules.specs.Modules.{Module as RunModule, AreDriversThere}
 use Rattle.ang_engine.specs.declared.building.BuildRefused.{BuildRefused}
 use Rattle.ang_engine.specs.declared.building.BuildRefused.TheVariants as why
-use Rattle.ang_engine_world.specs.declared.module.Module.{Module}
-use Rattle.ang_engine_world.specs.declared.reply.Refusal.TheVariants.{BadBudget}
-use Rattle.ang_engine_world.specs.Sound.{HasSameName}
-use Rattle.ang_engine_world.specs.World.{Program, ModuleState, ModuleStates, World, module_named, module_in, module_at, built_in, placed, all_unbound_from, running, left_to, globals_ended}
-use Rattle.ang_engine_world.specs.States.{program_in, place_of, places_of}
+use Rattle.ang_engine_modules.specs.declared.module.Module.{Module}
+use Rattle.ang_engine_modules.specs.declared.reply.Refusal.TheVariants.{BadBudget}
+use Rattle.ang_engine_modules.specs.Sound.{HasSameName}
+use Rattle.ang_engine_modules.specs.World.{Program, ModuleState, ModuleStates, World, module_named, module_in, module_at, built_in, placed, all_unbound_from, running, left_to, globals_ended}
+use Rattle.ang_engine_modules.specs.States.{program_in, place_of, places_of}
 use Rattle.ang_engine.specs.Step.{Leads, emptied, with_program, build, build_within, is_budget}
-use Rattle.ang_engine_world.specs.Commands.{refused}
+use Rattle.ang_engine_modules.specs.Commands.{refused}
 use Rattle.ang_engine.specs.Sound.{IsBuiltBy, IsSoundPlace, HaveDrivers}
 use Rattle.ang_engine.specs.Asked.{HasRunOn, HasAsked}
 use Rattle.ang_engine.specs.Outcomes.{IsCompiled, HasStarted, refused_by, reply_to_build, building}
-use Rattle.ang_engine_world.proofs.Lists.{set_length}
-use Rattle.ang_engine_world.proofs.Worlds.{places_at, zip_length}
-use Rattle.ang_engine_world.proofs.Keeping.{was_there}
+use Rattle.ang_engine_modules.proofs.PlaceLists.{set_length}
+use Rattle.ang_engine_modules.proofs.Worlds.{places_at, zip_length}
+use Rattle.ang_engine_modules.proofs.Keeping.{was_there}
 use Rattle.ang_engine.proofs.Unloading.{unbound_twice, emptied_place}
 use Rattle.ang_engine.proofs.Entries.{AreApart, drivers_there}
-use Rattle.ang_engine_world.proofs.Finding.{on_module-found}
+use Rattle.ang_engine_modules.proofs.Finding.{on_module-found}
 use Rattle.ang_engine.proofs.Asking.{run-join, run-ended, asked-run, asked-ends}
 use Rattle.ang_engine.proofs.Starting.{none_there, ended_silent, ended_lengths}
 use Rattle.ang_engine.proofs.Emptied.{before, refused_states, refused_zip, begun_states, begun_zip, begun_built}

@@ -16,14 +16,14 @@ use Rattle.ang_heap.specs.Heaps.{objects_of}
 use Rattle.ang_heap.specs.Parts.{counts_of, world_by}
 use Rattle.ang_heap.specs.Stores.{world_of, IsReady, StoreBecomes, HasMoved}
 use Rattle.ang_engine_modules.specs.Loaded.{unbound_in}
-use Rattle.ang_engine_world.specs.declared.module.ModuleList.{ModuleList}
-use Rattle.ang_engine_world.specs.declared.reply.Outcome.TheVariants.{Done}
-use Rattle.ang_engine_world.specs.World.{World, ModuleStates, module_named, unbound_module, all_unbound_from, running, left_to, globals_ended}
-use Rattle.ang_engine_world.specs.Commands.{reply_of, after_run, without, discard}
-use Rattle.ang_engine_world.specs.States.{places_of, states_in}
-use Rattle.ang_engine_world.proofs.Lists.{map_set}
-use Rattle.ang_engine_world.proofs.Worlds.{places_set, places_unbound, zip_length}
-use Rattle.ang_engine_world.proofs.Finding.{on_module-found}
+use Rattle.ang_engine_modules.specs.declared.module.ModuleList.{ModuleList}
+use Rattle.ang_engine_modules.specs.declared.reply.Outcome.TheVariants.{Done}
+use Rattle.ang_engine_modules.specs.World.{World, ModuleStates, module_named, unbound_module, all_unbound_from, running, left_to, globals_ended}
+use Rattle.ang_engine_modules.specs.Commands.{reply_of, after_run, without, discard}
+use Rattle.ang_engine_modules.specs.States.{places_of, states_in}
+use Rattle.ang_engine_modules.proofs.PlaceLists.{map_set}
+use Rattle.ang_engine_modules.proofs.Worlds.{places_set, places_unbound, zip_length}
+use Rattle.ang_engine_modules.proofs.Finding.{on_module-found}
 use Rattle.ang_engine.specs.Asked.{HasAsked}
 use Rattle.ang_engine.specs.Outcomes.{discarding}
 use Rattle.ang_engine.specs.Sound.{IsSoundPlace}

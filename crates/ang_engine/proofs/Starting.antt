@@ -27,14 +27,14 @@ use Rattle.ang_engine_modules.specs.Modules.{Module as RunModule, unbuilt, modul
 use Rattle.ang_source.specs.Meaning.{kind_of}
 use Rattle.ang_engine_modules.specs.Executed.{first_globals, initialization_of}
 use Rattle.ang_engine_modules.specs.Ends.{Ends}
-use Rattle.ang_engine_world.specs.declared.module.Module.{Module}
-use Rattle.ang_engine_world.specs.declared.module.ModuleList.{ModuleList}
-use Rattle.ang_engine_world.specs.World.{Program, globals_ended}
-use Rattle.ang_engine_world.specs.Sound.{HasSameName, HaveGlobals}
+use Rattle.ang_engine_modules.specs.declared.module.Module.{Module}
+use Rattle.ang_engine_modules.specs.declared.module.ModuleList.{ModuleList}
+use Rattle.ang_engine_modules.specs.World.{Program, globals_ended}
+use Rattle.ang_engine_modules.specs.Sound.{HasSameName, HaveGlobals}
 use Rattle.ang_engine.specs.Step.{globals_begun}
 use Rattle.ang_engine.specs.Asked.{HasRunOn}
-use Rattle.ang_engine_world.specs.States.{program_in}
-use Rattle.ang_engine_world.proofs.Lists.{map_at, map_length, map_set, set_at, set_length, set_set}
+use Rattle.ang_engine_modules.specs.States.{program_in}
+use Rattle.ang_engine_modules.proofs.PlaceLists.{map_at, map_length, map_set, set_at, set_length, set_set}
 use Rattle.ang_engine.proofs.GlobalsEnd.{globals_ends, ends_listed, ended_globals, begun_counted}
 
 -- ---- first values
@@ -158,8 +158,11 @@ module _ {V : Type 0} {P : V → Type 0} (m : Meanings P) (ms : List RunModule) 
       → slice_index_or (values_in s.globals) i [] ≡ [] → HasRunOn m ms s (record s { globals = gs })
   run-begun i s gs l e none empty = record {
     asked = λ h. h;
-    moves = λ roles h. record { parts = parts_none m roles (members s.drivers) s.events.items; ready = λ r. ready_with s gs r;
-      within = λ r n k w. record { places = w.places; most_places = w.most_places; events = w.events; most_events = w.most_events } };
+    moves = λ roles h. record {
+      parts = parts_none m roles (members s.drivers) s.events.items;
+      ready = λ r. ready_with s gs r;
+      within = λ r n k w. record { places = w.places; most_places = w.most_places; events = w.events; most_events = w.most_events };
+    };
     ready = λ r. ready_with s gs r;
     counted = λ h. subst (λ q. IsCounted [] (record (world_of m s) { globals = q })) (sym e) (begun_counted i l (world_of m s) none empty h);
   }

@@ -5,7 +5,7 @@ use Rattle.ang_meaning.specs.declared.routine.Routine.{Routine}
 use Rattle.ang_engine_modules.specs.declared.modules.LoadedModule.{LoadedModule}
 use Rattle.ang_engine_modules.specs.Modules.{unbound_link, unbound_links}
 use Rattle.ang_engine_modules.specs.Loaded.{loaded_at, without_links, unbound_in}
-use Rattle.ang_engine_world.proofs.Lists.{set_set}
+use Rattle.ang_engine_modules.proofs.PlaceLists.{set_set}
 
 -- what leads nowhere is unbound once and for all
 link_twice_if : (i : ℕ) (g : Routine) (b : Bool) → (g.home == i) ≡ b → unbound_link i (if b then None else Some g) ≡ (if b then None else Some g)

@@ -18,18 +18,18 @@ use Rattle.ang_heap.specs.Globals.{values_in}
 use Rattle.ang_heap.specs.Stores.{world_of, IsKept}
 use Rattle.ang_engine.specs.declared.building.BuildRefused.{BuildRefused}
 use Rattle.ang_engine.specs.declared.engine.Engine.{Engine}
-use Rattle.ang_engine_world.specs.declared.command.Command.{Command}
-use Rattle.ang_engine_world.specs.declared.command.Command.TheVariants.{Build, Bind, Unbind, Call, Discard}
-use Rattle.ang_engine_world.specs.declared.reply.Outcome.{Outcome}
-use Rattle.ang_engine_world.specs.declared.reply.Outcome.TheVariants.{Refused}
-use Rattle.ang_engine_world.specs.declared.reply.Refusal.{Refusal}
-use Rattle.ang_engine_world.specs.declared.reply.Refusal.TheVariants.{Memory}
-use Rattle.ang_engine_world.specs.declared.reply.Reply.{Reply}
-use Rattle.ang_engine_world.specs.World.{World}
+use Rattle.ang_engine_modules.specs.declared.command.Command.{Command}
+use Rattle.ang_engine_modules.specs.declared.command.Command.TheVariants.{Build, Bind, Unbind, Call, Discard}
+use Rattle.ang_engine_modules.specs.declared.reply.Outcome.{Outcome}
+use Rattle.ang_engine_modules.specs.declared.reply.Outcome.TheVariants.{Refused}
+use Rattle.ang_engine_modules.specs.declared.reply.Refusal.{Refusal}
+use Rattle.ang_engine_modules.specs.declared.reply.Refusal.TheVariants.{Memory}
+use Rattle.ang_engine_modules.specs.declared.reply.Reply.{Reply}
+use Rattle.ang_engine_modules.specs.World.{World}
 use Rattle.ang_engine.specs.Step.{Leads, judged, may_want_memory}
-use Rattle.ang_engine_world.specs.Commands.{reply_of}
-use Rattle.ang_engine_world.specs.Outcomes.{IsDone, IsDoneWithoutMemory, outcome_of, unbinding}
-use Rattle.ang_engine_world.specs.Sound.{HaveGlobals}
+use Rattle.ang_engine_modules.specs.Commands.{reply_of}
+use Rattle.ang_engine_modules.specs.Outcomes.{IsDone, IsDoneWithoutMemory, outcome_of, unbinding}
+use Rattle.ang_engine_modules.specs.Sound.{HaveGlobals}
 use Rattle.ang_engine.specs.Outcomes.{IfRefusedAtOnce, IsCalled, IsDiscarded, binding, building, calling, discarding, reply_to_build, reply_to_call, reply_to_discard}
 use Rattle.ang_engine.specs.Engines.{registrations, drivers_in}
 use Rattle.ang_engine.specs.Sound.{AreSoundModules}

@@ -6,10 +6,10 @@ use Rattle.ang_host.specs.Meanings.{Meanings}
 use Rattle.ang_host.specs.Events.{DriversFollow}
 use Rattle.ang_view.specs.Registration.{RegistrationList}
 use Rattle.ang_registry.specs.Roles.{roles_of}
-use Rattle.ang_engine_world.specs.declared.command.Command.{Command}
+use Rattle.ang_engine_modules.specs.declared.command.Command.{Command}
 use Rattle.ang_engine.specs.declared.engine.Engine.{Engine}
-use Rattle.ang_engine_world.specs.declared.reply.Reply.{Reply}
-use Rattle.ang_engine_world.specs.World.{World}
+use Rattle.ang_engine_modules.specs.declared.reply.Reply.{Reply}
+use Rattle.ang_engine_modules.specs.World.{World}
 use Rattle.ang_engine.specs.Engines.{registrations, world_in, drivers_in}
 use Rattle.ang_engine.specs.Step.{Takes, IsEntitled}
 use Rattle.ang_engine.specs.Outcomes.{IfRefusedAtOnce}

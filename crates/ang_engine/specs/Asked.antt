@@ -12,7 +12,7 @@ use Rattle.ang_meaning.specs.Counting.{IsCounted}
 use Rattle.ang_heap.specs.declared.store.Store.{Store}
 use Rattle.ang_heap.specs.Stores.{world_of, IsKept, IsReady, StoreMoves}
 use Rattle.ang_engine_modules.specs.Modules.{Module, AgreesWith, IsAskedIn}
-use Rattle.ang_engine_world.specs.World.{World}
+use Rattle.ang_engine_modules.specs.World.{World}
 use Rattle.ang_engine.specs.Step.{IsEntitled}
 
 -- A piece of a command, in which these modules may run, has asked what they see; the drivers follow

@@ -4,7 +4,7 @@ use Rattle.ang_host.specs.declared.event.HostEvent.{HostEvent}
 use Rattle.ang_host.specs.declared.event.HostEvent.TheVariants.{Ended}
 use Rattle.ang_meaning.specs.declared.slot.Slot.{Slot}
 use Rattle.ang_meaning.specs.World.{World as RunWorld, give}
-use Rattle.ang_engine_world.specs.World.{World, engine_ended}
+use Rattle.ang_engine_modules.specs.World.{World, engine_ended}
 
 -- the ends of these objects, each a driver and a key
 abbrev pub ends_of : List (ℕ × ℕ) → List HostEvent

@@ -13,9 +13,9 @@ use Rattle.ang_vm.specs.Machines.{lent}
 use Rattle.ang_engine_build.specs.Build.{Resolved}
 use Rattle.ang_engine_modules.specs.declared.modules.LoadedModule.{LoadedModule}
 use Rattle.ang_engine.specs.declared.engine.Engine.{Engine}
-use Rattle.ang_engine_world.specs.declared.module.ModuleList.{ModuleList}
-use Rattle.ang_engine_world.specs.World.{World, left_to}
-use Rattle.ang_engine_world.specs.States.{states_in}
+use Rattle.ang_engine_modules.specs.declared.module.ModuleList.{ModuleList}
+use Rattle.ang_engine_modules.specs.World.{World, left_to}
+use Rattle.ang_engine_modules.specs.States.{states_in}
 
 -- what a module is built to
 abbrev pub resolved_in : LoadedModule → Resolved

@@ -23,15 +23,15 @@ use Rattle.ang_engine_modules.specs.Ends.{Ends}
 use Rattle.ang_engine.specs.declared.building.BuildRefused.{BuildRefused}
 use Rattle.ang_engine.specs.declared.building.BuildRefused.TheVariants as why
 use Rattle.ang_engine.specs.declared.calling.ChosenCall.{ChosenCall}
-use Rattle.ang_engine_world.specs.declared.reply.Outcome.{Outcome}
-use Rattle.ang_engine_world.specs.declared.reply.Outcome.TheVariants.{Done, Failed, Refused}
-use Rattle.ang_engine_world.specs.declared.reply.Reply.{Reply}
-use Rattle.ang_engine_world.specs.declared.reply.Refusal.{Refusal}
-use Rattle.ang_engine_world.specs.declared.reply.Refusal.TheVariants.{BadName, ModuleExists, Limit, NoModule, NotBuilt, BadBudget, BuildMemory, BuildErrors, InitFailed, NoFunction, NoImport, SignatureDiffers, NotCallable, BadArguments, Memory}
-use Rattle.ang_engine_world.specs.World.{Program, World, module_named, globals_ended}
+use Rattle.ang_engine_modules.specs.declared.reply.Outcome.{Outcome}
+use Rattle.ang_engine_modules.specs.declared.reply.Outcome.TheVariants.{Done, Failed, Refused}
+use Rattle.ang_engine_modules.specs.declared.reply.Reply.{Reply}
+use Rattle.ang_engine_modules.specs.declared.reply.Refusal.{Refusal}
+use Rattle.ang_engine_modules.specs.declared.reply.Refusal.TheVariants.{BadName, ModuleExists, Limit, NoModule, NotBuilt, BadBudget, BuildMemory, BuildErrors, InitFailed, NoFunction, NoImport, SignatureDiffers, NotCallable, BadArguments, Memory}
+use Rattle.ang_engine_modules.specs.World.{Program, World, module_named, globals_ended}
 use Rattle.ang_engine.specs.Engines.{resolved_in}
-use Rattle.ang_engine_world.specs.Commands.{Stepped, reply_of, on_module, on_both, discard}
-use Rattle.ang_engine_world.specs.Outcomes.{IsRefused}
+use Rattle.ang_engine_modules.specs.Commands.{Stepped, reply_of, on_module, on_both, discard}
+use Rattle.ang_engine_modules.specs.Outcomes.{IsRefused}
 use Rattle.ang_engine.specs.Step.{Leads, Choice, errors_reply, globals_begun, build_within, bind, call}
 use Rattle.ang_engine.specs.Step.{Chosen, Not}
 

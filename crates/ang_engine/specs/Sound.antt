@@ -10,9 +10,9 @@ use Rattle.ang_heap.specs.Globals.{values_in}
 use Rattle.ang_heap.specs.Stores.{world_of, IsKept}
 use Rattle.ang_engine_build.specs.Build.{Compiled, build_of}
 use Rattle.ang_engine_modules.specs.declared.modules.LoadedModule.{LoadedModule}
-use Rattle.ang_engine_world.specs.declared.module.Module.{Module}
-use Rattle.ang_engine_world.specs.declared.module.ModuleList.{ModuleList}
-use Rattle.ang_engine_world.specs.Sound.{IsPlaceOf, AreModules, HaveGlobals}
+use Rattle.ang_engine_modules.specs.declared.module.Module.{Module}
+use Rattle.ang_engine_modules.specs.declared.module.ModuleList.{ModuleList}
+use Rattle.ang_engine_modules.specs.Sound.{IsPlaceOf, AreModules, HaveGlobals}
 use Rattle.ang_engine.specs.declared.engine.Engine.{Engine}
 use Rattle.ang_engine.specs.Engines.{resolved_in, registrations, drivers_in}
 

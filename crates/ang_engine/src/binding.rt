@@ -4,17 +4,16 @@ ghost use Rattle.ang_meaning.specs.World.{World as RunWorld};
 ghost use Rattle.ang_view.specs.Registration.{RegistrationList};
 ghost use Rattle.ang_engine_modules.specs.Loaded.{loaded_at};
 ghost use Rattle.ang_engine_modules.specs.declared.modules.LoadedModule.{LoadedModule};
-ghost use Rattle.ang_engine_world.specs.declared.reply.Refusal.TheVariants.{NotBuilt};
-ghost use Rattle.ang_engine_world.specs.States.{states_in, program_in};
-ghost use Rattle.ang_engine_world.specs.Outcomes.{IsDone};
-ghost use Rattle.ang_engine_world.specs.World.{left_to};
+ghost use Rattle.ang_engine_modules.specs.declared.reply.Refusal.TheVariants.{NotBuilt};
+ghost use Rattle.ang_engine_modules.specs.States.{states_in, program_in};
+ghost use Rattle.ang_engine_modules.specs.Outcomes.{IsDone};
+ghost use Rattle.ang_engine_modules.specs.World.{left_to};
 ghost use Rattle.ang_engine.specs.Outcomes.{IsLinked, IsRefusedBy, binding};
 ghost use Rattle.ang_engine.specs.Sound.{AreSoundModules};
 ghost use Rattle.ang_engine.specs.Step.{link_of};
 
 use ang_engine_call::find_function;
-use ang_engine_modules::{LoadedModule, Modules};
-use ang_engine_world::{ModuleList, Refusal, find, import_of};
+use ang_engine_modules::{LoadedModule, ModuleList, Modules, Refusal, find, import_of};
 use ang_names_known::{ScriptFunction, same_call};
 use std::alloc::Global;
 

@@ -15,20 +15,19 @@ ghost use Rattle.ang_engine_modules.specs.Loaded.{loaded_at, modules_of, unbound
 ghost use Rattle.ang_engine_modules.specs.Modules.{module_at as built_module_at, AreDriversThere};
 ghost use Rattle.ang_engine_modules.specs.declared.modules.LoadedModule.{LoadedModule};
 ghost use Rattle.ang_engine.specs.Asked.{HasRunOn, HasAsked};
-ghost use Rattle.ang_engine_world.specs.States.{states_in, state_of, place_of, program_in};
+ghost use Rattle.ang_engine_modules.specs.States.{states_in, state_of, place_of, program_in};
 ghost use Rattle.ang_engine.specs.Engines.{resolved_in};
 ghost use Rattle.ang_engine.specs.Engines.{world_during};
 ghost use Rattle.ang_engine.specs.Outcomes.{IfRefusedAtOnce, IsBegun, IsCompiled, HasStarted, refused_by, building, reply_to_build};
-ghost use Rattle.ang_engine_world.specs.Sound.{HasSameName, HaveGlobals};
+ghost use Rattle.ang_engine_modules.specs.Sound.{HasSameName, HaveGlobals};
 ghost use Rattle.ang_engine.specs.Sound.{IsBuiltBy, IsSoundPlace, HaveDrivers, AreSoundModules};
 ghost use Rattle.ang_engine.specs.Step.{Leads, emptied, build};
-ghost use Rattle.ang_engine_world.specs.World.{module_at, module_in, left_to};
+ghost use Rattle.ang_engine_modules.specs.World.{module_at, module_in, left_to};
 
 use crate::budget::may_run;
 use crate::ending::end_globals;
 use ang_engine_build::{NoProgram, Program, build_sections};
-use ang_engine_modules::{LoadedModule, Modules};
-use ang_engine_world::{Module, ModuleList, Refusal, find, put_globals};
+use ang_engine_modules::{LoadedModule, Module, ModuleList, Modules, Refusal, find, put_globals};
 use ang_host::{Driver, HostEvent};
 use ang_kinds::{Denial, Error, Fault, List, Mask};
 use ang_meaning::{Routine, Slot};

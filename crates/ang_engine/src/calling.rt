@@ -9,13 +9,12 @@ ghost use Rattle.ang_engine_modules.specs.Loaded.{modules_of};
 ghost use Rattle.ang_engine_modules.specs.Modules.{TakesSoMany, AreDriversThere};
 ghost use Rattle.ang_names_known.specs.declared.names.Names.{Names};
 ghost use Rattle.ang_engine.specs.Asked.{HasRunOn};
-ghost use Rattle.ang_engine_world.specs.States.{program_in};
+ghost use Rattle.ang_engine_modules.specs.States.{program_in};
 ghost use Rattle.ang_engine.specs.Outcomes.{IsChosen, NameNothing, HasCalled, IsTyped, outcome_as};
 ghost use Rattle.ang_engine.specs.Step.{choice_of, of_function};
 
 use ang_engine_call::{arguments, find_function, is_callable};
-use ang_engine_modules::{LoadedModule, Modules};
-use ang_engine_world::{Outcome, Refusal};
+use ang_engine_modules::{LoadedModule, Modules, Outcome, Refusal};
 use ang_host::{Driver, HostEvent};
 use ang_kinds::{Fault, Value};
 use ang_meaning::Slot;

@@ -10,7 +10,7 @@ ghost use Rattle.ang_heap.specs.Heaps.{IsTallied, IsLess, objects_of};
 ghost use Rattle.ang_heap.specs.Parts.{world_by, AreReady, PartsMove, states_among, counts_among, live_among};
 ghost use Rattle.ang_heap.specs.Stores.{world_of, IsReady, HasMoved, StoreBecomes};
 ghost use Rattle.ang_vm.specs.Machines.{lent};
-ghost use Rattle.ang_engine_world.specs.World.{globals_ended, all_ended};
+ghost use Rattle.ang_engine_modules.specs.World.{globals_ended, all_ended};
 
 use ang_heap::{Globals, Heap};
 use ang_host::{Driver, Drivers, HostEvent};

@@ -10,8 +10,8 @@ ghost use Rattle.ang_meaning.specs.Counting.{IsCounted};
 ghost use Rattle.ang_heap.specs.Globals.{values_in};
 ghost use Rattle.ang_heap.specs.Stores.{world_of, IsKept, IsReady};
 ghost use Rattle.ang_vm.specs.Machines.{lent};
-ghost use Rattle.ang_engine_world.specs.declared.command.Command.TheVariants.{NewModule, SetMask, AddSection, Build, Bind, Unbind, Call, Discard};
-ghost use Rattle.ang_engine_world.specs.World.{no_modules, running, engine_ended};
+ghost use Rattle.ang_engine_modules.specs.declared.command.Command.TheVariants.{NewModule, SetMask, AddSection, Build, Bind, Unbind, Call, Discard};
+ghost use Rattle.ang_engine_modules.specs.World.{no_modules, running, engine_ended};
 ghost use Rattle.ang_engine.specs.Step.{Takes, IsEntitled};
 ghost use Rattle.ang_engine.specs.Sound.{IsSound, HaveDrivers, has_driver};
 
@@ -22,10 +22,9 @@ use crate::calling::{choose, run_chosen};
 use crate::ending::{end_all, end_globals};
 use crate::refused::{NewError, NewRefused};
 use crate::replies::{answer, build_reply, call_reply, discard_reply, ended};
-use ang_engine_modules::Modules;
-use ang_engine_world::{
-    Command, MOST_MODULES, ModuleList, Outcome, Refusal, Reply, add_module, add_section, find,
-    remove_module, set_mask, unbind,
+use ang_engine_modules::{
+    Command, MOST_MODULES, ModuleList, Modules, Outcome, Refusal, Reply, add_module, add_section,
+    find, remove_module, set_mask, unbind,
 };
 use ang_heap::{Globals, Heap, Store};
 use ang_host::{Driver, Drivers, HostEvent};

@@ -11,7 +11,7 @@ pub mod laws;
 mod refused;
 mod replies;
 
-pub use ang_engine_world::{Command, Outcome, Refusal, Reply};
+pub use ang_engine_modules::{Command, Outcome, Refusal, Reply};
 pub use ang_host::{HostEvent, HostReply};
 pub use ang_kinds::{Denial, Error, ErrorKind};
 pub use ang_registry::Registry;

@@ -1,12 +1,12 @@
 //! The replies to commands.
 ghost use Rattle.std.specs.Prelude.{◌≡◌, []};
-ghost use Rattle.ang_engine_world.specs.Commands.{reply_of};
+ghost use Rattle.ang_engine_modules.specs.Commands.{reply_of};
 ghost use Rattle.ang_engine.specs.Step.{errors_reply};
-ghost use Rattle.ang_engine_world.specs.Outcomes.{outcome_of};
+ghost use Rattle.ang_engine_modules.specs.Outcomes.{outcome_of};
 ghost use Rattle.ang_engine.specs.Outcomes.{reply_to_build, reply_to_call, reply_to_discard};
 
 use crate::building::BuildRefused;
-use ang_engine_world::{Outcome, Refusal, Reply};
+use ang_engine_modules::{Outcome, Refusal, Reply};
 use ang_host::HostEvent;
 use ang_kinds::{Denial, Error, List};
 use std::alloc::Global;

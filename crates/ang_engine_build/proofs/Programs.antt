@@ -9,14 +9,14 @@ use Rattle.ang_source.specs.Sound.{SoundProgram}
 use Rattle.ang_names_known.specs.declared.names.Family.{Family}
 use Rattle.ang_names_known.specs.Items.{list_or}
 use Rattle.ang_names_known.specs.Spaces.{AreFamilies}
-use Rattle.ang_names_written.specs.Sources.{Source}
+use Rattle.ang_names_listed.specs.Sources.{Source}
 use Rattle.ang_names_listed.specs.Declarations.{declarations_of}
 use Rattle.ang_names.specs.Phases.{errors_in, refusals_of}
-use Rattle.ang_names_resolved.specs.Resolved.{names_of}
+use Rattle.ang_names_classes.specs.Resolved.{names_of}
 use Rattle.ang_names.specs.Ranks.{can_hold}
 use Rattle.ang_names.proofs.Few.{accepted_families}
 use Rattle.ang_names.proofs.Ranks.{ranks}
-use Rattle.ang_check_bodies.specs.Bodies.{body_refusals, program_of}
+use Rattle.ang_check.specs.Bodies.{body_refusals, program_of}
 use Rattle.ang_check.specs.Denials.{script_refusals}
 use Rattle.ang_check_sound.specs.Checked.{HasNames}
 use Rattle.ang_check_sound.proofs.Program.{has_names}

@@ -10,11 +10,11 @@ use Rattle.ang_types.specs.declared.asks.Refused.{Refused}
 use Rattle.ang_typed.specs.View.{view_typed}
 use Rattle.ang_names_known.specs.declared.names.Names.{Names}
 use Rattle.ang_names_known.specs.Items.{list_or}
-use Rattle.ang_names_written.specs.Sources.{Source}
+use Rattle.ang_names_listed.specs.Sources.{Source}
 use Rattle.ang_names_listed.specs.Declarations.{declarations_of}
 use Rattle.ang_names.specs.Phases.{IsRefused, errors_in, refusals_of}
-use Rattle.ang_names_resolved.specs.Resolved.{names_of}
-use Rattle.ang_check_bodies.specs.Bodies.{body_refusals, program_of}
+use Rattle.ang_names_classes.specs.Resolved.{names_of}
+use Rattle.ang_check.specs.Bodies.{body_refusals, program_of}
 use Rattle.ang_check.specs.Denials.{script_refusals}
 use Rattle.ang_engine_build.specs.declared.program.NoProgram.{NoProgram}
 use Rattle.ang_engine_build.specs.declared.program.NoProgram.TheVariants as no

@@ -5,7 +5,7 @@ use Rattle.ang_kinds.specs.declared.error.Unbuilt.{Unbuilt}
 use Rattle.ang_kinds.specs.declared.error.Unbuilt.TheVariants as unbuilt
 use Rattle.ang_view.specs.Registration.{RegistrationList}
 use Rattle.ang_names_known.specs.declared.names.Names.{Names}
-use Rattle.ang_names_written.specs.Sources.{Source}
+use Rattle.ang_names_listed.specs.Sources.{Source}
 use Rattle.ang_check.specs.Denials.{AreErrors}
 use Rattle.ang_engine_build.specs.declared.program.NoProgram.{NoProgram}
 use Rattle.ang_engine_build.specs.declared.program.NoProgram.TheVariants as no

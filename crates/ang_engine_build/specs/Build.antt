@@ -6,12 +6,12 @@ use Rattle.ang_kinds.specs.declared.error.Error.{Error}
 use Rattle.ang_view.specs.Registration.{RegistrationList}
 use Rattle.ang_typed.specs.Typed as t
 use Rattle.ang_typed.specs.View.{view_typed}
-use Rattle.ang_names_written.specs.Sources.{Source}
+use Rattle.ang_names_listed.specs.Sources.{Source}
 use Rattle.ang_names_known.specs.declared.names.Names.{Names}
 use Rattle.ang_names_listed.specs.Declarations.{declarations_of}
 use Rattle.ang_names.specs.Phases.{errors_in}
-use Rattle.ang_names_resolved.specs.Resolved.{names_of}
-use Rattle.ang_check_bodies.specs.Bodies.{program_of}
+use Rattle.ang_names_classes.specs.Resolved.{names_of}
+use Rattle.ang_check.specs.Bodies.{program_of}
 use Rattle.ang_check.specs.Denials.{denials_of, script_refusals}
 use Rattle.ang_engine_build.specs.declared.program.Program.{Program}
 use Rattle.ang_engine_build.specs.Script.{sources_of}

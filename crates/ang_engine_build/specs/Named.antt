@@ -1,7 +1,7 @@
 -- What the tree of a built program has of the names that its sections declare.
 use Rattle.std.specs.Prelude.{◌≡◌, ℕ, List, Ok}
 use Rattle.ang_view.specs.Registration.{RegistrationList}
-use Rattle.ang_names_written.specs.Sources.{Source}
+use Rattle.ang_names_listed.specs.Sources.{Source}
 use Rattle.ang_check_sound.specs.Checked.{HasNames}
 use Rattle.ang_engine_build.specs.Build.{Resolved}
 use Rattle.ang_engine_build.specs.Script.{sources_of}

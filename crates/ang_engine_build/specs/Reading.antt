@@ -9,7 +9,7 @@ use Rattle.ang_parse.specs.declared.error.ParseError.TheVariants as parse
 use Rattle.ang_tree.specs.declared.declaration.Script.{Script}
 use Rattle.ang_engine_build.specs.declared.stop.Stop.{Stop}
 use Rattle.ang_engine_build.specs.declared.stop.Stop.TheVariants.{Fault, Memory}
-use Rattle.ang_names_written.specs.Sources.{Source, source_of}
+use Rattle.ang_names_listed.specs.Sources.{Source, source_of}
 use Rattle.ang_engine_build.specs.Script.{lexical_error, grammar_error}
 
 -- a section's declarations or its error, unless memory was refused

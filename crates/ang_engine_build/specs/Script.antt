@@ -11,7 +11,7 @@ use Rattle.ang_tree.specs.Declarations.{Decl}
 use Rattle.ang_parse.specs.declared.error.ParseError.{ParseError}
 use Rattle.ang_parse.specs.declared.error.ParseError.TheVariants as parse
 use Rattle.ang_parse.specs.Answers.{script_of}
-use Rattle.ang_names_written.specs.Sources.{Source, fault_at}
+use Rattle.ang_names_listed.specs.Sources.{Source, fault_at}
 
 -- ---- the error of a section
 

@@ -1,7 +1,7 @@
 //! Builds a program from its sections: the declarations first, then the bodies over the names that they give.
 ghost use Rattle.std.specs.Prelude.{◌≡◌, ◌<◌, ◌^◌, length, option_copied, map as list_map};
 ghost use Rattle.ang_view.specs.Registration.{seen};
-ghost use Rattle.ang_names_written.specs.Sources.{source_of};
+ghost use Rattle.ang_names_listed.specs.Sources.{source_of};
 ghost use Rattle.ang_check.specs.Denials.{denials_of};
 ghost use Rattle.ang_engine_build.specs.Build.{build_of_scripts, build_of, denials_in};
 ghost use Rattle.ang_engine_build.specs.Answer.{IsBuilt, HasDenials, IsOneError, HasErrorsOf, IsDenied};

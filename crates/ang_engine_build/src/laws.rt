@@ -5,7 +5,7 @@ ghost use Rattle.ang_view.specs.Values.{TakesValues};
 ghost use Rattle.ang_source.specs.Sound.{SoundProgram};
 ghost use Rattle.ang_names_known.specs.declared.names.Family.{Family};
 ghost use Rattle.ang_names_known.specs.Spaces.{AreFamilies};
-ghost use Rattle.ang_names_written.specs.Sources.{Source};
+ghost use Rattle.ang_names_listed.specs.Sources.{Source};
 ghost use Rattle.ang_names.specs.Ranks.{can_hold};
 ghost use Rattle.ang_engine_build.specs.Build.{Resolved, Compiled, build_of};
 ghost use Rattle.ang_engine_build.specs.Named.{HasNamesOf};

@@ -1,7 +1,7 @@
 //! Reads the sections of a build, one by one, to the first that fails.
 ghost use Rattle.std.specs.Prelude.{◌≡◌, ◌<◌, ◌^◌, length};
 ghost use Rattle.ang_kinds.specs.declared.error.ErrorKind.{ErrorKind};
-ghost use Rattle.ang_names_written.specs.Sources.{fault_at};
+ghost use Rattle.ang_names_listed.specs.Sources.{fault_at};
 ghost use Rattle.ang_engine_build.specs.Script.{source_from, sources_of};
 ghost use Rattle.ang_engine_build.specs.Reading.{IsSource, AreSources, IsFault, IsUnparsed};
 

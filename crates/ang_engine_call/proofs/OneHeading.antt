@@ -10,8 +10,8 @@ use Rattle.ang_names_known.specs.declared.names.Names.{Names}
 use Rattle.ang_names_known.specs.declared.names.ScriptFunction.{ScriptFunction}
 use Rattle.ang_names_known.specs.Items.{each_after, list_or}
 use Rattle.ang_names_known.specs.Spaces.{Space}
-use Rattle.ang_names_written.specs.Sources.{Source}
-use Rattle.ang_names_written.specs.Spellings.{same_spellings}
+use Rattle.ang_names_listed.specs.Sources.{Source}
+use Rattle.ang_names_listed.specs.Spellings.{same_spellings}
 use Rattle.ang_names_listed.specs.declared.listed.Declared.{Declared}
 use Rattle.ang_names_listed.specs.declared.listed.Part.{Part}
 use Rattle.ang_names_listed.specs.declared.listed.Part.TheVariants as part
@@ -19,10 +19,10 @@ use Rattle.ang_names_listed.specs.Declarations.{Declaring, declarations_of, decl
 use Rattle.ang_names_listed.specs.Taken.{excludes, clashes, clashes_with_host, is_taken, is_first_above, name_refusal}
 use Rattle.ang_names.specs.Phases as phase
 use Rattle.ang_names.specs.Refusals.{parameter_limit, parameters_refusal, parameter_list_refusal, part_refusal, type_refusal, type_refusal_of}
-use Rattle.ang_names_written.specs.declared.role.Role.TheVariants as role
+use Rattle.ang_names_listed.specs.declared.role.Role.TheVariants as role
 use Rattle.ang_names.specs.Phases.{first_refusals, refusals, refusals_of}
-use Rattle.ang_names_tables.specs.Headings.{heading_of as meant_heading}
-use Rattle.ang_names_resolved.specs.Resolved.{function_by, function_of, names_of, space_of_declared}
+use Rattle.ang_names_classes.specs.Headings.{heading_of as meant_heading}
+use Rattle.ang_names_classes.specs.Resolved.{function_by, function_of, names_of, space_of_declared}
 use Rattle.ang_engine_call.specs.Headings.{Heading, heading_of}
 use Rattle.ang_engine_call.specs.Named.{IsNamedBy, function_named_by}
 use Rattle.ang_engine_call.proofs.Found.{found, only}

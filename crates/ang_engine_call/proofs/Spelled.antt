@@ -26,15 +26,15 @@ use Rattle.ang_types.specs.declared.asks.Refused.{Refused}
 use Rattle.ang_names_known.specs.declared.space.Named.{Named}
 use Rattle.ang_names_known.specs.declared.space.Named.TheVariants as named
 use Rattle.ang_names_known.specs.Spaces.{Space, family_or_host, type_of_name}
-use Rattle.ang_names_written.specs.declared.spelling.Base.{Base}
-use Rattle.ang_names_written.specs.declared.spelling.Base.TheVariants as base
-use Rattle.ang_names_written.specs.declared.spelling.Sign.{Sign}
-use Rattle.ang_names_written.specs.declared.spelling.Sign.TheVariants as sign
-use Rattle.ang_names_written.specs.Sources.{text_of}
-use Rattle.ang_names_written.specs.Spellings.{base_by, sign_by, sign_of, sign_number, spelling_of, same_base, same_spelling, same_spellings}
-use Rattle.ang_names_written.specs.Types.{TypeOrError, without_handle, object_type, written_type, no_void, passed, own_role, pass_of, type_in, is_const_handle, settled, ◌and_then◌}
+use Rattle.ang_names_listed.specs.declared.spelling.Base.{Base}
+use Rattle.ang_names_listed.specs.declared.spelling.Base.TheVariants as base
+use Rattle.ang_names_listed.specs.declared.spelling.Sign.{Sign}
+use Rattle.ang_names_listed.specs.declared.spelling.Sign.TheVariants as sign
+use Rattle.ang_names_listed.specs.Sources.{text_of}
+use Rattle.ang_names_listed.specs.Spellings.{base_by, sign_by, sign_of, sign_number, spelling_of, same_base, same_spelling, same_spellings}
+use Rattle.ang_names_listed.specs.Types.{TypeOrError, without_handle, object_type, written_type, no_void, passed, own_role, pass_of, type_in, is_const_handle, settled, ◌and_then◌}
 use Rattle.ang_names.specs.Refusals.{parameters_refusal, type_refusal_of, why_refused}
-use Rattle.ang_names_tables.specs.Headings.{parameter_of}
+use Rattle.ang_names_classes.specs.Headings.{parameter_of}
 use Rattle.ang_engine_call.specs.Headings.{Passed, passed_of}
 
 -- ---- a type's name by its number

@@ -14,7 +14,7 @@ use Rattle.ang_names_known.specs.declared.names.Origin.{Origin}
 use Rattle.ang_names_known.specs.declared.names.ScriptFunction.{ScriptFunction}
 use Rattle.ang_names_known.specs.Spaces.{Space}
 use Rattle.ang_names.specs.Refusals.{heading_refusal}
-use Rattle.ang_names_tables.specs.Headings.{heading_of}
+use Rattle.ang_names_classes.specs.Headings.{heading_of}
 
 -- the text, a line end and `{}`
 abbrev pub with_empty_body : List ℕ → List ℕ

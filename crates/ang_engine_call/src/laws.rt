@@ -6,8 +6,8 @@ ghost use Rattle.ang_names_known.specs.declared.names.ScriptFunction.{ScriptFunc
 ghost use Rattle.ang_names_known.specs.Lookup.{same_heading};
 ghost use Rattle.ang_names_listed.specs.Declarations.{declarations_of};
 ghost use Rattle.ang_names.specs.Phases.{refusals_of};
-ghost use Rattle.ang_names_resolved.specs.Resolved.{names_of};
-ghost use Rattle.ang_names_written.specs.Sources.{Source};
+ghost use Rattle.ang_names_classes.specs.Resolved.{names_of};
+ghost use Rattle.ang_names_listed.specs.Sources.{Source};
 ghost use Rattle.ang_engine_call.specs.Headings.{heading_of};
 ghost use Rattle.ang_engine_call.specs.Named.{IsNamedBy, function_named_by};
 

@@ -16,10 +16,10 @@ use Rattle.ang_code.specs.Told.{ComesFrom}
 use Rattle.ang_code.proofs.Telling.{calls_come_from}
 use Rattle.ang_code_laws.proofs.Whole.{call_runs_ask}
 use Rattle.ang_code_laws.proofs.Counting.{call_runs_count}
-use Rattle.ang_code_globals.proofs.Worlds.{give_has}
-use Rattle.ang_code_globals.proofs.Keeping.{call_runs_keep}
-use Rattle.ang_code_globals.specs.Globals.{globals_of_each}
-use Rattle.ang_gen_body.specs.Behaves.{outcome_of}
+use Rattle.ang_code_laws.proofs.Worlds.{give_has}
+use Rattle.ang_code_laws.proofs.Keeping.{call_runs_keep}
+use Rattle.ang_code_laws.specs.Globals.{globals_of_each}
+use Rattle.ang_gen.specs.BodyBehaves.{outcome_of}
 use Rattle.ang_source.specs.Meaning.{passings_of, passings_in, routine}
 use Rattle.ang_lower.proofs.Follows.{passings_count}
 use Rattle.ang_vm_stack.specs.declared.table.Table.{Table}

@@ -21,10 +21,10 @@ use Rattle.ang_code.specs.Told.{ComesFrom}
 use Rattle.ang_code.proofs.Telling.{initializers_come_from}
 use Rattle.ang_code_laws.proofs.Whole.{initializer_runs_ask}
 use Rattle.ang_code_laws.proofs.Counting.{initializer_runs_count}
-use Rattle.ang_code_globals.specs.Globals.{globals_of_each}
-use Rattle.ang_code_globals.proofs.Worlds.{give_has}
-use Rattle.ang_code_globals.proofs.Keeping.{initializer_runs_keep}
-use Rattle.ang_gen_body.specs.Behaves.{outcome_of}
+use Rattle.ang_code_laws.specs.Globals.{globals_of_each}
+use Rattle.ang_code_laws.proofs.Worlds.{give_has}
+use Rattle.ang_code_laws.proofs.Keeping.{initializer_runs_keep}
+use Rattle.ang_gen.specs.BodyBehaves.{outcome_of}
 use Rattle.ang_source.specs.Meaning.{Codes, codes_in, passings_in, body_at, pass_at, run_code, initialized, initialized_all, routine}
 use Rattle.ang_vm_stack.specs.declared.table.Table.{Table}
 use Rattle.ang_vm_stack.specs.Tables.{texts_of}

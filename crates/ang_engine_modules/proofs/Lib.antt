@@ -15,3 +15,9 @@ pub mod Loading
 pub mod Uses
 pub mod Running
 pub mod Serving
+pub mod PlaceLists
+pub mod Worlds
+pub mod Finding
+pub mod Keeping
+pub mod Adding
+pub mod Unbinding

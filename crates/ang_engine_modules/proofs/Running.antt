@@ -13,7 +13,7 @@ use Rattle.ang_meaning.specs.Counting.{IsCounted}
 use Rattle.ang_meaning.specs.Setting.{Setting}
 use Rattle.ang_code.specs.Machine.{Config, call_begins, initializer_begins}
 use Rattle.ang_code.specs.Runs.{Stops}
-use Rattle.ang_code_globals.specs.Globals.{globals_of_each}
+use Rattle.ang_code_laws.specs.Globals.{globals_of_each}
 use Rattle.ang_code.specs.Values.{answer_of}
 use Rattle.ang_source.specs.Meaning.{passings_in, routine}
 use Rattle.ang_vm_stack.specs.declared.table.Table.{Table}

@@ -7,3 +7,9 @@ pub mod Loaded
 pub mod Relinked
 pub mod Numbers
 pub mod Started
+pub mod World
+pub mod States
+pub mod Commands
+pub mod Outcomes
+pub mod Sound
+pub mod Taken

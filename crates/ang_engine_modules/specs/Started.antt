@@ -8,7 +8,7 @@ use Rattle.ang_meaning.specs.declared.slot.Slot.{Slot}
 use Rattle.ang_meaning.specs.World.{World}
 use Rattle.ang_meaning.specs.Counting.{IsCounted}
 use Rattle.ang_meaning.specs.Results.{Reply}
-use Rattle.ang_code_globals.specs.Globals.{globals_of_each}
+use Rattle.ang_code_laws.specs.Globals.{globals_of_each}
 use Rattle.ang_vm_stack.specs.declared.table.Table.{Table}
 use Rattle.ang_engine_modules.specs.Modules.{Module, module_at, result_at, TakesSoMany, IsAskedIn}
 use Rattle.ang_engine_modules.specs.Executed.{call_of, initializers_of, initialization_of}

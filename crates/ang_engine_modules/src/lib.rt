@@ -1,14 +1,28 @@
 //! The built modules of an engine as the machine runs them: their code and the entities of their
 //! views in one table, by number, calls of their functions, and the runs of their initializers
 //! (docs/MEANING.md, "A run of a built module").
+//!
+//! The modules of an engine and what each command does to them: the commands, the replies, their
+//! meaning, and what is done by the commands that neither build nor run (docs/MEANING.md,
+//! "A command").
 #![tactic(auto)]
 
+mod binding;
 mod classes;
+mod command;
 mod entities;
 mod globals;
 mod links;
+mod module;
+mod module_places;
 mod modules;
+mod reply;
 mod runs;
 mod tables;
 
+pub use binding::{import_of, unbind};
+pub use command::Command;
+pub use module::{MOST_MODULES, Module, ModuleList};
+pub use module_places::{add_module, add_section, find, put_globals, remove_module, set_mask};
 pub use modules::{LoadedModule, Modules};
+pub use reply::{Outcome, Refusal, Reply};

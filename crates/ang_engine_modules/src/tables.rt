@@ -11,7 +11,7 @@ use ang_lower::passings;
 use ang_meaning::Passing;
 use ang_typed::{Heading, Typed};
 use ang_view::View;
-use ang_vm_fuse::body::Body;
+use ang_vm_stack::body::Body;
 use ang_vm_stack::table::{Import, ModuleCode};
 use std::alloc::{AllocError, Global};
 

@@ -17,17 +17,17 @@ use Rattle.ang_core.specs.Sound.{LinksFit, AreSound}
 use Rattle.ang_code.specs.declared.instruction.RoutineCode.{RoutineCode}
 use Rattle.ang_code.specs.Machine.{Texts, Config, Over, Stuck, steps, call_begins, initializer_begins}
 use Rattle.ang_code.proofs.Steps.{one_end}
-use Rattle.ang_gen_body.specs.Code.{body_code}
-use Rattle.ang_gen_body.specs.Heights.{BelowBody}
-use Rattle.ang_gen_body.specs.Behaves.{outcome_of, IsCode}
-use Rattle.ang_gen_body.proofs.Bodies.{behaves}
+use Rattle.ang_gen.specs.Code.{body_code}
+use Rattle.ang_gen.specs.Heights.{BelowBody}
+use Rattle.ang_gen.specs.BodyBehaves.{outcome_of, IsCode}
+use Rattle.ang_gen.proofs.Bodies.{behaves}
 use Rattle.ang_source.specs.Meaning.{Codes, code_or, passings_in, results_in, called_with, initialized}
 use Rattle.ang_source.specs.Sound.{module_of}
 use Rattle.ang_lower.specs.Same.{AreBodies, AreLowered, MeansSame}
 use Rattle.ang_lower.proofs.Follows.{everywhere}
 use Rattle.ang_lower.proofs.Methods.{methods_fit}
 use Rattle.ang_lower.proofs.Modules.{params_are, results_are, lowers_program, keeps_sound, sound_together}
-use Rattle.ang_gen_body.specs.Programs.{IsBodyCode, items_in, statement_in, text_in, height_in, texts_of}
+use Rattle.ang_gen.specs.Programs.{IsBodyCode, items_in, statement_in, text_in, height_in, texts_of}
 use Rattle.ang_gen.specs.Compiled.{IsCompiled}
 use Rattle.ang_gen.specs.Behaves.{HasCodes, IsModule, RunsCode, sources_of, BehavesAsSource, MeansProgram, NeverStuck}
 

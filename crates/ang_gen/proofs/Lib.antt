@@ -1,1 +1,16 @@
+pub mod Stacks
+pub mod Relate
+pub mod Outs
+pub mod Leads
+pub mod Exprs
+pub mod Stmts
+pub mod Bodies
+pub mod Writing
+pub mod Telling
+pub mod Lists
+pub mod Shapes
+pub mod Arms
+pub mod Turns
+pub mod Rising
+pub mod Counted
 pub mod Composed

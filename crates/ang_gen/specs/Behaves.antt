@@ -10,7 +10,7 @@ use Rattle.ang_meaning.specs.Setting.{Setting}
 use Rattle.ang_core.specs.Sound.{LinksFit}
 use Rattle.ang_code.specs.declared.instruction.RoutineCode.{RoutineCode}
 use Rattle.ang_code.specs.Machine.{Texts, Over, Stuck, steps, call_begins, initializer_begins}
-use Rattle.ang_gen_body.specs.Behaves.{outcome_of}
+use Rattle.ang_gen.specs.BodyBehaves.{outcome_of}
 use Rattle.ang_source.specs.Meaning.{Codes, codes_of, code_or, routine, called_with, initialized}
 use Rattle.ang_source.specs.Sound.{SoundProgram}
 use Rattle.ang_lower.specs.Hosts.{HasView}

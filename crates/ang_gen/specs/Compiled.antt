@@ -8,7 +8,7 @@ use Rattle.ang_code.specs.declared.instruction.RoutineCode.{RoutineCode}
 use Rattle.ang_source.specs.Sound.{SoundProgram}
 use Rattle.ang_lower.specs.Plain.{plain_body}
 use Rattle.ang_lower.specs.Lowered.{lowered_module}
-use Rattle.ang_gen_body.specs.Programs.{IsBodyCode}
+use Rattle.ang_gen.specs.Programs.{IsBodyCode}
 
 -- There are core bodies that are lowered from the module's tree, and each code is that of the body at its place.
 pub record IsCompiled (p : t.Program) (codes : List RoutineCode) : Type 0 where

@@ -8,7 +8,7 @@ ghost use Rattle.ang_meaning.specs.Setting.{Setting};
 ghost use Rattle.ang_core.specs.Sound.{LinksFit};
 ghost use Rattle.ang_code.specs.Machine.{Texts};
 ghost use Rattle.ang_code.specs.declared.instruction.RoutineCode.{RoutineCode};
-ghost use Rattle.ang_gen_body.specs.Programs.{texts_of};
+ghost use Rattle.ang_gen.specs.Programs.{texts_of};
 ghost use Rattle.ang_source.specs.Meaning.{Codes, codes_in, nothing};
 ghost use Rattle.ang_gen.specs.Behaves.{HasCodes, IsModule, RunsCode, sources_of, BehavesAsSource, NeverStuck};
 

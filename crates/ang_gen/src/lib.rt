@@ -2,6 +2,11 @@
 //! means (docs/MEANING.md, "What a script means" and "Code").
 //!
 //! `specs/` says what the code of a module is; `laws` says that it behaves as its source.
+//!
+//! The generator: from the core tree to the machine's instructions, which do what the tree does.
+//!
+//! `specs/` has the code of a body and what it means that code does what bodies do (docs/MEANING.md,
+//! "Code"); `laws` says that it does.
 #![tactic(auto)]
 
 ghost use Rattle.std.specs.Prelude.{◌≡◌, IfOk, map as list_map};
@@ -12,16 +17,23 @@ ghost use Rattle.ang_source.specs.Meaning.{passings_in, results_in};
 ghost use Rattle.ang_gen.specs.Behaves.{MeansProgram};
 ghost use Rattle.ang_gen.specs.Compiled.{IsCompiled};
 
-use crate::code::code_of;
-use ang_gen_body::generate_module;
 use ang_lower::lower;
 use ang_typed::Typed;
+use code::code_of;
 use std::alloc::{AllocError, Global};
 
+pub mod body_laws;
 mod code;
+mod expression;
+mod height;
 pub mod laws;
+mod module_code;
+mod room;
+mod statement;
+mod text;
 
 pub use code::Code;
+pub use module_code::generate_module;
 
 /// Generates the code of a module: of its functions and then of its initializers, each in the order of
 /// declaration. The tree has to be sound over some view of the host, as that of a checked module is. The code

@@ -17,7 +17,7 @@ use Rattle.ang_core.specs.Sound.{LinksFit}
 use Rattle.ang_source.specs.Meaning.{Code, of_function, of_global, Codes, Callees, callee_of, evaluate, run_code, passing_of, passings_of}
 use Rattle.ang_source.specs.Meaning as source
 use Rattle.ang_source.specs.Sound.{Module, declared_by}
-use Rattle.ang_lower_expr.specs.Lowered as low
+use Rattle.ang_lower.specs.LoweredExpr as low
 use Rattle.ang_lower.specs.Lowered.{lowered_all, lowered_code}
 use Rattle.ang_lower.specs.Same.{SoundCode, AreLowered, MeansSame, AllMeanSame, TakeNothing}
 use Rattle.ang_lower.proofs.PlainMeaning as plain

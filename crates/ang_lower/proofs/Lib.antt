@@ -1,3 +1,4 @@
+pub mod ExprRows
 pub mod Rows
 pub mod PlainMeaning
 pub mod Ends

@@ -14,9 +14,9 @@ use Rattle.ang_core.specs.declared.tree.Statement.{Statement, Row_of-Statement, 
 use Rattle.ang_core.specs.declared.tree.Statement.TheVariants.{Skip, Evaluate, Declare, Block', If', While', DoWhile', Return, Break, Continue}
 use Rattle.ang_core.specs.Meaning.{Callees, Bodies, turned}
 use Rattle.ang_core.specs.Meaning as core
-use Rattle.ang_lower_expr.specs.Tree as c
+use Rattle.ang_lower.specs.ExprTree as c
 use Rattle.ang_lower.specs.Tree as stmt
-use Rattle.ang_lower_expr.specs.Plain.{plain_expr, plain_row}
+use Rattle.ang_lower.specs.PlainExpr.{plain_expr, plain_row}
 use Rattle.ang_lower.specs.Plain.{plain_stmt, plain_stmts}
 
 abbrev mutual

@@ -8,9 +8,9 @@ use Rattle.ang_core.specs.declared.tree.Expression.TheVariants.{Number, Null as 
 use Rattle.ang_core.specs.declared.tree.Statement.{Statement, Row_of-Statement, end_of-Statement, more_of-Statement}
 use Rattle.ang_core.specs.declared.tree.Statement.TheVariants.{Skip, Evaluate, Declare, Block', If', While', DoWhile', Return, Break, Continue}
 use Rattle.ang_core.specs.Sound.{row_count, Fits, AreSpots, Sound, SoundArgs, declared, SoundStatement, SoundRow}
-use Rattle.ang_lower_expr.specs.Tree as c
+use Rattle.ang_lower.specs.ExprTree as c
 use Rattle.ang_lower.specs.Tree as stmt
-use Rattle.ang_lower_expr.specs.Plain.{plain_expr, plain_row}
+use Rattle.ang_lower.specs.PlainExpr.{plain_expr, plain_row}
 use Rattle.ang_lower.specs.Plain.{plain_stmt, plain_stmts}
 
 abbrev pub operand_count : c.Exprs → ℕ

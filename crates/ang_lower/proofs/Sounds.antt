@@ -33,9 +33,9 @@ use Rattle.ang_meaning.specs.Perform.{operands, member_count}
 use Rattle.ang_core.specs.Sound.{out_count, Fits, AreSpots}
 use Rattle.ang_source.specs.Meaning.{Code, of_function, of_global, callee_of, referred, passing_by, passing_of, passings_of, kind_of, work_of, test_of, compound_of, step_of}
 use Rattle.ang_source.specs.Sound.{Module, IsEntity, IsHostCallee, IsWritable, argument_number, IsVariable, IsStored, IsMember, IsStoredMember, parameters_of, Sound, SoundArguments, SoundOption, SoundEach, SoundLocals, SoundStatement, SoundStatements, argument_count, declared, declared_by}
-use Rattle.ang_lower_expr.specs.Tree as c
+use Rattle.ang_lower.specs.ExprTree as c
 use Rattle.ang_lower.specs.Tree as stmt
-use Rattle.ang_lower_expr.specs.Lowered as low
+use Rattle.ang_lower.specs.LoweredExpr as low
 use Rattle.ang_lower.specs.Lowered.{lowered_all, lowered_code, lowered_each, lowered_locals, lowered_loop, lowered_simple, lowered_steps, lowered_stmt}
 use Rattle.ang_lower.specs.Hosts.{host_type_of, is_asked, is_member, role_in, is_constant, use_of, asked_as, HasView}
 use Rattle.ang_lower.specs.Same.{SoundCode, HasCallees}

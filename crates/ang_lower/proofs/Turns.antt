@@ -11,7 +11,7 @@ use Rattle.ang_source.specs.Meaning.{Callees, evaluate, begin_local, evaluate_or
 use Rattle.ang_source.specs.Meaning as source
 use Rattle.ang_source.specs.Sound.{Module, Sound, SoundOption, SoundEach, SoundLocals, SoundStatement, SoundStatements, declared, declared_by}
 use Rattle.ang_lower.specs.Tree as stmt
-use Rattle.ang_lower_expr.specs.Lowered as low
+use Rattle.ang_lower.specs.LoweredExpr as low
 use Rattle.ang_lower.specs.Lowered.{lowered_all, lowered_block, lowered_each, lowered_locals, lowered_loop, lowered_simple, lowered_steps, lowered_stmt}
 use Rattle.ang_lower.proofs.PlainMeaning as plain
 use Rattle.ang_lower.proofs.PlainMeaning.{eval, run, run_all}

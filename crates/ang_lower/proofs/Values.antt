@@ -29,8 +29,8 @@ use Rattle.ang_meaning.specs.Results.{Evaluated, Gave, Ready, local_at, loaded, 
 use Rattle.ang_source.specs.Meaning.{Callees, callee_of, one, two, this_of, read_variable, read_member, stored, member_stored, changed_by, member_changed, evaluate, evaluate_all, evaluate_argument, begin_local, evaluate_or, kind_of, work_of, test_of, compound_of, step_of, brought_to}
 use Rattle.ang_source.specs.Meaning as source
 use Rattle.ang_source.specs.Sound.{Module, parameters_of, Sound, SoundArguments, SoundValues, SoundOption, argument_count}
-use Rattle.ang_lower_expr.specs.Tree as c
-use Rattle.ang_lower_expr.specs.Lowered as low
+use Rattle.ang_lower.specs.ExprTree as c
+use Rattle.ang_lower.specs.LoweredExpr as low
 use Rattle.ang_lower.proofs.PlainMeaning.{eval, eval_all}
 use Rattle.ang_lower.proofs.Ends.{SameEval, SameAll, SameFrom, loaded_keeps, applied_keeps, applied_same, assigned_keeps, altered_keeps, chosen_same, then_rest_same, called_same}
 

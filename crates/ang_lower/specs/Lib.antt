@@ -1,3 +1,7 @@
+pub mod ExprTree
+pub mod PlainExpr
+pub mod LoweredExpr
+pub mod ExprKinds
 pub mod Tree
 pub mod Plain
 pub mod Lowered

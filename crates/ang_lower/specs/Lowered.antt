@@ -7,7 +7,7 @@ use Rattle.ang_typed.specs.View.{Repeated}
 use Rattle.ang_core.specs.declared.tree.Statement.{Statement}
 use Rattle.ang_source.specs.Meaning.{Code, of_function, of_global, passings_of, primitive_of}
 use Rattle.ang_source.specs.Sound.{declared, declared_by}
-use Rattle.ang_lower_expr.specs.Lowered.{stored, lowered, lowered_or, lowered_begin}
+use Rattle.ang_lower.specs.LoweredExpr.{stored, lowered, lowered_or, lowered_begin}
 use Rattle.ang_lower.specs.Tree as stmt
 use Rattle.ang_lower.specs.Plain.{plain_stmt}
 

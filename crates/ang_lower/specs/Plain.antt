@@ -2,7 +2,7 @@
 use Rattle.ang_core.specs.declared.tree.Body.{Body}
 use Rattle.ang_core.specs.declared.tree.Statement.{Statement, Row_of-Statement, end_of-Statement, more_of-Statement}
 use Rattle.ang_core.specs.declared.tree.Statement.TheVariants.{Skip, Evaluate, Declare, Block', If', While', DoWhile', Return, Break, Continue}
-use Rattle.ang_lower_expr.specs.Plain.{plain_tree}
+use Rattle.ang_lower.specs.PlainExpr.{plain_tree}
 use Rattle.ang_lower.specs.Tree as stmt
 
 abbrev mutual

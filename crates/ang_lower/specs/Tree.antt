@@ -2,7 +2,7 @@
 use Rattle.std.specs.Prelude.{List, [], ◌∷◌, Option}
 use Rattle.ang_kinds.specs.declared.primitive.Primitive.{Primitive}
 use Rattle.ang_meaning.specs.declared.routine.Passing.{Passing}
-use Rattle.ang_lower_expr.specs.Tree.{Expr}
+use Rattle.ang_lower.specs.ExprTree.{Expr}
 
 mutual
   pub data Stmt : Type 0 where

@@ -7,9 +7,9 @@ ghost use Rattle.ang_lower.specs.Lowered as spec;
 ghost use Rattle.ang_lower.specs.Same.{LowersProgram, KeepsSound};
 
 use crate::statements::lower_block;
+use crate::{lower_expression, store};
 use ang_core::{Body, Statement};
 use ang_kinds::{Pass, Prim};
-use ang_lower_expr::{lower_expression, store};
 use ang_meaning::Passing;
 use ang_typed::{Expression, Function, Global as GlobalVariable, Parameter, Typed, Variable};
 use ang_types::ArgType;

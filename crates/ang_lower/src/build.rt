@@ -1,6 +1,6 @@
 //! Core trees of statements made of their parts.
 ghost use Rattle.std.specs.Prelude.{◌≡◌, ◌++◌, ◌∷◌, [], map as list_map, IfOk, OnOk};
-ghost use Rattle.ang_lower_expr.specs.Plain.{plain_tree};
+ghost use Rattle.ang_lower.specs.PlainExpr.{plain_tree};
 ghost use Rattle.ang_lower.specs.Tree as tree;
 ghost use Rattle.ang_lower.specs.Plain.{plain_stmt};
 ghost use Rattle.ang_lower.specs.Lowered as spec;

@@ -2,8 +2,8 @@
 ghost use Rattle.std.specs.Prelude.{◌≡◌, ◌≤◌, ◌+◌, ◌++◌, ◌∷◌, [], suc, length, IfOk, OnOk, true, map as list_map};
 ghost use Rattle.ang_typed.specs.View.{view_block, view_choice, view_expr, view_for, view_local, view_loop, view_option, view_stmt, view_stmts};
 ghost use Rattle.ang_source.specs.Sound.{declared, declared_by};
-ghost use Rattle.ang_lower_expr.specs.Lowered.{lowered, lowered_or};
-ghost use Rattle.ang_lower_expr.specs.Plain.{plain_tree};
+ghost use Rattle.ang_lower.specs.LoweredExpr.{lowered, lowered_or};
+ghost use Rattle.ang_lower.specs.PlainExpr.{plain_tree};
 ghost use Rattle.ang_lower.specs.Tree as tree;
 ghost use Rattle.ang_lower.specs.Plain.{plain_stmt};
 ghost use Rattle.ang_lower.specs.Kinds.{is_single};
@@ -13,8 +13,8 @@ use crate::build::{
     LoopHead, Tested, add, block, block_with, either, late_loop_of, let_go_of_head, let_go_of_list,
     let_go_of_test, let_go_of_tested, loop_of, make_tested,
 };
+use crate::{lower_begin, lower_boxed, lower_or};
 use ang_core::Statement;
-use ang_lower_expr::{lower_begin, lower_boxed, lower_or};
 use ang_typed as typed;
 use ang_typed::{Block, Choice, Expression, For, Local, Loop};
 use std::alloc::{AllocError, Global};

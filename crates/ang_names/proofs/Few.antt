@@ -5,7 +5,7 @@ use Rattle.ang_kinds.specs.declared.error.Error.{Error}
 use Rattle.std.proofs.lemmas.List.Elements.{All-append}
 use Rattle.ang_types.specs.declared.asks.Refused.{Refused}
 use Rattle.ang_view.specs.Registration.{RegistrationList}
-use Rattle.ang_names_heritage.specs.Graphs.{above, leads, numbers_below}
+use Rattle.ang_names_graph.specs.Graphs.{above, leads, numbers_below}
 use Rattle.ang_names_known.specs.declared.names.Family.{Family}
 use Rattle.ang_names_known.specs.Items.{each_after, list_or}
 use Rattle.ang_names_known.specs.Spaces.{AreFamilies, Space}
@@ -14,12 +14,12 @@ use Rattle.ang_names_listed.specs.Declarations.{Declaring, declarations_of, fami
 use Rattle.ang_names_listed.specs.Taken.{is_first_above, is_taken, name_refusal, name_refusals}
 use Rattle.ang_types.specs.Refusals.{plain_refusal}
 use Rattle.ang_names_listed.proofs.Few as listed
-use Rattle.ang_names_written.specs.Sources.{Source}
+use Rattle.ang_names_listed.specs.Sources.{Source}
 use Rattle.ang_names.specs.Phases as phase
 use Rattle.ang_names.specs.Phases.{all_phases, errors_in, first_refusals, refusals_of}
-use Rattle.ang_names_tables.specs.Headings.{signatures_of}
-use Rattle.ang_names_tables.specs.Hierarchy.{is_parent}
-use Rattle.ang_names_resolved.specs.Resolved.{families_after, families_in, functions_in, names_of, space_of_declared}
+use Rattle.ang_names_classes.specs.Headings.{signatures_of}
+use Rattle.ang_names_classes.specs.Hierarchy.{is_parent}
+use Rattle.ang_names_classes.specs.Resolved.{families_after, families_in, functions_in, names_of, space_of_declared}
 
 module _ {A B : Type 0} (f : List A → A → List B) where
   -- where each item gives one there are as many

@@ -1,3 +1,5 @@
+pub mod InRows
+pub mod Inherited
 pub mod Few
 pub mod Named
 pub mod Numbered

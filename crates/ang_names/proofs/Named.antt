@@ -11,8 +11,8 @@ use Rattle.ang_names_known.specs.Spaces.{Space}
 use Rattle.ang_names_listed.specs.declared.listed.Declared.{Declared}
 use Rattle.ang_names_listed.specs.Declarations.{Declaring, families_of, family_name}
 use Rattle.ang_names_listed.specs.declared.listed.Shape.{Shape}
-use Rattle.ang_names_tables.specs.Hierarchy.{place_of}
-use Rattle.ang_names_resolved.specs.Resolved.{space_of_declared}
+use Rattle.ang_names_classes.specs.Hierarchy.{place_of}
+use Rattle.ang_names_classes.specs.Resolved.{space_of_declared}
 use Rattle.ang_names.specs.Phases as phase
 use Rattle.ang_names.specs.Refusals.{part_refusal, shape_named, type_refusal}
 use Rattle.ang_names.specs.Phases.{refusals}

@@ -10,9 +10,9 @@ use Rattle.ang_kinds.specs.declared.error.ErrorKind.{ErrorKind}
 use Rattle.ang_kinds.specs.declared.error.ErrorKind.TheVariants as kind
 use Rattle.ang_types.specs.declared.asks.Refused.{Refused}
 use Rattle.ang_view.specs.Registration.{RegistrationList}
-use Rattle.ang_names_heritage.specs.Tables.{Shows}
-use Rattle.ang_names_heritage.proofs.Rings.{edge_shown}
-use Rattle.ang_names_heritage.specs.Graphs.{leads}
+use Rattle.ang_names_graph.specs.Tables.{Shows}
+use Rattle.ang_names_graph.proofs.Rings.{edge_shown}
+use Rattle.ang_names_graph.specs.Graphs.{leads}
 use Rattle.ang_names_known.specs.declared.names.Family.{Family}
 use Rattle.ang_names_known.specs.Spaces.{Space}
 use Rattle.ang_names_known.specs.Items.{each_after, list_or}
@@ -21,13 +21,13 @@ use Rattle.ang_names_listed.specs.declared.listed.Part.{Part}
 use Rattle.ang_names_listed.specs.declared.listed.Part.TheVariants as part
 use Rattle.ang_names_listed.specs.Declarations.{Declaring, declaring_by, declaring_of, families_of}
 use Rattle.ang_names_listed.specs.Taken.{each_refused}
-use Rattle.ang_names_tables.specs.declared.tables.Tables.{Tables}
-use Rattle.ang_names_tables.specs.Hierarchy.{holds, is_parent}
-use Rattle.ang_names_resolved.specs.Resolved.{families_in, space_of_declared}
-use Rattle.ang_names_tables.specs.Tables.{AreTables}
+use Rattle.ang_names_classes.specs.declared.tables.Tables.{Tables}
+use Rattle.ang_names_classes.specs.Hierarchy.{holds, is_parent}
+use Rattle.ang_names_classes.specs.Resolved.{families_in, space_of_declared}
+use Rattle.ang_names_classes.specs.Tables.{AreTables}
 use Rattle.ang_names.specs.Phases as phase
-use Rattle.ang_names_heirs.specs.Heirs.{ancestor_refusal, at_name, cycle_refusal, heir_refusal}
-use Rattle.ang_names_heirs.specs.ByNumber.{heritage_refusals, refused_from, ring_refusal}
+use Rattle.ang_names.specs.Heirs.{ancestor_refusal, at_name, cycle_refusal, heir_refusal}
+use Rattle.ang_names.specs.ByNumber.{heritage_refusals, refused_from, ring_refusal}
 use Rattle.ang_names.specs.Phases.{families, first_refusals, of_family, refusals, with_number}
 use Rattle.ang_names.proofs.Few.{family_number}
 

@@ -11,8 +11,8 @@ use Rattle.ang_kinds.specs.declared.error.ErrorKind.TheVariants as kind
 use Rattle.ang_lex.specs.declared.token.Token.{Token}
 use Rattle.ang_types.specs.declared.asks.Refused.{Refused}
 use Rattle.ang_view.specs.Registration.{RegistrationList}
-use Rattle.ang_names_heritage.specs.Graphs.{leads, order_of, reach_of, IsWithin, Way}
-use Rattle.ang_names_heritage.proofs.Closure.{falls, least}
+use Rattle.ang_names_graph.specs.Graphs.{leads, order_of, reach_of, IsWithin, Way}
+use Rattle.ang_names_graph.proofs.Closure.{falls, least}
 use Rattle.ang_names_known.specs.declared.names.Family.{Family}
 use Rattle.ang_names_known.specs.declared.names.ScriptFunction.{ScriptFunction}
 use Rattle.ang_names_known.specs.declared.names.Written.{Written}
@@ -21,13 +21,13 @@ use Rattle.ang_names_known.specs.Spaces.{Space}
 use Rattle.ang_names_listed.specs.declared.listed.Declared.{Declared}
 use Rattle.ang_names_listed.specs.Declarations.{Declaring, declarations_of, families_of, family_name}
 use Rattle.ang_names_listed.specs.Taken.{each_refused}
-use Rattle.ang_names_tables.specs.Headings.{signatures_of}
-use Rattle.ang_names_tables.specs.Hierarchy.{field_types_at, held_by, holds, is_base, is_parent, is_place, is_under_or, names_place, place_of}
-use Rattle.ang_names_resolved.specs.Resolved.{families_after, families_in, functions_in, names_of, space_of_declared}
-use Rattle.ang_names_written.specs.Sources.{Source, text_of}
+use Rattle.ang_names_classes.specs.Headings.{signatures_of}
+use Rattle.ang_names_classes.specs.Hierarchy.{field_types_at, held_by, holds, is_base, is_parent, is_place, is_under_or, names_place, place_of}
+use Rattle.ang_names_classes.specs.Resolved.{families_after, families_in, functions_in, names_of, space_of_declared}
+use Rattle.ang_names_listed.specs.Sources.{Source, text_of}
 use Rattle.ang_names.specs.Phases as phase
-use Rattle.ang_names_heirs.specs.Heirs.{ancestor_refusal, at_name, cycle_refusal}
-use Rattle.ang_names_heirs.specs.ByNumber.{refused_from}
+use Rattle.ang_names.specs.Heirs.{ancestor_refusal, at_name, cycle_refusal}
+use Rattle.ang_names.specs.ByNumber.{refused_from}
 use Rattle.ang_names.specs.Phases.{all_phases, families, first_refusals, of_family, refusals, refusals_of}
 use Rattle.ang_names.specs.Ranks.{can_hold, family_at, is_own_ancestor, reaches_itself}
 use Rattle.ang_names.proofs.Few.{family_number}

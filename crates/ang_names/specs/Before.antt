@@ -3,7 +3,7 @@ use Rattle.std.specs.Prelude.{ℕ, ◌≡◌, Bool, false, List, map, Option, So
 use Rattle.ang_index.specs.Rows.{Rows, items_at}
 use Rattle.ang_names_known.specs.NameIndex.{places_of}
 use Rattle.ang_names_listed.specs.declared.listed.Member.{Member}
-use Rattle.ang_names_written.specs.Sources.{text_of}
+use Rattle.ang_names_listed.specs.Sources.{text_of}
 use Rattle.ang_names.specs.Refusals.{clashes_with_member}
 
 -- members, in a section of these bytes

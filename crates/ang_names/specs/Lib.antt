@@ -1,3 +1,6 @@
+pub mod Heirs
+pub mod ByNumber
+pub mod Rows
 pub mod Refusals
 pub mod Phases
 pub mod Ranks

@@ -13,10 +13,10 @@ use Rattle.ang_names_listed.specs.declared.listed.Part.{Part}
 use Rattle.ang_names_listed.specs.declared.listed.Part.TheVariants as part
 use Rattle.ang_names_listed.specs.Declarations.{declarations_of, families_of}
 use Rattle.ang_names_listed.specs.Taken.{name_refusal, each_refused}
-use Rattle.ang_names_heirs.specs.Heirs.{ancestor_refusal, heir_refusal, cycle_refusal}
+use Rattle.ang_names.specs.Heirs.{ancestor_refusal, heir_refusal, cycle_refusal}
 use Rattle.ang_names.specs.Refusals.{type_refusal}
-use Rattle.ang_names_resolved.specs.Resolved.{families_in, space_of_declared}
-use Rattle.ang_names_written.specs.Sources.{Source}
+use Rattle.ang_names_classes.specs.Resolved.{families_in, space_of_declared}
+use Rattle.ang_names_listed.specs.Sources.{Source}
 
 -- The phases, each of which looks at all declarations:
 pub data Phase : Type 0 where

@@ -4,9 +4,9 @@ use Rattle.std.specs.Prelude.{ℕ, Bool, List, Option, slice_get}
 use Rattle.ang_view.specs.Registration.{RegistrationList}
 use Rattle.ang_names_known.specs.declared.names.Family.{Family}
 use Rattle.ang_names_listed.specs.Declarations.{Declaring, declarations_of, families_of}
-use Rattle.ang_names_tables.specs.Hierarchy.{holds, is_cyclic, stands_above}
-use Rattle.ang_names_resolved.specs.Resolved.{names_of, space_of_declared}
-use Rattle.ang_names_written.specs.Sources.{Source}
+use Rattle.ang_names_classes.specs.Hierarchy.{holds, is_cyclic, stands_above}
+use Rattle.ang_names_classes.specs.Resolved.{names_of, space_of_declared}
+use Rattle.ang_names_listed.specs.Sources.{Source}
 
 -- the declarations of the classes and interfaces of these sections
 abbrev pub family_declarations : List Source → List Declaring

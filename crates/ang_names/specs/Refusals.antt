@@ -20,15 +20,15 @@ use Rattle.ang_names_listed.specs.declared.listed.MemberKind.TheVariants as memb
 use Rattle.ang_names_listed.specs.declared.listed.Part.{Part}
 use Rattle.ang_names_listed.specs.declared.listed.Part.TheVariants as part
 use Rattle.ang_names_listed.specs.declared.listed.Shape.{Shape}
-use Rattle.ang_names_written.specs.declared.role.Role.{Role}
-use Rattle.ang_names_written.specs.declared.role.Role.TheVariants as role
+use Rattle.ang_names_listed.specs.declared.role.Role.{Role}
+use Rattle.ang_names_listed.specs.declared.role.Role.TheVariants as role
 use Rattle.ang_names_known.specs.Spaces.{Space}
 use Rattle.ang_names_listed.specs.Declarations.{Declaring, families_of, family_name}
 use Rattle.ang_types.specs.Refusals.{plain_refusal}
-use Rattle.ang_names_written.specs.Sources.{text_of, error_at}
-use Rattle.ang_names_written.specs.Spellings.{same_spellings}
-use Rattle.ang_names_written.specs.Types.{TypeOrError, type_in, is_unknown_type}
-use Rattle.ang_names_tables.specs.Headings.{parameter_role}
+use Rattle.ang_names_listed.specs.Sources.{text_of, error_at}
+use Rattle.ang_names_listed.specs.Spellings.{same_spellings}
+use Rattle.ang_names_listed.specs.Types.{TypeOrError, type_in, is_unknown_type}
+use Rattle.ang_names_classes.specs.Headings.{parameter_role}
 
 abbrev pub refusal_if : Bool → ErrorKind → List ℕ → Token → Option Refused
 refusal_if true why text t = Some (plain_refusal (error_at why text t))

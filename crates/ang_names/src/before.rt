@@ -5,8 +5,7 @@ ghost use Rattle.ang_names.specs.Before as spec;
 ghost use Rattle.ang_names.specs.Refusals.{clashes_with_member};
 
 use ang_index::Index;
-use ang_names_listed::Member;
-use ang_names_written::text_at;
+use ang_names_listed::{Member, text_at};
 use std::alloc::{AllocError, Global};
 use std::marker::Model;
 

@@ -2,15 +2,15 @@
 ghost use Rattle.std.specs.Prelude.{◌≡◌, ◌≢◌, ◌≤◌, [], length, IfOk, IfErr, OnOk, map as list_map};
 ghost use Rattle.ang_names_listed.specs.Declarations as listed;
 ghost use Rattle.ang_names_listed.specs.Declarations.{families_of};
-ghost use Rattle.ang_names_written.specs.Sources.{source_of};
+ghost use Rattle.ang_names_listed.specs.Sources.{source_of};
 ghost use Rattle.ang_names.specs.Phases as spec;
-ghost use Rattle.ang_names_resolved.specs.Resolved as resolved;
+ghost use Rattle.ang_names_classes.specs.Resolved as resolved;
 
 use crate::phases::{errors_in, refusals_over};
 use ang_kinds::{List, Unbuilt};
+use ang_names_classes::names_of;
 use ang_names_known::Names;
 use ang_names_listed::{Declared, declarations_of};
-use ang_names_resolved::names_of;
 use ang_tree::Script;
 use ang_types::Refused;
 use ang_view::View;

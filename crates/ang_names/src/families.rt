@@ -2,8 +2,8 @@
 ghost use Rattle.std.specs.Prelude.{◌≡◌, option_copied, option_map, slice_get};
 ghost use Rattle.ang_names.specs.Refusals as spec;
 
+use ang_names_classes::Placed;
 use ang_names_listed::{Declaring, Shape};
-use ang_names_tables::Placed;
 
 /// What the class or interface of this number declares.
 fn shape_at<'l, 'a>(families: &[Declaring<'l, 'a>], number: usize) -> Option<&'l Shape<'a>>

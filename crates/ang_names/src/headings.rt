@@ -1,14 +1,14 @@
 //! Types that are unknown or can't stand where they stand, and too many parameters.
 ghost use Rattle.std.specs.Prelude.{◌≡◌, Some, None, IfOk, if◌then◌else◌};
 ghost use Rattle.ang_types.specs.declared.asks.Asks.TheVariants as asking;
-ghost use Rattle.ang_names_written.specs.Types.{is_unknown_type as names_no_type};
+ghost use Rattle.ang_names_listed.specs.Types.{is_unknown_type as names_no_type};
 ghost use Rattle.ang_names.specs.Refusals as spec;
 
 use ang_kinds::ErrorKind;
 use ang_lex::Token;
+use ang_names_classes::parameter_role;
 use ang_names_known::Space;
-use ang_names_tables::parameter_role;
-use ang_names_written::{Role, error_at, type_in};
+use ang_names_listed::{Role, error_at, type_in};
 use ang_tree::{Parameter, TypeName};
 use ang_types::{ArgType, Asks, Refused};
 use std::alloc::{AllocError, Global};

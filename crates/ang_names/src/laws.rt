@@ -4,12 +4,12 @@ ghost use Rattle.ang_types.specs.declared.asks.Refused.{Refused};
 ghost use Rattle.ang_view.specs.Registration.{RegistrationList};
 ghost use Rattle.ang_names_known.specs.declared.names.Family.{Family};
 ghost use Rattle.ang_names_known.specs.Spaces.{AreFamilies};
-ghost use Rattle.ang_names_written.specs.Sources.{Source};
+ghost use Rattle.ang_names_listed.specs.Sources.{Source};
 ghost use Rattle.ang_names_listed.specs.declared.listed.Declared.{Declared};
 ghost use Rattle.ang_names_listed.specs.Declarations.{declarations_of, families_of};
 ghost use Rattle.ang_names.specs.Phases.{refusals_of};
 ghost use Rattle.ang_names.specs.Ranks.{can_hold, family_at, is_own_ancestor, reaches_itself};
-ghost use Rattle.ang_names_resolved.specs.Resolved.{names_of};
+ghost use Rattle.ang_names_classes.specs.Resolved.{names_of};
 
 /// The families of a build are few enough for each to have a number as a type, and what stands above one is among them: where
 /// there are 256 at most (`few`), and so where nothing is refused (`accepted`). A refusal that asks for a name comes from a

@@ -3,21 +3,29 @@
 //! `declare` goes over all declarations in phases, in the order of sections and text (docs/LANGUAGE.md, "Names of a build"); the
 //! first phase that refuses some gives the errors. Else it gives families, functions, imports and globals, with what their
 //! types mean.
+//!
+//! What is refused of classes and interfaces once their names have their meanings: those that stand above themselves or
+//! reach themselves, and members that don't fit with what is inherited (docs/LANGUAGE.md, "Names of a build").
 #![tactic(auto)]
 
 mod before;
 mod declaring;
 mod families;
 mod headings;
+mod heirs;
+mod indexed;
 pub mod laws;
 mod members;
 mod phases;
+mod rings;
 
 pub use ang_kinds::Unbuilt;
+pub use ang_names_classes::heading_of;
 pub use ang_names_known::{
     Access, Constructor, Family, Field, Method, Names, Origin, ScriptFunction, ScriptGlobal,
     ScriptParameter, Written,
 };
-pub use ang_names_tables::heading_of;
 pub use declaring::{declare, names_over, phase_refusals, unbuilt};
 pub use headings::heading_refusal;
+pub use heirs::heir_refusals;
+pub use rings::{refused_at, ring_refusals};

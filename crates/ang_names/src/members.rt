@@ -2,7 +2,7 @@
 ghost use Rattle.std.specs.Prelude.{◌≡◌, [], true, false, not, bytes_eq, IfOk};
 ghost use Rattle.std.specs.List.{list_any};
 ghost use Rattle.std.specs.Option.{option_or};
-ghost use Rattle.ang_names_written.specs.Sources.{text_of};
+ghost use Rattle.ang_names_listed.specs.Sources.{text_of};
 ghost use Rattle.ang_names.specs.Before as earlier;
 ghost use Rattle.ang_names.specs.Refusals as spec;
 
@@ -11,10 +11,11 @@ use crate::families::base_named;
 use crate::headings::{parameter_list_refusal, refusal_if, type_refusal_of};
 use ang_kinds::ErrorKind;
 use ang_lex::Token;
+use ang_names_classes::Placed;
 use ang_names_known::Space;
-use ang_names_listed::{Attributes, Declared, Member, MemberKind, Shape};
-use ang_names_tables::Placed;
-use ang_names_written::{Role, have_same_types, text_at};
+use ang_names_listed::{
+    Attributes, Declared, Member, MemberKind, Role, Shape, have_same_types, text_at,
+};
 use ang_tree::Parameter;
 use ang_types::Refused;
 use std::alloc::{AllocError, Global};

@@ -3,20 +3,18 @@ ghost use Rattle.std.specs.Prelude.{◌≡◌, ◌≤◌, ◌*◌, [], ◌∷◌
 ghost use Rattle.ang_names_listed.specs.Declarations as listed;
 ghost use Rattle.ang_names_listed.specs.Declarations.{declarations_of};
 ghost use Rattle.ang_names_listed.specs.Taken as taken;
-ghost use Rattle.ang_names_written.specs.Sources.{source_of};
+ghost use Rattle.ang_names_listed.specs.Sources.{source_of};
 ghost use Rattle.ang_names.specs.Refusals as refusing;
-ghost use Rattle.ang_names_heirs.specs.ByNumber as numbered;
+ghost use Rattle.ang_names.specs.ByNumber as numbered;
 ghost use Rattle.ang_names.specs.Phases as spec;
 
 use crate::headings::{heading_refusal, type_refusal_of};
 use crate::members::family_refusal;
+use crate::{heir_refusals, ring_refusals};
 use ang_kinds::{Error, ErrorKind, List};
-use ang_names_heirs::{heir_refusals, ring_refusals};
+use ang_names_classes::{Placed, Tables, families_among, space_of};
 use ang_names_known::{Family, Space};
-use ang_names_listed::{Declared, Part, families_of, name_refusals, push_refused};
-use ang_names_resolved::{families_among, space_of};
-use ang_names_tables::{Placed, Tables};
-use ang_names_written::Role;
+use ang_names_listed::{Declared, Part, Role, families_of, name_refusals, push_refused};
 use ang_tree::Script;
 use ang_types::Refused;
 use ang_view::View;

@@ -5,3 +5,7 @@ pub mod Turns
 pub mod Headings
 pub mod NameIndex
 pub mod PlacesByName
+pub mod Adding
+pub mod AddingProperties
+pub mod SoFar
+pub mod Among

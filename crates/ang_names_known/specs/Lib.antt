@@ -4,3 +4,6 @@ pub mod Spaces
 pub mod Nearest
 pub mod NameIndex
 pub mod Headings
+pub mod Added
+pub mod Host
+pub mod Among

@@ -3,12 +3,16 @@
 //!
 //! `Names` is what `ang_names` makes of the scripts: lists, which contracts see, and an index of them. All look-ups in it and in the
 //! view stand here, so that each of them has one contract (docs/LANGUAGE.md, "Names of a build").
+//!
+//! What a module sees of the host, by name and by type, and what a hidden entry would add to it.
 #![tactic(auto)]
 
 mod borrowed;
 mod family_types;
 mod functions;
+mod host;
 mod indexed;
+pub mod laws;
 mod lineage;
 mod lookup;
 mod members;
@@ -20,6 +24,10 @@ mod space;
 pub use borrowed::Text;
 pub use family_types::{FIRST_FAMILY, family_of_type, family_type};
 pub use functions::parameters_of;
+pub use host::{
+    HostFunction, HostProperty, Wanted, WantedProperty, found_at, host_where, property_at,
+    property_where,
+};
 pub use indexed::IndexedNames as Names;
 pub use lineage::lineage_of;
 pub use lookup::{

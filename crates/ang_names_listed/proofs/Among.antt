@@ -9,8 +9,8 @@ use Rattle.ang_tree.specs.declared.declaration.Parameter.{Parameter}
 use Rattle.ang_view.proofs.Lists.{and_gives}
 use Rattle.ang_names_known.specs.NameIndex.{places_from, places_of}
 use Rattle.ang_names_known.proofs.PlacesByName.{one_more_place as place_put}
-use Rattle.ang_names_written.specs.Spellings.{same_spellings}
-use Rattle.ang_names_written.proofs.Codes.{codes_alike}
+use Rattle.ang_names_listed.specs.Spellings.{same_spellings}
+use Rattle.ang_names_listed.proofs.Codes.{codes_alike}
 use Rattle.ang_names_listed.specs.declared.listed.Declared.{Declared}
 use Rattle.ang_names_listed.specs.declared.listed.Part.{Part}
 use Rattle.ang_names_listed.specs.declared.listed.Part.TheVariants as part

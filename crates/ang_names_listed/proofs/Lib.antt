@@ -1,3 +1,5 @@
+pub mod Lists
+pub mod Codes
 pub mod Among
 pub mod Counts
 pub mod Few

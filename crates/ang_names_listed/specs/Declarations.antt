@@ -21,7 +21,7 @@ use Rattle.ang_names_listed.specs.declared.listed.MemberKind.TheVariants as memb
 use Rattle.ang_names_listed.specs.declared.listed.Part.{Part}
 use Rattle.ang_names_listed.specs.declared.listed.Part.TheVariants as part
 use Rattle.ang_names_listed.specs.declared.listed.Shape.{Shape}
-use Rattle.ang_names_written.specs.Sources.{Source, text_of}
+use Rattle.ang_names_listed.specs.Sources.{Source, text_of}
 
 -- ---- members
 

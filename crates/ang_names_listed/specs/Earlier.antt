@@ -8,7 +8,7 @@ use Rattle.ang_names_listed.specs.declared.listed.Declared.{Declared}
 use Rattle.ang_names_listed.specs.declared.listed.Part.{Part}
 use Rattle.ang_names_listed.specs.declared.listed.Part.TheVariants as part
 use Rattle.ang_names_listed.specs.Declarations.{declared_name, families_of}
-use Rattle.ang_names_written.specs.Spellings.{codes_of}
+use Rattle.ang_names_listed.specs.Spellings.{codes_of}
 use Rattle.ang_names_listed.specs.Taken.{clashes, declares_function, declares_global, declares_import}
 
 -- the parameters of a function or an import

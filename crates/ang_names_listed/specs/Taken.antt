@@ -18,8 +18,8 @@ use Rattle.ang_names_listed.specs.declared.listed.Declared.{Declared}
 use Rattle.ang_names_listed.specs.declared.listed.Part.{Part}
 use Rattle.ang_names_listed.specs.declared.listed.Part.TheVariants as part
 use Rattle.ang_names_listed.specs.Declarations.{declared_name, families_of}
-use Rattle.ang_names_written.specs.Sources.{error_at}
-use Rattle.ang_names_written.specs.Spellings.{same_spellings, same_as_host}
+use Rattle.ang_names_listed.specs.Sources.{error_at}
+use Rattle.ang_names_listed.specs.Spellings.{same_spellings, same_as_host}
 
 -- ---- against earlier declarations
 

@@ -4,8 +4,8 @@ ghost use Rattle.ang_names_listed.specs.Declarations as declarations;
 ghost use Rattle.ang_names_listed.specs.Earlier as spec;
 
 use crate::listed::{Declared, Part};
+use crate::{push_spellings, text_at};
 use ang_index::Index;
-use ang_names_written::{push_spellings, text_at};
 use ang_tree::Parameter;
 use std::alloc::{AllocError, Global};
 use std::marker::Model;

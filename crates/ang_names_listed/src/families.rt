@@ -3,9 +3,9 @@ ghost use Rattle.std.specs.Prelude.{◌≡◌, IfOk};
 ghost use Rattle.ang_names_listed.specs.Declarations as spec;
 
 use crate::listed::{Declared, Part, Shape};
+use crate::text_at;
 use ang_lex::Token;
 use ang_names_known::Origin;
-use ang_names_written::text_at;
 use std::alloc::{AllocError, Global};
 use std::marker::Model;
 

@@ -1,8 +1,8 @@
 //! The declarations of all scripts, in order.
+use crate::WrittenParameters;
 use ang_kinds::List;
 use ang_lex::Token;
 use ang_names_known::{Access, Origin, Text};
-use ang_names_written::WrittenParameters;
 use ang_tree::TypeName;
 
 /// A declaration of a script. Each name of a declaration of globals is one of its own.

@@ -2,14 +2,14 @@
 ghost use Rattle.std.specs.Prelude.{◌≡◌, ◌++◌, IfOk, OnOk, map as list_map};
 ghost use Rattle.ang_tree.specs.Declarations.{globals};
 ghost use Rattle.ang_tree.specs.View.{view_class, view_decl, view_function, view_import, view_interface, view_script, view_vars};
-ghost use Rattle.ang_names_written.specs.Sources.{source_of};
+ghost use Rattle.ang_names_listed.specs.Sources.{source_of};
 ghost use Rattle.ang_names_listed.specs.Declarations as spec;
 
+use crate::WrittenParameters;
 use crate::listed::{Declared, Part};
 use crate::members::{class_shape, interface_shape};
 use ang_lex::Token;
 use ang_names_known::{Origin, Text};
-use ang_names_written::WrittenParameters;
 use ang_tree::{Class, Declaration, Function, Import, Interface, Script, TypeName, Variables};
 use std::alloc::{AllocError, Global};
 

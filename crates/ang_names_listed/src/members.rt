@@ -4,11 +4,11 @@ ghost use Rattle.std.specs.List.{flat_map, list_any};
 ghost use Rattle.ang_tree.specs.View.{view_constructor, view_fields, view_member, view_method, view_own_method};
 ghost use Rattle.ang_names_listed.specs.Declarations as spec;
 
+use crate::WrittenParameters;
 use crate::listed::{Attributes, Member, MemberKind, Shape};
 use ang_kinds::List;
 use ang_lex::{Token, TokenKind};
 use ang_names_known::Access;
-use ang_names_written::WrittenParameters;
 use ang_tree::{
     BaseName, Class, Constructor, FieldName, Fields, Interface, InterfaceMethod,
     Member as ClassMember, Method, TypeName,

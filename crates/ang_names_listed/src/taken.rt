@@ -3,14 +3,14 @@ ghost use Rattle.std.specs.Prelude.{◌≡◌, ◌++◌, ◌||◌, IfOk, OnOk, S
 ghost use Rattle.std.specs.List.{list_any};
 ghost use Rattle.ang_types.specs.Refusals.{plain_refusal};
 ghost use Rattle.ang_view.specs.Registration.{entry_at};
-ghost use Rattle.ang_names_written.specs.Sources as sources;
+ghost use Rattle.ang_names_listed.specs.Sources as sources;
 ghost use Rattle.ang_names_listed.specs.Earlier as earlier;
 ghost use Rattle.ang_names_listed.specs.Taken as spec;
 
 use crate::earlier::{Earlier, declared_name, function_key};
 use crate::listed::{Declared, Part};
+use crate::{error_at, have_same_types, have_same_types_as_host};
 use ang_kinds::{EntityNo, ErrorKind, Param};
-use ang_names_written::{error_at, have_same_types, have_same_types_as_host};
 use ang_tree::Parameter;
 use ang_types::Refused;
 use ang_view::{Entry, EntryKind, View};

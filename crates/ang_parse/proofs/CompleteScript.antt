@@ -12,9 +12,9 @@ use Rattle.ang_parse_read.proofs.Tokens.{look_is}
 use Rattle.ang_parse_read.proofs.Loops.{repeat_stops, repeat_goes_on}
 use Rattle.ang_parse_expr.proofs.Grip.{passed}
 use Rattle.ang_parse_stmt.specs.Ahead.{ahead}
-use Rattle.ang_parse_function.specs.ReadFunction.{function_or_globals}
-use Rattle.ang_parse_function.proofs.CompleteFunction.{function_complete, globals_complete, import_complete, type_start, type_first}
-use Rattle.ang_parse_class.proofs.CompleteClass.{class_complete, final_class_complete, interface_complete}
+use Rattle.ang_parse.specs.ReadFunction.{function_or_globals}
+use Rattle.ang_parse.proofs.CompleteFunction.{function_complete, globals_complete, import_complete, type_start, type_first}
+use Rattle.ang_parse.proofs.CompleteClass.{class_complete, final_class_complete, interface_complete}
 use Rattle.ang_parse.specs.ReadScript as r
 use Rattle.ang_parse.proofs.SoundScript.{decl-length, decls-length}
 

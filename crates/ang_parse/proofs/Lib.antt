@@ -1,3 +1,15 @@
+pub mod Groups
+pub mod SoundFunction
+pub mod Faults
+pub mod CompleteFunction
+pub mod PrefixFunction
+pub mod Lengths
+pub mod Bodies
+pub mod SoundMembers
+pub mod SoundClass
+pub mod CompleteMembers
+pub mod CompleteClass
+pub mod PrefixClass
 pub mod Columns
 pub mod Rests
 pub mod SoundScript

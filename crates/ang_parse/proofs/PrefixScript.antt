@@ -7,9 +7,9 @@ use Rattle.ang_tree.specs.Declarations.{Decl, empty}
 use Rattle.ang_parse_read.specs.Read.{pure}
 use Rattle.ang_parse_read.proofs.DependsOnPrefix.{DependsOnPrefix, Both, prefix_pure, prefix_bind, prefix_look, prefix_repeat}
 use Rattle.ang_parse_stmt.proofs.Ahead.{prefix_ahead}
-use Rattle.ang_parse_function.specs.ReadFunction.{function_or_globals}
-use Rattle.ang_parse_function.proofs.PrefixFunction.{function_or_globals_prefix, import_prefix}
-use Rattle.ang_parse_class.proofs.PrefixClass.{class_prefix, final_class_prefix, interface_prefix}
+use Rattle.ang_parse.specs.ReadFunction.{function_or_globals}
+use Rattle.ang_parse.proofs.PrefixFunction.{function_or_globals_prefix, import_prefix}
+use Rattle.ang_parse.proofs.PrefixClass.{class_prefix, final_class_prefix, interface_prefix}
 use Rattle.ang_parse.specs.ReadScript as r
 
 module _ (b z : List Token) (m n : ℕ) (le : m ≤ n) where

@@ -10,15 +10,15 @@ use Rattle.ang_parse_read.proofs.Outcomes.{Reads, and_reads, further, ChoiceRead
 use Rattle.ang_parse_read.proofs.Tokens.{Always}
 use Rattle.ang_parse_stmt.proofs.Ahead.{ahead_reads}
 use Rattle.ang_parse_expr.proofs.SoundType.{type-length}
-use Rattle.ang_parse_variables.proofs.Lengths.{vars-length}
+use Rattle.ang_parse_stmt.proofs.VariableLengths.{vars-length}
 use Rattle.ang_parse_stmt.proofs.Lengths.{body-length}
-use Rattle.ang_parse_variables.proofs.SoundVars.{each-one_more, Every-one_more}
-use Rattle.ang_parse_params.proofs.SoundParams.{params-length}
-use Rattle.ang_parse_function.specs.ReadFunction.{function_or_globals}
-use Rattle.ang_parse_function.proofs.SoundFunction as function
-use Rattle.ang_parse_function.proofs.SoundFunction.{function_or_globals_reads, import_reads}
-use Rattle.ang_parse_class.proofs.SoundClass.{IsDecl, class_reads, final_class_reads, interface_reads}
-use Rattle.ang_parse_class.proofs.Lengths.{class-length, interface-length}
+use Rattle.ang_parse_stmt.proofs.SoundVars.{each-one_more, Every-one_more}
+use Rattle.ang_parse_stmt.proofs.SoundParams.{params-length}
+use Rattle.ang_parse.specs.ReadFunction.{function_or_globals}
+use Rattle.ang_parse.proofs.SoundFunction as function
+use Rattle.ang_parse.proofs.SoundFunction.{function_or_globals_reads, import_reads}
+use Rattle.ang_parse.proofs.SoundClass.{IsDecl, class_reads, final_class_reads, interface_reads}
+use Rattle.ang_parse.proofs.Lengths.{class-length, interface-length}
 use Rattle.ang_parse.specs.ReadScript as r
 
 pub record AreDecls (w : List Token) (ds : List Decl) (s : List Token) : Type 0 where

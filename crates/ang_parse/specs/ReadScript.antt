@@ -5,8 +5,8 @@ use Rattle.ang_lex.specs.declared.token.TokenKind.TheVariants as k
 use Rattle.ang_tree.specs.Declarations.{Decl, empty}
 use Rattle.ang_parse_read.specs.Read.{Parser, ◌>>=◌, pure, Choice, look, Turn, ready, repeat}
 use Rattle.ang_parse_stmt.specs.Ahead.{ahead}
-use Rattle.ang_parse_function.specs.ReadFunction.{function_or_globals, import}
-use Rattle.ang_parse_class.specs.ReadClass.{class, final_class, interface}
+use Rattle.ang_parse.specs.ReadFunction.{function_or_globals, import}
+use Rattle.ang_parse.specs.ReadClass.{class, final_class, interface}
 
 abbrev pub any_kind : TokenKind → Bool
 any_kind kind = true

@@ -7,9 +7,8 @@ ghost use Rattle.ang_parse_read.specs.Gives.{Gives};
 ghost use Rattle.ang_tree.specs.View.{view_decl};
 ghost use Rattle.ang_parse.specs.ReadScript as read;
 
+use crate::{class, final_class, function_or_globals, import, interface};
 use ang_lex::{Token, TokenKind};
-use ang_parse_class::{class, final_class, interface};
-use ang_parse_function::{function_or_globals, import};
 use ang_parse_read::ReadError;
 use ang_tree::Declaration;
 use std::alloc::{AllocError, Global};

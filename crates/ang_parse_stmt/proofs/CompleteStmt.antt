@@ -16,13 +16,13 @@ use Rattle.ang_parse_expr.proofs.Sound.{spelled-length, listed-length}
 use Rattle.ang_parse_expr.proofs.Grip.{starter_kind, First, starts, passed}
 use Rattle.ang_parse_expr.proofs.Complete.{expressions_complete, ends_at_right}
 use Rattle.ang_parse_expr.proofs.Exactly.{listed-size}
-use Rattle.ang_parse_variables.specs.ReadVars.{ended, start}
+use Rattle.ang_parse_stmt.specs.ReadVars.{ended, start}
 use Rattle.ang_parse_stmt.specs.ReadStmt as r
 use Rattle.ang_parse_stmt.proofs.Ahead.{ahead_is, ahead_not}
-use Rattle.ang_parse_variables.proofs.Lengths.{option-length, start-length}
+use Rattle.ang_parse_stmt.proofs.VariableLengths.{option-length, start-length}
 use Rattle.ang_parse_stmt.proofs.Lengths.{stmt-length}
 use Rattle.ang_parse_stmt.proofs.SoundStmt.{is_else, Closed}
-use Rattle.ang_parse_variables.proofs.CompleteVars.{expression_read, low_at, start_read, ended_read}
+use Rattle.ang_parse_stmt.proofs.CompleteVars.{expression_read, low_at, start_read, ended_read}
 
 -- ---- the first token
 

@@ -4,7 +4,7 @@ use Rattle.ang_lex.specs.declared.token.Token.{Token}
 use Rattle.ang_tree.specs.Tree.{spelled, listed}
 use Rattle.ang_tree.specs.Stmt.{spelled_option, Stmt, Body, Stmts, block, variables, expression, break, continue, return, when, either, while, do_while, for, body, end, then, spelled_stmt, spelled_body, spelled_stmts}
 use Rattle.ang_parse_expr.proofs.Sound.{spelled-length, listed-length}
-use Rattle.ang_parse_variables.proofs.Lengths.{option-length, vars-length, start-length}
+use Rattle.ang_parse_stmt.proofs.VariableLengths.{option-length, vars-length, start-length}
 
 mutual
   pub stmt-length : (x : Stmt) (s : List Token) → length s < length (spelled_stmt x s)

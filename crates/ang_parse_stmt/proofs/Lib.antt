@@ -1,3 +1,13 @@
+pub mod Choices
+pub mod VariableLengths
+pub mod SoundVars
+pub mod CompleteVars
+pub mod PrefixVars
+pub mod Lists
+pub mod SoundParams
+pub mod CompleteParams
+pub mod PrefixParams
+pub mod ExactlyParams
 pub mod Ahead
 pub mod Lengths
 pub mod SoundStmt

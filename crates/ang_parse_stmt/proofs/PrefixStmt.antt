@@ -11,10 +11,10 @@ use Rattle.ang_parse_read.proofs.DependsOnPrefix.{DependsOnPrefix, Both, prefix_
 use Rattle.ang_parse_read.proofs.Tokens.{a_token_prefix}
 use Rattle.ang_parse_expr.specs.ReadExpr.{expr, expressions}
 use Rattle.ang_parse_expr.proofs.PrefixExpr.{expr_prefix, expressions_at_prefix}
-use Rattle.ang_parse_variables.specs.ReadVars as v
+use Rattle.ang_parse_stmt.specs.ReadVars as v
 use Rattle.ang_parse_stmt.specs.ReadStmt as r
 use Rattle.ang_parse_stmt.proofs.Ahead.{prefix_ahead}
-use Rattle.ang_parse_variables.proofs.PrefixVars.{ended_prefix, start_prefix}
+use Rattle.ang_parse_stmt.proofs.PrefixVars.{ended_prefix, start_prefix}
 
 module _ (b z : List Token) where
   abbrev T : {A : Type 0} → Parser A → Parser A → Type 0

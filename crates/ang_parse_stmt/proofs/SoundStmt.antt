@@ -13,11 +13,11 @@ use Rattle.ang_parse_read.proofs.Outcomes.{Reads, and_reads, along, behind, furt
 use Rattle.ang_parse_read.proofs.Tokens.{Always, begins, Token_read, a_token_reads, left_paren_is, right_paren_is, right_brace_is, semicolon_is, while_is}
 use Rattle.ang_parse_expr.specs.ReadExpr.{expr, expressions}
 use Rattle.ang_parse_expr.proofs.Sound.{IsExpr, AreListed, expressions_at_reads}
-use Rattle.ang_parse_variables.specs.ReadVars.{ended, start}
+use Rattle.ang_parse_stmt.specs.ReadVars.{ended, start}
 use Rattle.ang_parse_stmt.specs.ReadStmt as r
 use Rattle.ang_parse_stmt.proofs.Ahead.{ahead_reads}
 use Rattle.ang_parse_stmt.proofs.Lengths.{stmt-length}
-use Rattle.ang_parse_variables.proofs.SoundVars.{IsEnded, IsStart, expression_reads, ended_reads, start_reads}
+use Rattle.ang_parse_stmt.proofs.SoundVars.{IsEnded, IsStart, expression_reads, ended_reads, start_reads}
 
 abbrev pub is_else : TokenKind → Bool
 is_else k.Else = true

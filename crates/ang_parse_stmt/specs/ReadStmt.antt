@@ -10,7 +10,7 @@ use Rattle.ang_parse_read.specs.Read.{Parser, ◌>>=◌, pure, out_of_depth, Cho
 use Rattle.ang_parse_read.specs.Tokens.{a_token, is_left_paren, is_right_paren, is_right_brace, is_semicolon, is_while}
 use Rattle.ang_parse_expr.specs.ReadExpr.{expr, expressions}
 use Rattle.ang_parse_stmt.specs.Ahead.{ahead}
-use Rattle.ang_parse_variables.specs.ReadVars.{ended, start}
+use Rattle.ang_parse_stmt.specs.ReadVars.{ended, start}
 
 -- "(" assign ")"
 pub record Condition : Type 0 where

@@ -14,12 +14,11 @@ ghost use Rattle.ang_tree.specs.View.{view_stmt, view_stmts, view_body, view_els
 ghost use Rattle.ang_parse_stmt.specs.Parts.{view_condition, view_ending, view_head, view_guarded};
 ghost use Rattle.ang_parse_stmt.specs.ReadStmt as read;
 
-use crate::build;
 use crate::parts::{Guarded, let_go_of_guard, let_go_of_guarded, let_go_of_head};
+use crate::{build, ended, start};
 use ang_lex::{Token, TokenKind};
 use ang_parse_expr::{expression, expressions};
 use ang_parse_read::{ReadError, a_left_paren, a_right_brace, a_right_paren, a_semicolon, a_while};
-use ang_parse_variables::{ended, start};
 use ang_tree::{Argument, Block, Else, Ending, Guard, Head, Jump, Returned, Statement};
 use std::alloc::Global;
 

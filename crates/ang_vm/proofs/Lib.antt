@@ -1,3 +1,11 @@
+pub mod Moving
+pub mod BodyCounting
+pub mod Stepping
+pub mod Coming
+pub mod Weighing
+pub mod BorrowedOperands
+pub mod OperandPaths
+pub mod OperandLists
 pub mod Counting
 pub mod Going
 pub mod Calling

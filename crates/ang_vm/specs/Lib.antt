@@ -1,3 +1,6 @@
+pub mod Operands
+pub mod Crossings
+pub mod BodyRunning
 pub mod Legs
 pub mod Running
 pub mod Machines

@@ -5,7 +5,7 @@ ghost use Rattle.ang_meaning.specs.Setting.{has_objects, target};
 ghost use Rattle.ang_meaning.specs.Told.{Told};
 ghost use Rattle.ang_code.specs.declared.instruction.Frame.{Frame};
 ghost use Rattle.ang_code.specs.Machine.{Texts, begins, enters, found_enters};
-ghost use Rattle.ang_vm_fuse.specs.Parameters.{
+ghost use Rattle.ang_vm_stack.specs.Parameters.{
   want_objects as do_want_objects,
   only_receiver as is_only_receiver,
 };
@@ -22,8 +22,8 @@ use ang_heap::Store;
 use ang_host::Driver;
 use ang_kinds::Fault;
 use ang_meaning::{Callee, Passing, Routine, Slot};
-use ang_vm_fuse::body::Body;
-use ang_vm_objects::handles::is_null;
+use ang_vm_ask::handles::is_null;
+use ang_vm_stack::body::Body;
 use ang_vm_stack::place::{Place, Standing};
 use ang_vm_stack::stack::peek;
 use ang_vm_stack::stop::Stop;

@@ -1,19 +1,28 @@
 //! The machine: whole runs of the code of script functions, over script objects, globals and drivers.
 //!
-//! A run is a loop over the bodies that are entered and left, and within a body `ang_vm_body` is a loop over its
+//! A run is a loop over the bodies that are entered and left, and within a body `ang_vm` is a loop over its
 //! steps, in which the place, the number of values in use and the ticks that are left are local values. A call and
 //! a return are steps of their own, at which the loop over a body ends. Memory is wanted as a body is entered, as
 //! an object is made and before the host is asked, and nowhere else.
+//!
+//! The machine within one body: one step after another, until a call, a return or a fault.
+//!
+//! A step is done at once where `ang_vm_fused` can do so on the stack alone, or `ang_vm_fields` with the store, and else
+//! its first instruction is done alone, by `ang_vm_steps`. The last operands of a host call, which the instructions
+//! before it would hold once more and the call give up again, are not held.
 #![tactic(auto)]
 
 mod answers;
 mod bodies;
 mod callees;
 mod calls;
+pub mod crossing;
 mod lookups;
 mod machines;
+mod operands;
 mod returns;
 mod start;
+pub mod turns;
 
 pub use ang_vm_stack::table::Table;
 pub use machines::{Machine, run, run_initializer};

@@ -11,7 +11,7 @@ ghost use Rattle.ang_heap.specs.Stores.{world_of, IsReady, HasMoved};
 ghost use Rattle.ang_vm_stack.specs.Tables.{setting_of, texts_of, result_of};
 ghost use Rattle.ang_vm_ask.specs.Entities.{DriversThere};
 ghost use Rattle.ang_vm.specs.Legs.{Ends};
-ghost use Rattle.ang_vm_body.specs.Running.{MayRun, RunMoves};
+ghost use Rattle.ang_vm.specs.BodyRunning.{MayRun, RunMoves};
 ghost use Rattle.ang_vm.specs.Running.{HeldAt, IsSettled};
 ghost use Rattle.ang_vm.specs.Machines.{lent, IsLost, HasCalled, HasRun, HasInitialized, call_in, initializer_in};
 ghost use Rattle.ang_vm_ask.specs.Askings.{HasMovedOver};

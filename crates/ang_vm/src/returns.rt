@@ -18,7 +18,7 @@ use ang_code::Frame;
 use ang_heap::{Store, give};
 use ang_host::Driver;
 use ang_meaning::{Passing, Routine, Slot};
-use ang_vm_fuse::body::Body;
+use ang_vm_stack::body::Body;
 use ang_vm_stack::place::{Place, Standing};
 use ang_vm_stack::stack::{peek, push};
 use ang_vm_steps::many::{give_top, give_top_in_line, nothing_lives};

@@ -1,3 +1,9 @@
+pub mod Altering
+pub mod Untold
+pub mod Movings
+pub mod ObjectOperands
+pub mod StoreOperations
+pub mod FieldOperations
 pub mod Handed
 pub mod Holding
 pub mod Replying

@@ -99,8 +99,11 @@ module _ {V : Type 0} {P : V → Type 0} (m : Meanings P) where
               room = room;
             } in
             record {
-              moves = λ roles h. record { parts = record { more = event ∷ []; events = listed; follow = follow roles h }; ready = readied;
-                within = λ rd n k w. record { places = w.places; most_places = w.most_places; events = omega (arith, limit, w.most_events); most_events = w.most_events } };
+              moves = λ roles h. record {
+                parts = record { more = event ∷ []; events = listed; follow = follow roles h };
+                ready = readied;
+                within = λ rd n k w. record { places = w.places; most_places = w.most_places; events = omega (arith, limit, w.most_events); most_events = w.most_events };
+              };
               ready = readied;
               same = answer_length _ _ _ _ _ d ask r moved;
             }
@@ -122,8 +125,11 @@ module _ {V : Type 0} {P : V → Type 0} (m : Meanings P) where
               room = omega (arith, room, born_as r, born_one r);
             } in
             record {
-              moves = λ roles h. record { parts = record { more = event ∷ []; events = listed; follow = follow roles h }; ready = readied;
-                within = λ rd n k w. record { places = w.places; most_places = w.most_places; events = omega (arith, limit, w.most_events, born_as r, born_one r); most_events = w.most_events } };
+              moves = λ roles h. record {
+                parts = record { more = event ∷ []; events = listed; follow = follow roles h };
+                ready = readied;
+                within = λ rd n k w. record { places = w.places; most_places = w.most_places; events = omega (arith, limit, w.most_events, born_as r, born_one r); most_events = w.most_events };
+              };
               ready = readied;
               same = made_length _ _ _ _ _ d r moved;
             }

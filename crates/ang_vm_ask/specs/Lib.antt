@@ -1,3 +1,5 @@
+pub mod Counts
+pub mod Fields
 pub mod Asks
 pub mod Askings
 pub mod Entities

@@ -52,7 +52,15 @@ pub(crate) fn call(
     ensures asked { StoreAsked ⟦<dyn Driver as Driver>⟧ entity host.now.role store.old store.new }
 {
     let more = store.live + 1;
-    let Ok((caller, args)) = call_room(alloc, &mut store.events, store.most_events, more, caller, host, args) else {
+    let Ok((caller, args)) = call_room(
+        alloc,
+        &mut store.events,
+        store.most_events,
+        more,
+        caller,
+        host,
+        args,
+    ) else {
         return Err(Fault::Memory);
     };
     let answer = call_listed(
@@ -137,7 +145,14 @@ pub(crate) fn write(
 {
     let more = store.live + 1;
     let value = value_from(host.driver, host.result, value);
-    let Ok((caller, args)) = write_room(alloc, &mut store.events, store.most_events, more, caller, value) else {
+    let Ok((caller, args)) = write_room(
+        alloc,
+        &mut store.events,
+        store.most_events,
+        more,
+        caller,
+        value,
+    ) else {
         return Err(Fault::Memory);
     };
     let answer = write_listed(
@@ -208,7 +223,15 @@ pub(crate) fn make(
     ensures asked { StoreAsked ⟦<dyn Driver as Driver>⟧ entity host.now.role store.old store.new }
 {
     let more = store.live + 2;
-    let Ok((caller, args)) = call_room(alloc, &mut store.events, store.most_events, more, caller, host, args) else {
+    let Ok((caller, args)) = call_room(
+        alloc,
+        &mut store.events,
+        store.most_events,
+        more,
+        caller,
+        host,
+        args,
+    ) else {
         return Err(Fault::Memory);
     };
     let Ok(()) = room_for_ends(&mut store.ends, more - 1) else {

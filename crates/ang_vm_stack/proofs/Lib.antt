@@ -1,3 +1,4 @@
+pub mod Listing
 pub mod Rising
 pub mod Values
 pub mod Tests

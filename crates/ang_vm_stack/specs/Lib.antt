@@ -1,3 +1,5 @@
+pub mod Sequences
+pub mod Parameters
 pub mod Slots
 pub mod Stacks
 pub mod Tables

@@ -2,10 +2,10 @@
 ghost use Rattle.std.specs.Prelude.{◌≡◌, Some, None, MatchOption, IfSome};
 ghost use Rattle.ang_vm_stack.specs.Tables as spec;
 
+use crate::body::Body;
 use crate::methods::Methods;
 use ang_kinds::EntityNo;
 use ang_meaning::{Class, HostUse, Passing, Routine};
-use ang_vm_fuse::body::Body;
 
 /// An imported function.
 #[derive(Drop)]

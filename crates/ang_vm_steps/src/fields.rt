@@ -9,7 +9,7 @@ use crate::doing::put_answer;
 use ang_heap::Store;
 use ang_host::Driver;
 use ang_meaning::{Change, Routine, Slot};
-use ang_vm_objects::fields::{alter, cast_value, get, make, set};
+use ang_vm_ask::fields::{alter, cast_value, get, make, set};
 use ang_vm_stack::stack::peek;
 use ang_vm_stack::stop::Stop;
 use ang_vm_stack::table::{Table, class_at};

@@ -10,7 +10,7 @@ use crate::doing::put_answer;
 use ang_heap::Store;
 use ang_host::Driver;
 use ang_meaning::Slot;
-use ang_vm_objects::handles::compare_handles;
+use ang_vm_ask::handles::compare_handles;
 use ang_vm_stack::stack::peek;
 use ang_vm_stack::stop::Stop;
 

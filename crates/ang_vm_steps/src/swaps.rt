@@ -9,9 +9,9 @@ use ang_heap::Store;
 use ang_host::Driver;
 use ang_kinds::Prim;
 use ang_meaning::{Routine, Slot};
+use ang_vm_ask::fields::trade_member;
+use ang_vm_ask::globals::trade_global;
 use ang_vm_numbers::convert;
-use ang_vm_objects::fields::trade_member;
-use ang_vm_objects::globals::trade_global;
 use ang_vm_stack::stack::{peek, poke};
 use ang_vm_stack::stop::Stop;
 

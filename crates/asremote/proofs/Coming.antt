@@ -10,7 +10,7 @@ use Rattle.std.proofs.lemmas.List.{append-nil, take-append-le, drop_at}
 use Rattle.ang_host.specs.Meanings.{Meanings}
 use Rattle.ang_engine.specs.declared.engine.Engine.{Engine}
 use Rattle.ang_engine.specs.Engines.{registrations, world_in, drivers_in}
-use Rattle.ang_engine_world.specs.World.{World}
+use Rattle.ang_engine_modules.specs.World.{World}
 use Rattle.ang_view.specs.Registration.{RegistrationList}
 use Rattle.ang_remote.proofs.Streams.{appends_kept, consumes_both, consumes_nothing}
 use Rattle.asrun_lines.specs.Lines.{lines_of, shown_of, is_skipped}
@@ -22,7 +22,7 @@ use Rattle.asrun_session.specs.Deeds.{text_in, events_in, bad_line_text, IsPrint
 use Rattle.asrun_session.specs.Drivers.{ByEvents}
 use Rattle.asrun_session.specs.Session.{Act, Session, act_of, section_act, session_from, behind_action, budget_after}
 use Rattle.asrun_session.specs.Whole.{long_session_text}
-use Rattle.ang_engine_world.specs.declared.command.Command.TheVariants.{AddSection}
+use Rattle.ang_engine_modules.specs.declared.command.Command.TheVariants.{AddSection}
 use Rattle.asrun_session.specs.declared.action.Action.TheVariants as action
 use Rattle.asrun_session.specs.declared.ending.Status.{Status}
 use Rattle.asrun_session.specs.declared.ending.Stop.{Stop}

@@ -11,7 +11,7 @@ use Rattle.ang_meaning.specs.Counting.{counts_by}
 use Rattle.ang_view.specs.Registration.{RegistrationList}
 use Rattle.ang_registry.specs.Roles.{roles_of}
 use Rattle.ang_engine.specs.Sound.{HaveDrivers}
-use Rattle.ang_engine_world.specs.World.{World, no_modules, engine_ended}
+use Rattle.ang_engine_modules.specs.World.{World, no_modules, engine_ended}
 use Rattle.asrun_session.specs.Drivers.{AreListed, AreBack, ByEvents, EngineRefusal, IsRefused, engine_text}
 use Rattle.asrun_session.specs.Whole.{Starts, outcome_of}
 use Rattle.asrun_session.specs.declared.ending.Status.{Status}

@@ -6,7 +6,7 @@ use Rattle.std.specs.declared.dyn_box.DynBox.{DynBox}
 use Rattle.ang_host.specs.Meanings.{Meanings}
 use Rattle.ang_host.specs.declared.event.HostEvent.{HostEvent}
 use Rattle.ang_view.specs.Registration.{RegistrationList}
-use Rattle.ang_engine_world.specs.World.{World, no_modules}
+use Rattle.ang_engine_modules.specs.World.{World, no_modules}
 use Rattle.asrun_lines.specs.Lines.{lines_of}
 use Rattle.asrun_session.specs.Deeds.{IsDone}
 use Rattle.asrun_session.specs.Drivers.{WasDiscarded}

@@ -12,7 +12,7 @@ use Rattle.ang_host.proofs.Events.{AllFollow-none, AllFollow-join}
 use Rattle.ang_view.specs.Registration.{RegistrationList}
 use Rattle.ang_registry.specs.Roles.{roles_of}
 use Rattle.ang_engine.specs.Step.{Runs}
-use Rattle.ang_engine_world.specs.World.{World}
+use Rattle.ang_engine_modules.specs.World.{World}
 use Rattle.asrun_session.specs.Session.{Session, behind_action}
 use Rattle.asrun_session.specs.Deeds.{Deed, Ran, Set, Does, action_of, commands_in, replies_in, deed_events, events_in, deed_text, text_in, is_ok, bad_line_text, but_last, told_behind, IsDone, IsCut, IsPrinted, IsHalfPrinted}
 use Rattle.asrun_session.specs.Drivers.{ByEvents}

@@ -114,6 +114,7 @@ itself_at (y ∷ es) (suc i) d lt = there es i d y (omega (arith, lt))
     other [] i a b lt = absurd (omega (arith, lt))
     other (y ∷ es) zero a b lt = refl
     other (y ∷ es) (suc i) a b lt = other es i a b (omega (arith, lt))
+
     there : (es : List ℕ) (i d y : ℕ) → i < length es → slice_index_or es i d ≡ slice_index_or es i (slice_index_or es i d)
     there es i d y lt = other es i d (slice_index_or es i d) lt
 

@@ -13,7 +13,7 @@ use Rattle.ang_meaning.specs.Counting.{counts_by}
 use Rattle.ang_view.specs.Registration.{RegistrationList}
 use Rattle.ang_registry.specs.Roles.{roles_of}
 use Rattle.ang_engine.specs.Sound.{HaveDrivers}
-use Rattle.ang_engine_world.specs.World.{World, no_modules, engine_ended}
+use Rattle.ang_engine_modules.specs.World.{World, no_modules, engine_ended}
 use Rattle.asrun_session.specs.Deeds.{IsDone, IsCut}
 use Rattle.asrun_session.specs.Drivers.{AreListed, AreBack, ByEvents, WasDiscarded, DidNothing, EngineRefusal, IsRefused, AreRefused, NoDriver, engine_text}
 use Rattle.asrun_session.specs.Reading.{unread}

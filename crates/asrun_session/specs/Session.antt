@@ -1,8 +1,8 @@
 -- What a session says (docs/EMBEDDING.md, "The program").
 use Rattle.std.specs.Prelude.{ℕ, zero, suc, ◌+◌, nat_le, List, [], ◌∷◌, length, take, Option, Some, None, option_and_then, if◌then◌else◌}
 use Rattle.std.specs.List.{concat}
-use Rattle.ang_engine_world.specs.declared.command.Command.{Command}
-use Rattle.ang_engine_world.specs.declared.command.Command.TheVariants.{NewModule, SetMask, AddSection, Build, Bind, Unbind, Call, Discard}
+use Rattle.ang_engine_modules.specs.declared.command.Command.{Command}
+use Rattle.ang_engine_modules.specs.declared.command.Command.TheVariants.{NewModule, SetMask, AddSection, Build, Bind, Unbind, Call, Discard}
 use Rattle.asrun_lines.specs.Lines.{shown_of, is_skipped}
 use Rattle.asrun_lines.specs.SessionLines.{session_line_of}
 use Rattle.asrun_session.specs.declared.action.Action.{Action}

@@ -10,7 +10,7 @@ use Rattle.ang_registry.specs.declared.error.RegError.{RegError}
 use Rattle.ang_registry.specs.declared.error.RegError.TheVariants.{Limit, EmptyMask, BadDeclaration, UnknownType, WrongDriver, Duplicate, Memory as NoMemory}
 use Rattle.ang_registry.specs.Registrations.{Registrations}
 use Rattle.ang_view.specs.Registration.{RegistrationList}
-use Rattle.ang_engine_world.specs.World.{World, no_modules}
+use Rattle.ang_engine_modules.specs.World.{World, no_modules}
 use Rattle.asrun_session.specs.Deeds.{IsDone, IsCut}
 use Rattle.asrun_session.specs.Drivers.{EngineRefusal, IsRefused, engine_text, WasDiscarded, DidNothing}
 use Rattle.asrun_lines.specs.Lines.{lines_of}

@@ -50,7 +50,11 @@ fn add_event<W: Write>(writer: &mut W, text: &mut Vec<u8>, event: &HostEvent) ->
 }
 
 /// The lines of events.
-pub fn add_events<W: Write>(writer: &mut W, text: &mut Vec<u8>, events: &[HostEvent]) -> Result<(), Stop>
+pub fn add_events<W: Write>(
+    writer: &mut W,
+    text: &mut Vec<u8>,
+    events: &[HostEvent],
+) -> Result<(), Stop>
     ensures whole { OnOk result ((old : Option (List ℕ)) (given : List ℕ)
         → Holds old (W.contents writer.old) text.old.items given
         → Holds old (W.contents writer.new) text.new.items (given ++ flat_map event_text events.now)) }
@@ -80,7 +84,11 @@ fn add_error<W: Write>(writer: &mut W, text: &mut Vec<u8>, error: &Error) -> Res
 }
 
 /// The lines of errors.
-pub fn add_errors<W: Write>(writer: &mut W, text: &mut Vec<u8>, errors: &[Error]) -> Result<(), Stop>
+pub fn add_errors<W: Write>(
+    writer: &mut W,
+    text: &mut Vec<u8>,
+    errors: &[Error],
+) -> Result<(), Stop>
     ensures whole { OnOk result ((old : Option (List ℕ)) (given : List ℕ)
         → Holds old (W.contents writer.old) text.old.items given
         → Holds old (W.contents writer.new) text.new.items (given ++ flat_map error_text errors.now)) }
@@ -110,7 +118,11 @@ fn add_denial<W: Write>(writer: &mut W, text: &mut Vec<u8>, denial: Denial) -> R
 }
 
 /// The lines of denials.
-pub fn add_denials<W: Write>(writer: &mut W, text: &mut Vec<u8>, denials: &[Denial]) -> Result<(), Stop>
+pub fn add_denials<W: Write>(
+    writer: &mut W,
+    text: &mut Vec<u8>,
+    denials: &[Denial],
+) -> Result<(), Stop>
     ensures whole { OnOk result ((old : Option (List ℕ)) (given : List ℕ)
         → Holds old (W.contents writer.old) text.old.items given
         → Holds old (W.contents writer.new) text.new.items (given ++ flat_map denial_text denials.now)) }

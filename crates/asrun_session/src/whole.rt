@@ -4,7 +4,7 @@ ghost use Rattle.std.specs.Io.KnownBytes.{Appends};
 ghost use Rattle.ang_host.specs.Boxes.{members};
 ghost use Rattle.ang_engine.specs.Engines.{world_in, drivers_in};
 ghost use Rattle.ang_engine.specs.Sound.{IsSound};
-ghost use Rattle.ang_engine_world.specs.World.{no_modules};
+ghost use Rattle.ang_engine_modules.specs.World.{no_modules};
 ghost use Rattle.asrun_session.specs.Drivers.{kinds_of, AreListed, AreRefused, AreBack, NotListed, NoDriver, engine_text};
 ghost use Rattle.asrun_session.specs.Engines.{RunsText, StopsText};
 ghost use Rattle.asrun_lines.specs.Lines.{lines_of};

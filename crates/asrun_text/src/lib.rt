@@ -4,4 +4,6 @@
 
 mod reply;
 
-pub use reply::{push_denial, push_error, push_event, push_number, push_outcome, push_reply, push_text};
+pub use reply::{
+    push_denial, push_error, push_event, push_number, push_outcome, push_reply, push_text,
+};

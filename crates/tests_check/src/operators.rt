@@ -1,8 +1,8 @@
 //! Examples of the language's rules, on operands made by hand.
 
-use ang_check_operand::{Operand, Stop, Target, boxed, plain_operand, reading};
 use ang_check_operators::{
-    assignment, binary, conditional, convert, group, literal, postfix, prefix,
+    Operand, Stop, Target, assignment, binary, boxed, conditional, convert, group, literal,
+    plain_operand, postfix, prefix, reading,
 };
 use ang_kinds::{ErrorKind, Place, Prim};
 use ang_lex::{Span, Token, TokenKind};

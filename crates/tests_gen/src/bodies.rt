@@ -2,7 +2,7 @@
 use crate::modules::{Code, first_unlike};
 use ang_code::{Instruction, RoutineCode};
 use ang_core::{Body, Expression, Statement};
-use ang_gen_body::generate_module;
+use ang_gen::generate_module;
 use ang_kinds::Prim;
 use ang_meaning::{Arithmetic, Callee, Operation, Passing, Spot, Target};
 use std::alloc::{AllocError, Global};

@@ -1,6 +1,6 @@
 //! A small module, with the code that docs/MEANING.md ("Code") gives for it.
 use ang_code::{Instruction, RoutineCode};
-use ang_gen_body::generate_module;
+use ang_gen::generate_module;
 use ang_kinds::{List, Pass, Prim};
 use ang_lower::lower;
 use ang_meaning::{Arithmetic, Callee, Change, Comparison as Test, Operation, Passing};

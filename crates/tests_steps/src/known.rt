@@ -1,7 +1,7 @@
 //! What the steps of operators that are used most do.
 use crate::taken::Row;
 use ang_kinds::Prim::I64;
-use ang_vm_step::step::Step;
+use ang_vm_stack::step::Step;
 
 /// Each from place 7 on, where 5 and 3 are in use.
 pub const KNOWN: [Row; 83] = [

@@ -9,11 +9,11 @@ use ang_code::Instruction::{
 };
 use ang_kinds::{EntityNo, Prim};
 use ang_meaning::{Arithmetic, Callee, Change, Comparison, Operation, Slot};
-use ang_vm_fuse::fuse::fuse;
 use ang_vm_fused::fused::take;
+use ang_vm_stack::fuse::fuse;
+use ang_vm_stack::kind::Kind;
 use ang_vm_stack::place::Place;
-use ang_vm_step::kind::Kind;
-use ang_vm_step::step::{Handle, Step};
+use ang_vm_stack::step::{Handle, Step};
 use std::alloc::{AllocError, Global};
 
 const LESS: Comparison = Comparison::Less;

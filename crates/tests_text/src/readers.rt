@@ -2,9 +2,8 @@
 
 use ang_lex::{Token, lex};
 use ang_parse_expr::parse_expression;
-use ang_parse_params::parse_parameters;
 use ang_parse_read::ReadError;
-use ang_parse_stmt::parse_statement;
+use ang_parse_stmt::{parse_parameters, parse_statement};
 use ang_tree::{Expression, Parameters, Statement};
 use std::alloc::Global;
 

@@ -6,7 +6,7 @@ use crate::numbers::NUMBERS;
 use ang_code::{Instruction, RoutineCode};
 use ang_kinds::{List, Prim};
 use ang_meaning::{Class, Passing, Routine, Slot, ValueKind};
-use ang_vm_fuse::body::Body;
+use ang_vm_stack::body::Body;
 use ang_vm_stack::methods::{Method, Methods};
 use ang_vm_stack::table::{ClassCode, Import, ModuleCode, Table};
 use std::alloc::{AllocError, Global};

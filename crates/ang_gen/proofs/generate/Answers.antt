@@ -1,7 +1,7 @@
 use Rattle.std.proofs.Common.{sym, subst}
 use Rattle.std.specs.List.{AllZip}
 use Rattle.ang_typed.specs.View.{view_typed}
-use Rattle.ang_gen_body.specs.Programs.{IsBodyCode}
+use Rattle.ang_gen.specs.Programs.{IsBodyCode}
 use Rattle.ang_gen.specs.Compiled.{IsCompiled}
 use Rattle.ang_gen.proofs.Composed.{takes, gives, means}
 use Rattle.ang_gen.proofs.generate.Goals as goal

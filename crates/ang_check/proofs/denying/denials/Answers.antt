@@ -1,5 +1,5 @@
 use Rattle.std.proofs.Common.{◌≡◌, length, Some, None, option_copied, map as list_map, rules, sym, ap, ◌∙◌}
-use Rattle.ang_names_written.specs.Sources.{source_of}
+use Rattle.ang_names_listed.specs.Sources.{source_of}
 use Rattle.ang_names.proofs.Named.{found_as}
 use Rattle.ang_check.proofs.Asking.{body_rows, no_denials, phase_rows}
 use Rattle.ang_check.proofs.denying.denials.Goals as goal

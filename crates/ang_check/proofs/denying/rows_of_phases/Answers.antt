@@ -1,8 +1,8 @@
 use Rattle.std.proofs.Common.{◌≡◌, map as list_map, ◌∙◌}
 use Rattle.std.specs.List.{flat_map}
 use Rattle.ang_names_listed.specs.Declarations.{declarations_of}
-use Rattle.ang_names_resolved.specs.Resolved.{names_of}
-use Rattle.ang_names_written.specs.Sources.{source_of}
+use Rattle.ang_names_classes.specs.Resolved.{names_of}
+use Rattle.ang_names_listed.specs.Sources.{source_of}
 use Rattle.ang_names.specs.Phases.{refusals_of}
 use Rattle.ang_names.proofs.Named.{found_as}
 use Rattle.ang_check_denials.specs.Denials.{rows_for}

@@ -1,6 +1,6 @@
 use Rattle.std.proofs.Common.{◌≡◌, ◌++◌, drop}
 use Rattle.ang_check_context.specs.Operands as spec
-use Rattle.ang_check_operand.specs.View.{view_operands}
+use Rattle.ang_check_operators.specs.View.{view_operands}
 use Rattle.ang_check_context.proofs.operands.types_of.Given as goal
 
 abbrev pub invariant-loop-operand : goal.invariant-loop-operand

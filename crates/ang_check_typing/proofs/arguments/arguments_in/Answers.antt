@@ -3,7 +3,7 @@ use Rattle.std.specs.Vec.Iter.{into_iter_items}
 use Rattle.ang_kinds.specs.declared.types.Pass.TheVariants.{Value}
 use Rattle.ang_types.specs.declared.arg_type.ArgType.TheVariants.{Void}
 use Rattle.ang_typed.specs.View.{view_arg}
-use Rattle.ang_check_operand.specs.View.{view_operand}
+use Rattle.ang_check_operators.specs.View.{view_operand}
 use Rattle.ang_check_typing.proofs.Passing.{arguments_end, arguments_turn}
 use Rattle.ang_check_typing.proofs.arguments.arguments_in.Goals as goal
 

@@ -2,7 +2,7 @@ use Rattle.std.proofs.Common.{◌≡◌, drop, map as list_map}
 use Rattle.std.specs.Vec.Iter.{into_iter_items}
 use Rattle.ang_typed.specs.View.{view_arg}
 use Rattle.ang_check_typing.specs.Calls.{arguments_for}
-use Rattle.ang_check_operand.specs.View.{view_operands}
+use Rattle.ang_check_operators.specs.View.{view_operands}
 use Rattle.ang_check_typing.proofs.SoFar.{all_behind}
 use Rattle.ang_check_typing.proofs.arguments.arguments_in.Given as goal
 

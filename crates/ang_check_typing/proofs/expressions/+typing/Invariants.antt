@@ -1,6 +1,6 @@
 use Rattle.std.proofs.Common.{◌≡◌, drop}
 use Rattle.ang_tree.specs.View.{view_items}
-use Rattle.ang_check_operand.specs.View.{view_operands}
+use Rattle.ang_check_operators.specs.View.{view_operands}
 use Rattle.ang_check_typing.specs.Typing.{typing_of_all}
 use Rattle.ang_check_typing.proofs.SoFar.{all_behind}
 use Rattle.ang_check_typing.proofs.expressions.+typing.Given as goal

@@ -3,12 +3,12 @@ use Rattle.std.specs.Prelude.{IsSome, slice_index_or}
 use Rattle.std.proofs.lemmas.Result.{err_from_is_err_and}
 use Rattle.ang_source.specs.Meaning.{routine}
 use Rattle.ang_engine_modules.specs.Loaded.{loaded_at}
-use Rattle.ang_engine_world.specs.declared.reply.Outcome.TheVariants.{Done}
-use Rattle.ang_engine_world.specs.World.{World, module_named, left_to}
-use Rattle.ang_engine_world.specs.States.{states_in}
-use Rattle.ang_engine_world.specs.Commands.{answered}
-use Rattle.ang_engine_world.proofs.Finding.{found_same}
-use Rattle.ang_engine_world.proofs.Worlds.{zip_length}
+use Rattle.ang_engine_modules.specs.declared.reply.Outcome.TheVariants.{Done}
+use Rattle.ang_engine_modules.specs.World.{World, module_named, left_to}
+use Rattle.ang_engine_modules.specs.States.{states_in}
+use Rattle.ang_engine_modules.specs.Commands.{answered}
+use Rattle.ang_engine_modules.proofs.Finding.{found_same}
+use Rattle.ang_engine_modules.proofs.Worlds.{zip_length}
 use Rattle.ang_engine.specs.Sound.{IsSoundPlace}
 use Rattle.ang_engine.proofs.Kept.{linked_sound}
 use Rattle.ang_engine.proofs.Bound.{binding-refused, binding-done, bound_fits, few_exported, world_by}

@@ -1,13 +1,13 @@
 use Rattle.std.proofs.Common.{◌≡◌, rules, refl, true, false}
 use Rattle.ang_heap.specs.Stores.{world_of}
 use Rattle.ang_vm.specs.Machines.{lent}
-use Rattle.ang_engine_world.specs.declared.reply.Outcome.TheVariants.{Refused}
-use Rattle.ang_engine_world.specs.declared.reply.Refusal.TheVariants.{NoModule, BadBudget}
-use Rattle.ang_engine_world.specs.World.{World, left_to}
-use Rattle.ang_engine_world.specs.States.{states_in}
+use Rattle.ang_engine_modules.specs.declared.reply.Outcome.TheVariants.{Refused}
+use Rattle.ang_engine_modules.specs.declared.reply.Refusal.TheVariants.{NoModule, BadBudget}
+use Rattle.ang_engine_modules.specs.World.{World, left_to}
+use Rattle.ang_engine_modules.specs.States.{states_in}
 use Rattle.ang_engine.specs.Outcomes.{building}
 use Rattle.ang_engine.specs.Step.{build_within, is_budget}
-use Rattle.ang_engine_world.proofs.Finding.{found_same, on_module-none}
+use Rattle.ang_engine_modules.proofs.Finding.{found_same, on_module-none}
 use Rattle.ang_engine.proofs.Leading.{leads-at_once, leads-same}
 use Rattle.ang_engine.proofs.Asking.{asked-nothing, kept-same}
 use Rattle.ang_engine.proofs.Refusing.{begun_build}

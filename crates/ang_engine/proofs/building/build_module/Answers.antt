@@ -1,9 +1,9 @@
 use Rattle.std.proofs.Common.{◌∙◌, refl, sym, subst, length, map, None}
 use Rattle.std.specs.Prelude.{slice_index_or}
 use Rattle.ang_heap.specs.Globals.{values_in}
-use Rattle.ang_engine_world.specs.Sound.{HasSameName}
-use Rattle.ang_engine_world.proofs.Lists.{any_default}
-use Rattle.ang_engine_world.proofs.Keeping.{placed_modules}
+use Rattle.ang_engine_modules.specs.Sound.{HasSameName}
+use Rattle.ang_engine_modules.proofs.PlaceLists.{any_default}
+use Rattle.ang_engine_modules.proofs.Keeping.{placed_modules}
 use Rattle.ang_engine.specs.Sound.{IsBuiltBy}
 use Rattle.ang_engine.proofs.Starting.{globals_kept, set_again}
 use Rattle.ang_engine.proofs.Rebuilding.{apart_still, none-there, globals-there, empty-there, ready-there, counted-there, within-there, free-there, refused-leads, refused-asked, refused-sound, begun-drivers, begun-leads, begun-asked, begun-sound}

@@ -1,6 +1,6 @@
 use Rattle.std.proofs.Common.{ap, sym, ◌∙◌, Some}
-use Rattle.ang_engine_world.specs.World.{module_in}
-use Rattle.ang_engine_world.specs.States.{place_of}
+use Rattle.ang_engine_modules.specs.World.{module_in}
+use Rattle.ang_engine_modules.specs.States.{place_of}
 use Rattle.ang_engine.specs.Step.{emptied}
 use Rattle.ang_engine.proofs.building.compile_place.Goals as goal
 

@@ -8,7 +8,7 @@ use Rattle.ang_heap.specs.Stores.{world_of}
 use Rattle.ang_vm.specs.Machines.{lent}
 use Rattle.ang_engine_modules.specs.Loaded.{modules_of}
 use Rattle.ang_engine_modules.specs.Modules.{AreDriversThere}
-use Rattle.ang_engine_world.specs.States.{program_in}
+use Rattle.ang_engine_modules.specs.States.{program_in}
 use Rattle.ang_engine.proofs.Starting.{first_values, none_set, put_lengths, ended_lengths, set_again, started-by, begun-world, run-begun, run-loaded}
 use Rattle.ang_engine.proofs.Asking.{run-join, run-ended}
 use Rattle.ang_engine.proofs.building.start.Goals as goal

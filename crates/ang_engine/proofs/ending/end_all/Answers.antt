@@ -8,7 +8,7 @@ use Rattle.ang_heap.specs.Globals.{values_in}
 use Rattle.ang_heap.specs.Parts.{counts_of, world_by}
 use Rattle.ang_heap.specs.Heaps.{objects_of}
 use Rattle.ang_heap.proofs.Hosting.{parts_none, parts_join}
-use Rattle.ang_engine_world.specs.World.{all_ended}
+use Rattle.ang_engine_modules.specs.World.{all_ended}
 use Rattle.ang_engine.proofs.GlobalsEnd.{ended_counted}
 use Rattle.ang_engine.proofs.Backwards.{last_of, turn_ends, none_ends}
 use Rattle.ang_engine.proofs.ending.end_all.Goals as goal

@@ -7,7 +7,7 @@ use Rattle.ang_meaning.specs.Counting.{CountedIn}
 use Rattle.ang_heap.specs.Globals.{values_in}
 use Rattle.ang_heap.specs.Parts.{counts_of, world_by, AreReady, PartsMove}
 use Rattle.ang_heap.specs.Heaps.{objects_of}
-use Rattle.ang_engine_world.specs.World.{all_ended}
+use Rattle.ang_engine_modules.specs.World.{all_ended}
 use Rattle.ang_engine.proofs.ending.end_all.Given as goal
 
 abbrev pub invariant-loop-left : goal.invariant-loop-left

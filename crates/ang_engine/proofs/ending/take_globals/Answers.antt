@@ -1,7 +1,7 @@
 use Rattle.std.proofs.Common.{ap, ◌∙◌}
 use Rattle.std.specs.Prelude.{slice_set}
 use Rattle.ang_heap.specs.Globals.{values_in}
-use Rattle.ang_engine_world.proofs.Lists.{map_set}
+use Rattle.ang_engine_modules.proofs.PlaceLists.{map_set}
 use Rattle.ang_engine.proofs.ending.take_globals.Goals as goal
 
 pub returns-then-home-len-clause-none : goal.returns-then-home-len-clause-none

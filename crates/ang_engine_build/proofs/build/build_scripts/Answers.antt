@@ -1,5 +1,5 @@
 use Rattle.std.proofs.Common.{refl, map as list_map}
-use Rattle.ang_names_written.specs.Sources.{source_of}
+use Rattle.ang_names_listed.specs.Sources.{source_of}
 use Rattle.ang_engine_build.proofs.Scripts.{declarations_refused, bodies_refused, none_refused}
 use Rattle.ang_engine_build.proofs.build.build_scripts.Goals as goal
 

@@ -1,5 +1,5 @@
 use Rattle.std.proofs.Common.{◌≡◌, drop, map as list_map}
-use Rattle.ang_names_written.specs.Sources.{source_of}
+use Rattle.ang_names_listed.specs.Sources.{source_of}
 use Rattle.ang_engine_build.specs.Script.{sources_of}
 use Rattle.ang_engine_build.proofs.SoFar.{all_joined}
 use Rattle.ang_engine_build.proofs.section.read_sections.Given as goal

@@ -1,5 +1,5 @@
 use Rattle.std.proofs.Common.{◌≡◌, ◌++◌, drop, map as list_map}
-use Rattle.ang_names_written.specs.Sources.{source_of}
+use Rattle.ang_names_listed.specs.Sources.{source_of}
 use Rattle.ang_names_listed.specs.Declarations.{declarations_from}
 use Rattle.ang_names_listed.proofs.listing.declarations_of.Given as goal
 

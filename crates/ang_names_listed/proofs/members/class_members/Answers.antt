@@ -1,5 +1,5 @@
 use Rattle.ang_tree.specs.View.{view_member}
-use Rattle.ang_names_written.proofs.Lists.{flat_map_turn}
+use Rattle.ang_names_listed.proofs.Lists.{flat_map_turn}
 use Rattle.ang_names_listed.specs.Declarations.{members_by}
 use Rattle.ang_names_listed.proofs.members.class_members.Goals as goal
 

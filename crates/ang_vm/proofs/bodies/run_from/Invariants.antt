@@ -6,7 +6,7 @@ use Rattle.ang_vm_stack.specs.Stacks.{values}
 use Rattle.ang_vm_stack.specs.Tables.{body_of, setting_of, texts_of}
 use Rattle.ang_vm_steps.specs.Turns.{Reaches}
 use Rattle.ang_vm.specs.Legs.{Fits, standing}
-use Rattle.ang_vm_body.specs.Running.{MayRun, RunMoves, all_long}
+use Rattle.ang_vm.specs.BodyRunning.{MayRun, RunMoves, all_long}
 use Rattle.ang_vm.proofs.bodies.run_from.Given as goal
 
 abbrev pub invariant-loop-callee : goal.invariant-loop-callee

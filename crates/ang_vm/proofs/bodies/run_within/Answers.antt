@@ -1,8 +1,8 @@
 use Rattle.std.proofs.Common.{◌≡◌, length, sym, subst, arith}
 use Rattle.ang_heap.specs.Stores.{world_of}
 use Rattle.ang_vm_stack.specs.Stacks.{values}
-use Rattle.ang_vm_body.specs.Crossings.{Comes}
-use Rattle.ang_vm_body.specs.Running.{MayRun}
+use Rattle.ang_vm.specs.Crossings.{Comes}
+use Rattle.ang_vm.specs.BodyRunning.{MayRun}
 use Rattle.ang_vm.proofs.Running.{whole_slice}
 use Rattle.ang_vm.proofs.bodies.run_within.Goals as goal
 

@@ -9,7 +9,7 @@ use Rattle.ang_vm_stack.specs.Tables.{setting_of, texts_of}
 use Rattle.ang_vm.specs.Legs.{caller_at, AllFit}
 use Rattle.ang_code.specs.Machine.{begins}
 use Rattle.ang_vm.proofs.Calling.{enters_lost, enters_null, enters_deep, enters_spent, enters_begins, begins_refused, fit_more, fits_begun, push_front}
-use Rattle.ang_vm_fuse.specs.Parameters.{want_objects, only_receiver}
+use Rattle.ang_vm_stack.specs.Parameters.{want_objects, only_receiver}
 use Rattle.ang_vm.proofs.Going.{height_there, params_there}
 use Rattle.ang_vm.proofs.calls.enter_body.Goals as goal
 

@@ -4,7 +4,7 @@ use Rattle.ang_code.specs.Machine.{call_begins}
 use Rattle.ang_heap.specs.Stores.{world_of}
 use Rattle.ang_vm_stack.specs.Tables.{setting_of, texts_of}
 use Rattle.ang_vm.proofs.Counting.{call_counted, whole_held}
-use Rattle.ang_vm_body.proofs.Moving.{moved_by, moved_then}
+use Rattle.ang_vm.proofs.Moving.{moved_by, moved_then}
 use Rattle.ang_vm.proofs.Running.{has_given, has_stopped, end_counted}
 use Rattle.ang_vm.proofs.machines.call_told.Goals as goal
 

@@ -5,7 +5,7 @@ use Rattle.ang_heap.specs.Stores.{world_of}
 use Rattle.ang_vm_stack.specs.Tables.{setting_of, texts_of}
 use Rattle.ang_vm_steps.proofs.Paths.{reach_then}
 use Rattle.ang_vm.proofs.Counting.{initializer_counted, first_counted}
-use Rattle.ang_vm_body.proofs.Moving.{moved_by, moved_then, may_go_on}
+use Rattle.ang_vm.proofs.Moving.{moved_by, moved_then, may_go_on}
 use Rattle.ang_vm.proofs.Running.{whole_ends}
 use Rattle.ang_vm.proofs.machines.initialize.Goals as goal
 

@@ -7,7 +7,7 @@ use Rattle.ang_heap.specs.Stores.{world_of, IsReady, StoreMoves}
 use Rattle.ang_vm_stack.specs.Tables.{setting_of, texts_of}
 use Rattle.ang_meaning.specs.Counting.{IsCounted}
 use Rattle.ang_vm.specs.Machines.{lent, IsLost, HasInitialized}
-use Rattle.ang_vm_body.specs.Running.{MayRun, RunMoves}
+use Rattle.ang_vm.specs.BodyRunning.{MayRun, RunMoves}
 use Rattle.ang_vm.proofs.machines.run_initializer.Goals as goal
 
 pub initializer_told-ended-requires : goal.initializer_told-ended-requires

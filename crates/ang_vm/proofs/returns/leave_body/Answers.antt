@@ -3,7 +3,7 @@ use Rattle.ang_meaning.specs.World.{with_inputs}
 use Rattle.ang_meaning.specs.Results.{local_at, outs_of}
 use Rattle.ang_meaning.specs.Counting.{CanGive}
 use Rattle.ang_meaning.proofs.Telling.{told_same, told_then}
-use Rattle.ang_vm_fuse.specs.Parameters.{has_outs}
+use Rattle.ang_vm_stack.specs.Parameters.{has_outs}
 use Rattle.ang_vm_stack.specs.Stacks.{values}
 use Rattle.ang_heap.specs.Stores.{world_of}
 use Rattle.ang_heap.proofs.Storing.{moves_none, moves_join}

@@ -4,7 +4,7 @@ use Rattle.ang_meaning.specs.Perform.{operands}
 use Rattle.ang_heap.specs.Stores.{world_of}
 use Rattle.ang_vm_stack.specs.Tables.{setting_of}
 use Rattle.ang_vm_steps.proofs.TopValues.{do_unfit, do_full, do_told}
-use Rattle.ang_vm_objects.proofs.FieldOperations.{class_is, class_there, class_missing}
+use Rattle.ang_vm_ask.proofs.FieldOperations.{class_is, class_there, class_missing}
 use Rattle.ang_vm_steps.proofs.fields.make_object.Goals as goal
 
 pub returns-in-None-clause-acts : goal.returns-in-None-clause-acts

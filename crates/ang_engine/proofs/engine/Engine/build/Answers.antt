@@ -1,6 +1,6 @@
 use Rattle.std.proofs.Common.{refl}
 use Rattle.ang_engine.specs.Engines.{registrations, world_in}
-use Rattle.ang_engine_world.specs.declared.command.Command.TheVariants.{Build}
+use Rattle.ang_engine_modules.specs.declared.command.Command.TheVariants.{Build}
 use Rattle.ang_engine.proofs.Whole.{applied-build, applied-memory, sound-asked}
 use Rattle.ang_engine.proofs.engine.Engine.build.Goals as goal
 

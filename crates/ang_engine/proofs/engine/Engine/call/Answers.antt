@@ -1,8 +1,8 @@
 use Rattle.std.proofs.Common.{refl, sym, subst}
 use Rattle.ang_heap.specs.Globals.{values_in}
 use Rattle.ang_engine.specs.Engines.{registrations, world_in}
-use Rattle.ang_engine_world.specs.declared.command.Command.TheVariants.{Call}
-use Rattle.ang_engine_world.specs.Sound.{HaveGlobals}
+use Rattle.ang_engine_modules.specs.declared.command.Command.TheVariants.{Call}
+use Rattle.ang_engine_modules.specs.Sound.{HaveGlobals}
 use Rattle.ang_engine.specs.Sound.{AreSoundModules}
 use Rattle.ang_engine.proofs.Kept.{run_globals}
 use Rattle.ang_engine.proofs.Whole.{applied-call, applied-memory, sound-asked}

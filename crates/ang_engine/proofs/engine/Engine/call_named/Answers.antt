@@ -3,16 +3,16 @@ use Rattle.std.specs.Prelude.{Ok, Err, IsSome, slice_index_or}
 use Rattle.ang_heap.specs.Stores.{world_of}
 use Rattle.ang_vm.specs.Machines.{lent}
 use Rattle.ang_engine_modules.specs.Loaded.{modules_of}
-use Rattle.ang_engine_world.specs.World.{module_named}
-use Rattle.ang_engine_world.specs.States.{states_in, program_in}
+use Rattle.ang_engine_modules.specs.World.{module_named}
+use Rattle.ang_engine_modules.specs.States.{states_in, program_in}
 use Rattle.ang_engine.specs.Engines.{registrations, world_in}
 use Rattle.ang_engine.specs.Step.{is_budget, choice_of, call}
 use Rattle.ang_engine.proofs.Places.{places_built}
 use Rattle.ang_engine.proofs.Entries.{drivers_there}
-use Rattle.ang_engine_world.proofs.Finding.{found_same, on_module-none}
+use Rattle.ang_engine_modules.proofs.Finding.{found_same, on_module-none}
 use Rattle.ang_engine.proofs.Calls.{call-run}
 use Rattle.ang_engine.proofs.Named.{few_families, program_there, takes_chosen, typed_chosen, chosen_refused, calling-unbuilt, calling-unbudgeted, calling-built}
-use Rattle.ang_engine_world.specs.declared.reply.Outcome.TheVariants.{Refused}
+use Rattle.ang_engine_modules.specs.declared.reply.Outcome.TheVariants.{Refused}
 use Rattle.ang_engine.proofs.Refusing.{refused_anyway, called_ended}
 use Rattle.ang_engine.proofs.Asking.{asked-nothing, asked-run}
 use Rattle.ang_engine.proofs.engine.Engine.call_named.Goals as goal

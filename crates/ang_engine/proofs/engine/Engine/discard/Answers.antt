@@ -7,7 +7,7 @@ use Rattle.ang_meaning.specs.World.{World as RunWorld}
 use Rattle.ang_heap.specs.Globals.{values_in}
 use Rattle.ang_heap.specs.Heaps.{objects_of}
 use Rattle.ang_heap.specs.Parts.{counts_of, world_by}
-use Rattle.ang_engine_world.specs.World.{all_ended, running, engine_ended}
+use Rattle.ang_engine_modules.specs.World.{all_ended, running, engine_ended}
 use Rattle.ang_engine.specs.Engines.{registrations, world_in}
 use Rattle.ang_engine.proofs.Discarding.{AreGivenBack, AreListed, all_listed, discarded, discarded-follow}
 use Rattle.ang_engine.proofs.engine.Engine.discard.Goals as goal

@@ -1,8 +1,8 @@
 use Rattle.std.proofs.Common.{◌≡◌, Some, refl, inr}
 use Rattle.ang_heap.specs.Globals.{values_in}
-use Rattle.ang_engine_world.specs.Commands.{discard}
-use Rattle.ang_engine_world.specs.World.{module_named}
-use Rattle.ang_engine_world.proofs.Finding.{found_same, on_module-none}
+use Rattle.ang_engine_modules.specs.Commands.{discard}
+use Rattle.ang_engine_modules.specs.World.{module_named}
+use Rattle.ang_engine_modules.proofs.Finding.{found_same, on_module-none}
 use Rattle.ang_engine.specs.Engines.{registrations, world_in}
 use Rattle.ang_engine.proofs.Asking.{asked-nothing}
 use Rattle.ang_engine.proofs.Kept.{removed_sound, removed_globals}

@@ -3,7 +3,7 @@ use Rattle.ang_host.specs.Boxes.{members}
 use Rattle.ang_meaning.specs.World.{World as RunWorld}
 use Rattle.ang_heap.specs.Globals.{values_in}
 use Rattle.ang_heap.specs.Stores.{world_of}
-use Rattle.ang_engine_world.specs.declared.module.ModuleList.{ModuleList}
+use Rattle.ang_engine_modules.specs.declared.module.ModuleList.{ModuleList}
 use Rattle.ang_engine.specs.Sound.{HaveDrivers}
 use Rattle.ang_engine.proofs.Beginning.{no_sound_modules, no_globals, world_begun}
 use Rattle.ang_engine.proofs.engine.Engine.new.Goals as goal

@@ -3,7 +3,7 @@ use Rattle.ang_heap.specs.Globals.{values_in}
 use Rattle.ang_heap.specs.Stores.{world_of}
 use Rattle.ang_engine.specs.Engines.{registrations, world_in}
 use Rattle.ang_engine.specs.Sound.{IsSoundPlace}
-use Rattle.ang_engine_world.proofs.Worlds.{zip_length}
+use Rattle.ang_engine_modules.proofs.Worlds.{zip_length}
 use Rattle.ang_engine.proofs.Kept.{nothing_built, added_sound, added_globals, added_counted}
 use Rattle.ang_engine.proofs.Whole.{applied-done}
 use Rattle.ang_engine.proofs.engine.Engine.new_module.Goals as goal

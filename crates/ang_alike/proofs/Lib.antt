@@ -1,0 +1,14 @@
+pub mod Renamed
+pub mod Values
+pub mod Calls
+pub mod BodyRuns
+pub mod Bodies
+pub mod Sources
+pub mod Linking
+pub mod Modules
+pub mod Runs
+pub mod Globals
+pub mod Fitting
+pub mod Steps
+pub mod Unseen
+pub mod Sessions

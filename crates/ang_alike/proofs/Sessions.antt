@@ -1,0 +1,214 @@
+-- Lists of commands over two lists that show the same to the masks of builds have the same replies, apart from denials.
+use Rattle.std.proofs.Common.{◌≡◌, ◌≤◌, ℕ, inl, inr, List, [], ◌∷◌, ◌++◌, length, refl, sym, ap, ap₂, ◌∙◌, subst, Option, Some, None, map as list_map}
+use Rattle.std.specs.Prelude.{option_map}
+use Rattle.std.specs.FinMap.{get-empty}
+use Rattle.std.specs.Ordering.{nat_cmp}
+use Rattle.ang_meaning.specs.declared.routine.Routine.{Routine}
+use Rattle.ang_engine_modules.specs.Modules.{link_at}
+use Rattle.ang_host.specs.State.{count_of}
+use Rattle.ang_view.specs.Registration.{RegistrationList}
+use Rattle.ang_view.specs.Values.{TakesValues}
+use Rattle.ang_meaning.specs.World.{Input, World as RunWorld}
+use Rattle.ang_meaning.specs.Counting.{IsCounted}
+use Rattle.ang_meaning.specs.Alike.{Renaming, unchanged, renamed_record}
+use Rattle.ang_meaning.proofs.AlikeWorlds.{three}
+use Rattle.ang_meaning.proofs.Roots.{nothing_counted}
+use Rattle.ang_meaning.proofs.Matching.{Match}
+use Rattle.ang_code_laws.specs.Alike.{AreAlike, GrantedAlike}
+use Rattle.ang_code_laws.proofs.AlikeRuns.{LeftAlike, granted_same, match_then, begun}
+use Rattle.ang_engine_modules.specs.declared.command.Command.{Command}
+use Rattle.ang_engine_modules.specs.declared.command.Command.TheVariants.{NewModule, SetMask, AddSection, Build, Bind, Unbind, Call, Discard}
+use Rattle.ang_engine_modules.specs.declared.reply.Reply.{Reply}
+use Rattle.ang_engine_modules.specs.World.{ModuleStates, World, no_modules, running, left_to}
+use Rattle.ang_engine_modules.specs.Commands.{Stepped}
+use Rattle.ang_engine.specs.Step.{step}
+use Rattle.ang_alike.specs.Alike.{Grants, InTurn, SeesSame, answers_in, undenied, HiddenDoesNotMatter, AnswersDecide}
+use Rattle.ang_alike.proofs.Modules.{AreGood}
+use Rattle.ang_alike.proofs.Steps.{AreSame, SteppedAlike, BothAlike, step_alike}
+use Rattle.ang_alike.proofs.Unseen.{bare, hidden_same}
+
+-- ---- between commands
+
+-- The worlds have the same modules, and are equal up to the numbers of script objects.
+pub record AreBetween (w u : World) : Type 0 where
+  pub modules : u.modules ≡ w.modules
+  pub by : Renaming
+  pub alike : AreAlike by (running w []) (running u [])
+  pub counted : IsCounted [] (running w [])
+  pub good : AreGood w.modules
+
+-- ---- what two commands leave
+
+none_some : {A : Type 0} (a : A) → None ≡ Some a → ⊥
+none_some a e = let x : ⊥ = cc in x
+
+some_same : {A : Type 0} (x y : A) → Some x ≡ Some y → x ≡ y
+some_same x y e = cc
+
+left_alike : (apart : Type 0) (a b : Stepped) → SteppedAlike apart a b → LeftAlike apart a.left b.left
+left_alike apart a b h = three (λ m. inl m.alike.inputs) (λ l. inr (inl l)) (λ l. inr (inr l)) h
+
+left_by : (apart : Type 0) (o p : Option Stepped) (a b : Stepped) → BothAlike apart o p → option_map bare o ≡ Some a → option_map bare p ≡ Some b → LeftAlike apart a.left b.left
+left_by apart None p a b h e f = absurd (none_some a e)
+left_by apart (Some x) None a b h e f = absurd (none_some b f)
+left_by apart (Some x) (Some y) a b h e f =
+    subst (λ s. LeftAlike apart a.left s.left) (some_same (bare y) b f) (subst (λ s. LeftAlike apart s.left y.left) (some_same (bare x) a e) (left_alike apart x y h))
+
+between_of : (a b : Stepped) → AreSame ⊥ a b → AreBetween a.world b.world
+between_of a b m = record {
+  modules = m.modules;
+  by = m.by;
+  alike = record { objects = m.alike.objects; hosts = m.alike.hosts; globals = m.alike.globals; events = refl; spent = m.alike.spent; inputs = refl };
+  counted = m.counted;
+  good = m.good;
+}
+
+only_same : (a b : Stepped) → SteppedAlike ⊥ a b → AreSame ⊥ a b
+only_same a b h = three (λ m. m) (λ l. absurd l.0) (λ l. absurd l.0) h
+
+-- The replies, which are the same with their denials where there is one list, and the worlds after them.
+record AreTold (one_list : Type 0) (reply answer : Reply) (w u : World) : Type 0 where
+  same : undenied reply ≡ undenied answer
+  whole : one_list → reply ≡ answer
+  between : AreBetween w u
+
+told_by : (one_list : Type 0) (o p : Option Stepped) (a b : Stepped) → BothAlike ⊥ o p → o ≡ Some a → option_map bare p ≡ Some (bare b) → (one_list → p ≡ Some b) → AreTold one_list a.reply b.reply a.world b.world
+told_by one_list None p a b h e f g = absurd (none_some a e)
+told_by one_list (Some x) None a b h e f g = absurd (none_some (bare b) f)
+told_by one_list (Some x) (Some y) a b h e f g =
+    let m = only_same x y h in
+    let one : x ≡ a = some_same x a e in
+    let two : bare y ≡ bare b = some_same (bare y) (bare b) f in
+    record {
+      same = ap (λ s. undenied s.reply) (sym one) ∙ ap undenied (sym m.reply) ∙ ap (λ s. s.reply) two;
+      whole = λ l. ap (λ s. s.reply) (sym one) ∙ sym m.reply ∙ ap (λ s. s.reply) (some_same y b (g l));
+      between = subst (λ s. AreBetween a.world s.world) two (subst (λ s. AreBetween s.world y.world) one (between_of x y m));
+    }
+
+-- ---- one command
+
+-- what a build sees is seen by the modules' masks alone
+sees_again : (R S : RegistrationList) (w : World) (q : RunWorld) (c : Command) → SeesSame R S w c → SeesSame R S (left_to w.modules q) c
+sees_again R S w q (NewModule name mask) h = tt
+sees_again R S w q (SetMask name mask) h = tt
+sees_again R S w q (AddSection name text) h = tt
+sees_again R S w q (Build name budget) h = h
+sees_again R S w q (Bind name index exporter decl) h = tt
+sees_again R S w q (Unbind name index) h = tt
+sees_again R S w q (Call name decl args budget) h = tt
+sees_again R S w q (Discard name) h = tt
+
+first_or : {A : Type 0} → A → List A → A
+first_or d [] = d
+first_or d (x ∷ xs) = x
+
+later : {A : Type 0} → List A → List A
+later [] = []
+later (x ∷ xs) = xs
+
+module _ (R S : RegistrationList) (values : TakesValues R) (few : length R ≤ 1024) where
+  module _ (ms : ModuleStates) (good : AreGood ms) (r : Renaming) (v w : RunWorld) (counted : IsCounted [] v) (h : AreAlike r v w) (c : Command) (sees : SeesSame R S (left_to ms w) c) where
+    abbrev goes : List Input → Option Stepped
+    goes is = option_map bare (step R (left_to ms v) c is)
+
+    abbrev goes_too : List Input → Option Stepped
+    goes_too js = option_map bare (step S (left_to ms w) c js)
+
+    both : (apart : Type 0) (is js : List Input) → Match apart is js → BothAlike apart (step R (left_to ms v) c is) (step R (left_to ms w) c js)
+    both apart is js m = step_alike apart R values few ms good r v w counted (λ is' js' m'. begun apart r is' js' v w h m') c is js m
+
+    pairs : (apart : Type 0) (is js : List Input) (a b : Stepped) → Match apart is js → goes is ≡ Some a → goes_too js ≡ Some b → LeftAlike apart a.left b.left
+    pairs apart is js a b m e f =
+        left_by apart (step R (left_to ms v) c is) (step R (left_to ms w) c js) a b (both apart is js m) e (hidden_same R S (left_to ms w) c sees js ∙ f)
+
+    command_alike : (reply answer : Reply) (after left : World) → (one : Grants R (left_to ms v) c reply after) → (two : Grants S (left_to ms w) c answer left) → answers_in reply ≡ answers_in answer → AreTold (R ≡ S) reply answer after left
+    command_alike reply answer after left one two k =
+        let granted : GrantedAlike one.0.used two.0.used = record { room = one.1; again = two.1; answers = one.0.answers ∙ k ∙ sym two.0.answers } in
+        let m : Match ⊥ one.0.used two.0.used =
+        granted_same {A = Stepped} (λ a. a.left) (λ is a. goes is ≡ Some a) (λ js b. goes_too js ≡ Some b) pairs one.0.used two.0.used
+        (λ rest. (bare (record { reply = reply; world = after; left = rest }), ap (option_map bare) (one.0.tells rest), refl))
+        (λ rest. (bare (record { reply = answer; world = left; left = rest }), ap (option_map bare) (two.0.tells rest), refl)) granted in
+        let whole : Match ⊥ (one.0.used ++ []) (two.0.used ++ []) = match_then ⊥ one.0.used two.0.used [] [] m (λ x. x) in
+        told_by (R ≡ S) (step R (left_to ms v) c (one.0.used ++ [])) (step R (left_to ms w) c (two.0.used ++ []))
+        (record { reply = reply; world = after; left = [] }) (record { reply = answer; world = left; left = [] }) (both ⊥ (one.0.used ++ []) (two.0.used ++ []) whole)
+        (one.0.tells []) (hidden_same R S (left_to ms w) c sees (two.0.used ++ []) ∙ ap (option_map bare) (two.0.tells []))
+        (λ e. ap (λ L. step L (left_to ms w) c (two.0.used ++ [])) e ∙ two.0.tells [])
+
+  between_commands : (w u : World) (c : Command) (reply answer : Reply) (after left : World) → AreBetween w u → Grants R w c reply after → SeesSame R S w c → Grants S u c answer left → answers_in reply ≡ answers_in answer
+      → AreTold (R ≡ S) reply answer after left
+  between_commands w u c reply answer after left b one sees two k =
+      let there : u ≡ left_to w.modules (running u []) = ap (λ ss. left_to ss (running u [])) b.modules in
+      command_alike w.modules b.good b.by (running w []) (running u []) b.counted b.alike c (sees_again R S w (running u []) c sees) reply answer after left one (subst (λ x. Grants S x c answer left) there two) k
+
+  -- ---- commands in turn
+
+  pub all_alike : (cs : List Command) (rs ss : List Reply) (w u v x : World) → AreBetween w u → InTurn (λ y c r t. Grants R y c r t × SeesSame R S y c) w cs rs v → InTurn (Grants S) u cs ss x
+      → list_map answers_in rs ≡ list_map answers_in ss → list_map undenied rs ≡ list_map undenied ss
+  unfolding first_or later
+  all_alike [] [] [] w u v x b d e k = refl
+  all_alike [] [] (s ∷ ss) w u v x b d e k = absurd e
+  all_alike [] (r ∷ rs) ss w u v x b d e k = absurd d
+  all_alike (c ∷ cs) [] ss w u v x b d e k = absurd d
+  all_alike (c ∷ cs) (r ∷ rs) [] w u v x b d e k = absurd e
+  all_alike (c ∷ cs) (r ∷ rs) (s ∷ ss) w u v x b d e k =
+      let one = between_commands w u c r s d.0 e.0 b d.1.0 d.1.1 e.1 (ap (first_or []) k) in
+      ap₂ (λ y ys. y ∷ ys) one.same (all_alike cs rs ss d.0 e.0 v x one.between d.2 e.2 (ap later k))
+
+  -- over one list
+  pub all_same : R ≡ S → (cs : List Command) (rs ss : List Reply) (w u v x : World) → AreBetween w u → InTurn (λ y c r t. Grants R y c r t × SeesSame R S y c) w cs rs v → InTurn (Grants S) u cs ss x
+      → list_map answers_in rs ≡ list_map answers_in ss → rs ≡ ss
+  unfolding first_or later
+  all_same one_list [] [] [] w u v x b d e k = refl
+  all_same one_list [] [] (s ∷ ss) w u v x b d e k = absurd e
+  all_same one_list [] (r ∷ rs) ss w u v x b d e k = absurd d
+  all_same one_list (c ∷ cs) [] ss w u v x b d e k = absurd d
+  all_same one_list (c ∷ cs) (r ∷ rs) [] w u v x b d e k = absurd e
+  all_same one_list (c ∷ cs) (r ∷ rs) (s ∷ ss) w u v x b d e k =
+      let one = between_commands w u c r s d.0 e.0 b d.1.0 d.1.1 e.1 (ap (first_or []) k) in
+      ap₂ (λ y ys. y ∷ ys) (one.whole one_list) (all_same one_list cs rs ss d.0 e.0 v x one.between d.2 e.2 (ap later k))
+
+-- ---- the law
+
+no_link : (m i : ℕ) (g : Routine) → link_at [] m i ≡ Some g → ⊥
+no_link m i g e = let x : ⊥ = cc in x
+
+empty_between : AreBetween no_modules no_modules
+empty_between = record {
+  modules = refl;
+  by = unchanged;
+  alike = record {
+    objects = record { has = λ n. get-empty nat_cmp n ∙ ap (renamed_record unchanged) (sym (get-empty nat_cmp n)); size = refl };
+    hosts = refl;
+    globals = refl;
+    events = refl;
+    spent = refl;
+    inputs = refl;
+  };
+  counted = nothing_counted (running no_modules []) refl (λ d k. ap count_of (get-empty {X = ℕ} nat_cmp k)) (λ x. refl);
+  good = record { places = tt; linked = record { each = λ m i g e. absurd (no_link m i g e) } };
+}
+
+pub hidden_does_not_matter : HiddenDoesNotMatter
+hidden_does_not_matter R S cs rs ss v w registered d e k = all_alike R S registered.values registered.few cs rs ss no_modules no_modules v w empty_between d e k
+
+-- ---- the law over one list
+
+sees_itself : (R : RegistrationList) (w : World) (c : Command) → SeesSame R R w c
+sees_itself R w (NewModule name mask) = tt
+sees_itself R w (SetMask name mask) = tt
+sees_itself R w (AddSection name text) = tt
+sees_itself R w (Build name budget) = λ i e b. refl
+sees_itself R w (Bind name index exporter decl) = tt
+sees_itself R w (Unbind name index) = tt
+sees_itself R w (Call name decl args budget) = tt
+sees_itself R w (Discard name) = tt
+
+with_itself : (R : RegistrationList) (cs : List Command) (rs : List Reply) (w v : World) → InTurn (Grants R) w cs rs v → InTurn (λ y c r t. Grants R y c r t × SeesSame R R y c) w cs rs v
+with_itself R [] [] w v d = d
+with_itself R [] (r ∷ rs) w v d = d
+with_itself R (c ∷ cs) [] w v d = d
+with_itself R (c ∷ cs) (r ∷ rs) w v d = (d.0, (d.1, sees_itself R w c), with_itself R cs rs d.0 v d.2)
+
+pub answers_decide : AnswersDecide
+answers_decide R cs rs ss v w registered d e k =
+    all_same R R registered.values registered.few refl cs rs ss no_modules no_modules v w empty_between (with_itself R cs rs no_modules v d) e k

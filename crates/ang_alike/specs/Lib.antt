@@ -1,0 +1,2 @@
+pub mod SourcesAlike
+pub mod Alike

@@ -1,0 +1,33 @@
+//! What holds of two engines whose registries show the same to the masks of builds.
+//!
+//! What holds of two runs that differ in the numbers of script objects alone.
+ghost use Rattle.std.specs.Prelude.{ℕ};
+ghost use Rattle.ang_view.specs.Registration.{RegistrationList};
+ghost use Rattle.ang_typed.specs.Typed.{Program};
+ghost use Rattle.ang_meaning.specs.Setting.{Setting};
+ghost use Rattle.ang_source.specs.Meaning.{Codes};
+ghost use Rattle.ang_alike.specs.SourcesAlike.{AreSoundSources, AreAlikeInRuns};
+ghost use Rattle.ang_alike.specs.Alike.{HiddenDoesNotMatter, AnswersDecide};
+
+/// Two calls of a function of sound trees, and a module's initializers run twice, in worlds that are
+/// equal up to the numbers of script objects, and told the same but for these, come to the same but for
+/// these. Nothing is asked of the trees' size: no code of them has to be there.
+pub fn sources_alike()
+    ensures alike { (z : Setting) (view : ℕ → RegistrationList) (program : ℕ → Program)
+        (codes : Codes)
+        → AreSoundSources z view program codes
+        → AreAlikeInRuns z codes }
+{}
+
+/// Two registration lists that show the same to each mask with which a build is done give equal replies
+/// to equal commands, apart from their denials, where drivers answer the same and all was granted that
+/// was asked for.
+pub fn alike()
+    ensures alike { HiddenDoesNotMatter }
+{}
+
+/// Over one registration list equal commands have equal replies, where drivers answer the same and all
+/// was granted that was asked for.
+pub fn answers_decide()
+    ensures same { AnswersDecide }
+{}

@@ -1,0 +1,393 @@
+//! Bodies of constructors, and the call of the base class's with which each begins.
+ghost use Rattle.std.specs.Prelude.{◌≡◌, ◌<◌, ◌∷◌, [], Some, option_map, IfOk, map as list_map};
+ghost use Rattle.ang_tree.specs.View as trees;
+ghost use Rattle.ang_typed.specs.Typed as tree;
+ghost use Rattle.ang_typed.specs.declared.expression.Callee.TheVariants as callee;
+ghost use Rattle.ang_typed.specs.View.{view_arg, view_block, view_function, view_stmt, view_stmts};
+ghost use Rattle.ang_check_operators.specs.Refusals.{Gives};
+ghost use Rattle.ang_check_operators.specs.View.{view_operands};
+ghost use Rattle.ang_check_stmt.specs.Typing.{own_object as object_of};
+ghost use Rattle.ang_check_uses.specs.Uses.{makers_of as all_makers};
+ghost use Rattle.ang_names_known.specs.Spaces as spaces;
+ghost use Rattle.ang_check.specs.Typing as spec;
+ghost use Rattle.ang_check.specs.View.{view_base};
+
+use crate::functions::{member_locals, member_parameters};
+use ang_check_context::{BodyContext, Locals, Within, own_type, types_of};
+use ang_check_operators::{Operand, Stop, boxed, refused, refused_for};
+use ang_check_stmt::{Frame, Returns, block, own_object};
+use ang_check_typing::{arguments_for, typing_of_all};
+use ang_check_uses::{Callables, Called, Resolution, Scope, best_of_those, makers_of};
+use ang_kinds::{ErrorKind, List, Place};
+use ang_lex::Token;
+use ang_names_known::{Default, Names, ScriptFunction, default_of, family_type};
+use ang_tree as written;
+use ang_tree::SuperCall;
+use ang_typed::{Argument, Block, Callee, Expression, Function, Parameter, Statement};
+use ang_types::ArgType;
+use std::alloc::{AllocError, Global};
+
+/// The base class's constructor that runs first: the number of its body, where one is written, and
+/// its arguments.
+#[derive(Drop)]
+pub struct BaseCall {
+    /// The number of its body.
+    pub body: Option<usize>,
+    /// The arguments after `this`.
+    pub arguments: List<Argument>,
+}
+
+fn without_arguments(alloc: Global, body: Option<usize>) -> BaseCall
+    ensures exact { view_base result ≡ (body, []) }
+{
+    BaseCall {
+        body,
+        arguments: List::from_vec(Vec::new(alloc)),
+    }
+}
+
+fn default_base(
+    alloc: Global,
+    place: Place,
+    base: &Token,
+    default: Default,
+) -> Result<BaseCall, Stop>
+    ensures exact { Gives view_base result (spec.default_base place base.now default) }
+{
+    match default {
+        Default::Missing => Err(refused_for(ErrorKind::NoDefault, place, base)),
+        Default::Unwritten => Ok(without_arguments(alloc, None)),
+        Default::Written(body) => Ok(without_arguments(alloc, Some(body))),
+    }
+}
+
+/// What runs first where `super` is not written.
+///
+/// `NoDefault` at this place, naming the base class, where that one has no constructor without
+/// parameters.
+#[tactic(auto, unfolding(crate::specs::Typing::implicit_super))]
+pub fn implicit_super(
+    alloc: Global,
+    names: &Names,
+    place: Place,
+    base_name: &Token,
+    base: Option<usize>,
+) -> Result<BaseCall, Stop>
+    ensures exact { Gives view_base result
+        (spec.implicit_super names.now place base_name.now base) }
+{
+    match base {
+        None => Ok(without_arguments(alloc, None)),
+        Some(base) => {
+            let default = default_of(names.families(), base);
+            default_base(alloc, place, base_name, default)
+        }
+    }
+}
+
+fn body_called(called: Called) -> Option<usize>
+    ensures exact { result ≡ spec.body_called called }
+{
+    match called {
+        Called::Script(_) | Called::Host(_) => None,
+        Called::Makes(_, body) => body,
+    }
+}
+
+/// The call of the constructor that was chosen, refused at the word `super` where none was.
+fn super_chosen(
+    alloc: Global,
+    context: &BodyContext<'_>,
+    word: &Token,
+    operands: Vec<Operand>,
+    resolution: Resolution,
+) -> Result<BaseCall, Stop>
+    ensures exact { Gives view_base result
+        (spec.super_chosen context.now word.now (view_operands operands.items) resolution) }
+{
+    match resolution {
+        Resolution::Call(callable) => {
+            let params = callable.candidate.params.as_slice();
+            let arguments = arguments_for(alloc, context.lineage(), params, operands)?;
+            Ok(BaseCall {
+                body: body_called(callable.called),
+                arguments,
+            })
+        }
+        Resolution::Refused(kind) => Err(refused(kind, word)),
+        Resolution::Variable(..)
+        | Resolution::Property(_)
+        | Resolution::Type(_)
+        | Resolution::Enumeration(_)
+        | Resolution::Value(_) => { Err(refused(ErrorKind::UnknownName, word)) }
+    }
+}
+
+/// All that makes an object of the class of this number; nothing where there is none.
+///
+/// The only error is want of memory.
+#[tactic(auto, using(crate::proofs::Makers::makers_beyond))]
+fn makers_in(alloc: Global, scope: &Scope<'_>, class: usize) -> Result<Callables, AllocError>
+    ensures exact { IfOk result (λ c. c ≡ all_makers scope.now (spaces.family_type class)) }
+{
+    if class < scope.names().families().len() {
+        makers_of(alloc, scope, family_type(class))
+    } else {
+        Ok(Callables::new(alloc))
+    }
+}
+
+/// `super(..)` of the class of this number.
+fn super_of(
+    alloc: Global,
+    context: &BodyContext<'_>,
+    word: &Token,
+    operands: Vec<Operand>,
+    base: usize,
+) -> Result<BaseCall, Stop>
+    ensures exact { Gives view_base result
+        (spec.super_by context.now word.now (view_operands operands.items) (Some base)) }
+{
+    let scope = Scope::new(context.view(), context.names(), context.lineage());
+    let makers = makers_in(alloc, &scope, base)?;
+    let types = types_of(alloc, operands.as_slice())?;
+    let chosen = best_of_those(
+        context.lineage(),
+        ErrorKind::NoMatch,
+        makers,
+        types.as_slice(),
+    );
+    super_chosen(alloc, context, word, operands, chosen)
+}
+
+fn super_by(
+    alloc: Global,
+    context: &BodyContext<'_>,
+    word: &Token,
+    operands: Vec<Operand>,
+    base: Option<usize>,
+) -> Result<BaseCall, Stop>
+    ensures exact { Gives view_base result
+        (spec.super_by context.now word.now (view_operands operands.items) base) }
+{
+    match base {
+        None => Err(refused(ErrorKind::UnknownName, word)),
+        Some(base) => super_of(alloc, context, word, operands, base),
+    }
+}
+
+/// `super(..)`.
+///
+/// `UnknownName` at the word where there is no base class, and `NoMatch` or `Ambiguous` where none
+/// of its constructors is the best, besides the refusals of the arguments.
+#[tactic(auto, unfolding(crate::specs::Typing::super_typing))]
+fn super_typing(
+    alloc: Global,
+    context: &BodyContext<'_>,
+    locals: &Locals<'_>,
+    base: Option<usize>,
+    call: &SuperCall,
+) -> Result<BaseCall, Stop>
+    ensures exact { Gives view_base result
+        (spec.super_typing context.now locals.now base (trees.view_super call.now)) }
+{
+    let operands = typing_of_all(alloc, context, locals, call.arguments.items.as_slice())?;
+    super_by(alloc, context, &call.word, operands, base)
+}
+
+fn base_typing(
+    alloc: Global,
+    context: &BodyContext<'_>,
+    locals: &Locals<'_>,
+    name: &Token,
+    base_name: &Token,
+    base: Option<usize>,
+    call: &Option<SuperCall>,
+) -> Result<BaseCall, Stop>
+    ensures exact { Gives view_base result (spec.base_typing context.now locals.now name.now
+        base_name.now base (option_map trees.view_super call.now)) }
+{
+    match call {
+        None => implicit_super(alloc, context.names(), name.place, base_name, base),
+        Some(call) => super_typing(alloc, context, locals, base, call),
+    }
+}
+
+/// Arguments after `this`.
+///
+/// The only error is want of memory.
+fn behind_this(
+    alloc: Global,
+    ty: ArgType,
+    arguments: List<Argument>,
+) -> Result<Vec<Argument>, AllocError>
+    ensures exact { IfOk result (λ v. list_map view_arg v.items
+        ≡ tree.by_value ty (object_of ty) ∷ list_map view_arg arguments) }
+{
+    let own = own_object(alloc, ty)?;
+    let mut all = Vec::new(alloc);
+    all.push(Argument::Value {
+        ty,
+        value: Box::into_inner(own),
+    })?;
+    let mut others = arguments.into_vec();
+    all.append(&mut others)?;
+    Ok(all)
+}
+
+/// The call of a base class's constructor as a statement.
+///
+/// The only error is want of memory.
+fn base_statement(
+    alloc: Global,
+    ty: ArgType,
+    body: usize,
+    arguments: List<Argument>,
+) -> Result<Statement, AllocError>
+    ensures exact { IfOk result (λ s. view_stmt s ≡ tree.expression (Some (tree.call
+        (callee.Own body) ty
+        (tree.args (tree.by_value ty (object_of ty) ∷ list_map view_arg arguments))))) }
+{
+    let arguments = behind_this(alloc, ty, arguments)?;
+    let call = boxed(
+        alloc,
+        Expression::Call {
+            callee: Callee::Own(body),
+            result: ty,
+            arguments,
+        },
+    )?;
+    Ok(Statement::Expression(Some(call)))
+}
+
+/// Statements after another one.
+///
+/// The only error is want of memory.
+fn behind(
+    alloc: Global,
+    first: Statement,
+    statements: Vec<Statement>,
+) -> Result<Vec<Statement>, AllocError>
+    ensures exact { IfOk result (λ v. list_map view_stmt v.items
+        ≡ view_stmt first ∷ list_map view_stmt statements.items) }
+{
+    let mut all = Vec::new(alloc);
+    all.push(first)?;
+    let mut others = statements;
+    all.append(&mut others)?;
+    Ok(all)
+}
+
+/// Statements after the call of the base class's constructor, where one is written.
+///
+/// The only error is want of memory.
+fn with_base(
+    alloc: Global,
+    within: Within,
+    base: BaseCall,
+    statements: Vec<Statement>,
+) -> Result<Vec<Statement>, AllocError>
+    requires few { within.family < 256 }
+    ensures exact { IfOk result (λ v. view_stmts v.items ≡ spec.base_call within
+        (view_base base).0 (view_base base).1 (view_stmts statements.items)) }
+{
+    let BaseCall { body, arguments } = base;
+    match body {
+        None => Ok(statements),
+        Some(body) => {
+            let first = base_statement(alloc, own_type(within), body, arguments)?;
+            behind(alloc, first, statements)
+        }
+    }
+}
+
+/// The statement that gives the object back.
+///
+/// The only error is want of memory.
+fn own_returned(alloc: Global, ty: ArgType) -> Result<Statement, AllocError>
+    ensures exact { IfOk result (λ s. view_stmt s ≡ tree.return (Some (object_of ty))) }
+{
+    let own = own_object(alloc, ty)?;
+    Ok(Statement::Return(Some(own)))
+}
+
+/// Statements, and then the object is given back.
+///
+/// The only error is want of memory.
+#[tactic(auto, using(crate::proofs::Makers::last_behind))]
+fn with_return(
+    alloc: Global,
+    ty: ArgType,
+    statements: Vec<Statement>,
+) -> Result<Vec<Statement>, AllocError>
+    ensures exact { IfOk result (λ v. view_stmts v.items ≡ spec.with_last
+        (view_stmts statements.items) (tree.return (Some (object_of ty)))) }
+{
+    let last = own_returned(alloc, ty)?;
+    let mut all = statements;
+    all.push(last)?;
+    Ok(all)
+}
+
+/// A constructor of these parts.
+///
+/// The only error is want of memory.
+fn constructed(
+    alloc: Global,
+    within: Within,
+    function: &ScriptFunction,
+    base: BaseCall,
+    body: Block,
+) -> Result<Function, AllocError>
+    requires few { within.family < 256 }
+    ensures exact { IfOk result (λ f. view_function f
+        ≡ spec.constructed within function.now (view_base base) (view_block body)) }
+{
+    let Block { statements } = body;
+    let statements = with_return(alloc, own_type(within), statements)?;
+    let statements = with_base(alloc, within, base, statements)?;
+    let parameters = member_parameters(alloc, within, function)?;
+    Ok(Function {
+        parameters: List::from_vec(parameters),
+        result: own_type(within),
+        body: Block { statements },
+    })
+}
+
+/// The body of a constructor: `super`, then its statements, then it gives its object back.
+#[tactic(auto, unfolding(crate::specs::Typing::constructor_typing))]
+pub fn constructor_typing<'a>(
+    alloc: Global,
+    context: BodyContext<'a>,
+    within: Within,
+    function: &'a ScriptFunction,
+    base_name: &Token,
+    base: Option<usize>,
+    written: &written::Constructor,
+) -> Result<Function, Stop>
+    requires few { within.family < 256 }
+    ensures exact { Gives view_function result (spec.constructor_typing context.entry within
+        function.now written.now.name base_name.now base
+        (option_map trees.view_super written.now.super_call)
+        (trees.view_stmts written.now.statements.items)) }
+{
+    let mut locals = member_locals(alloc, within, function)?;
+    let first = base_typing(
+        alloc,
+        &context,
+        &locals,
+        &written.name,
+        base_name,
+        base,
+        &written.super_call,
+    )?;
+    let frame = Frame::new(context, Returns::Own(own_type(within)), locals.len());
+    let body = block(
+        alloc,
+        &frame,
+        false,
+        &mut locals,
+        written.statements.as_slice(),
+    )?;
+    Ok(constructed(alloc, within, function, first, body)?)
+}

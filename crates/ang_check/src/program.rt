@@ -1,0 +1,218 @@
+//! The classes, methods and imports of the resolved tree.
+ghost use Rattle.std.specs.Prelude.{◌≡◌, ◌<◌, ◌≤◌, ◌++◌, if◌then◌else◌, [], Some, length, slice_get, option_to_list, IfOk, OnOk, map as list_map};
+ghost use Rattle.std.specs.List.{filter_map};
+ghost use Rattle.ang_names_known.specs.Lookup.{families_at, fields_in};
+ghost use Rattle.ang_check.specs.Bodies as spec;
+ghost use Rattle.ang_check.specs.Judging.{field_type};
+
+use crate::{member_parameters, parameters_of};
+use ang_check_context::Within;
+use ang_kinds::List;
+use ang_names_known::{Family, Field, Method, ScriptFunction};
+use ang_typed::{Class, Heading};
+use ang_types::ArgType;
+use std::alloc::{AllocError, Global};
+
+/// The heading of an import.
+///
+/// The only error is want of memory.
+fn import_heading(alloc: Global, import: &ScriptFunction) -> Result<Heading, AllocError>
+    ensures exact { IfOk result (λ h. h ≡ spec.import_heading import.now) }
+{
+    let parameters = parameters_of(alloc, import)?;
+    Ok(Heading {
+        parameters: List::from_vec(parameters),
+        result: import.result.ty,
+    })
+}
+
+/// The headings of all imports.
+///
+/// The only error is want of memory.
+pub fn import_headings(
+    alloc: Global,
+    imports: &[ScriptFunction],
+) -> Result<Vec<Heading>, AllocError>
+    ensures exact { IfOk result (λ v. v.items ≡ list_map spec.import_heading imports.now) }
+{
+    let mut headings = Vec::new(alloc);
+    for import in imports {
+        let heading = import_heading(alloc, import)?;
+        headings.push(heading)?;
+    }
+    Ok(headings)
+}
+
+/// The types of fields, at the end of some.
+fn push_types(types: &mut Vec<ArgType>, fields: &[Field]) -> Result<(), AllocError>
+    ensures pushed { OnOk result
+        (types.new.items ≡ types.old.items ++ list_map field_type fields.now) }
+{
+    for field in fields {
+        types.push(field.written.ty)?;
+    }
+    Ok(())
+}
+
+/// The fields that a family declares itself.
+fn fields_of(families: &[Family], number: usize) -> &[Field]
+    ensures exact { result.now ≡ fields_in (slice_get families.now number) }
+{
+    match families.get(number) {
+        None => &[],
+        Some(family) => family.fields.as_slice(),
+    }
+}
+
+/// The types of the fields of these families, the last family's first.
+///
+/// The only error is want of memory.
+#[tactic(auto, using(crate::proofs::Classes::types_turn))]
+fn types_behind(
+    alloc: Global,
+    families: &[Family],
+    order: &[usize],
+) -> Result<Vec<ArgType>, AllocError>
+    ensures exact { IfOk result
+        (λ v. v.items ≡ spec.types_behind (families_at families.now order.now)) }
+{
+    let mut types = Vec::new(alloc);
+    for back in 0..order.len() {
+        let number = order[order.len() - 1 - back];
+        push_types(&mut types, fields_of(families, number))?;
+    }
+    Ok(types)
+}
+
+/// The types of all fields of an object, those of the base class first. An interface has none.
+///
+/// The only error is want of memory.
+fn field_types(
+    alloc: Global,
+    families: &[Family],
+    family: &Family,
+) -> Result<Vec<ArgType>, AllocError>
+    ensures exact { IfOk result (λ v. v.items ≡ (if family.now.is_class
+        then spec.types_behind (families_at families.now family.now.order) else [])) }
+{
+    if family.is_class {
+        types_behind(alloc, families, family.order.as_slice())
+    } else {
+        Ok(Vec::new(alloc))
+    }
+}
+
+/// The slot and the body of a method, where it has one, at the end of some.
+fn push_slot(slots: &mut Vec<(usize, usize)>, method: &Method) -> Result<(), AllocError>
+    ensures pushed { OnOk result
+        (slots.new.items ≡ slots.old.items ++ option_to_list (spec.slot_and_body method.now)) }
+{
+    if let Some(body) = method.body {
+        slots.push((method.slot, body))?;
+    }
+    Ok(())
+}
+
+/// The slots of methods that have bodies, with these.
+///
+/// The only error is want of memory.
+#[tactic(auto, using(crate::proofs::Lists::cons_joins))]
+fn slots_of(alloc: Global, methods: &[Method]) -> Result<Vec<(usize, usize)>, AllocError>
+    ensures exact { IfOk result (λ v. v.items ≡ filter_map spec.slot_and_body methods.now) }
+{
+    let mut slots = Vec::new(alloc);
+    for method in methods {
+        push_slot(&mut slots, method)?;
+    }
+    Ok(slots)
+}
+
+/// What is known of the class or interface of this number.
+///
+/// The only error is want of memory.
+#[tactic(auto, using(crate::proofs::Classes::kin_is))]
+fn typed_class(
+    alloc: Global,
+    families: &[Family],
+    number: usize,
+    family: &Family,
+) -> Result<Class, AllocError>
+    requires number { slice_get families.now number ≡ Some family.now }
+    ensures exact { IfOk result (λ k. k ≡ spec.typed_class families.now number family.now) }
+{
+    let fields = field_types(alloc, families, family)?;
+    let above = Vec::from_slice(alloc, family.above.as_slice())?;
+    let chosen = slots_of(alloc, family.methods.as_slice())?;
+    Ok(Class {
+        fields: List::from_vec(fields),
+        base: family.base,
+        above: List::from_vec(above),
+        chosen: List::from_vec(chosen),
+        rank: family.rank,
+    })
+}
+
+/// The classes and interfaces, with what is known of them where their objects are made and their methods are chosen.
+///
+/// The only error is want of memory.
+pub fn typed_classes(alloc: Global, families: &[Family]) -> Result<Vec<Class>, AllocError>
+    ensures exact { IfOk result (λ v. v.items ≡ spec.typed_classes families.now) }
+{
+    let mut classes = Vec::new(alloc);
+    for number in 0..families.len() {
+        let class = typed_class(alloc, families, number, &families[number])?;
+        classes.push(class)?;
+    }
+    Ok(classes)
+}
+
+/// The heading of a method of the family of this number, with `this` in front.
+///
+/// The only error is want of memory.
+fn method_heading(alloc: Global, number: usize, method: &Method) -> Result<Heading, AllocError>
+    requires few { number < 256 }
+    ensures exact { IfOk result (λ h. h ≡ spec.method_heading number method.now) }
+{
+    let within = Within {
+        family: number,
+        read_only: method.read_only,
+    };
+    let parameters = member_parameters(alloc, within, &method.function)?;
+    Ok(Heading {
+        parameters: List::from_vec(parameters),
+        result: method.function.result.ty,
+    })
+}
+
+/// The headings of a family's methods, at the end of some.
+fn push_headings(
+    alloc: Global,
+    headings: &mut Vec<Heading>,
+    number: usize,
+    methods: &[Method],
+) -> Result<(), AllocError>
+    requires few { number < 256 }
+    ensures pushed { OnOk result (headings.new.items
+        ≡ headings.old.items ++ list_map (spec.method_heading number) methods.now) }
+{
+    for method in methods {
+        let heading = method_heading(alloc, number, method)?;
+        headings.push(heading)?;
+    }
+    Ok(())
+}
+
+/// The headings of all methods, in the order of families and members.
+///
+/// The only error is want of memory.
+pub fn method_headings(alloc: Global, families: &[Family]) -> Result<Vec<Heading>, AllocError>
+    requires few { length families.now ≤ 256 }
+    ensures exact { IfOk result (λ v. v.items ≡ spec.method_headings families.now) }
+{
+    let mut headings = Vec::new(alloc);
+    for number in 0..families.len() {
+        let methods = families[number].methods.as_slice();
+        push_headings(alloc, &mut headings, number, methods)?;
+    }
+    Ok(headings)
+}

@@ -1,4 +1,0 @@
-pub mod Lists
-pub mod JudgedParts
-pub mod ClassMembers
-pub mod Classes

@@ -1,3 +1,0 @@
-pub mod Typing
-pub mod Halts
-pub mod View

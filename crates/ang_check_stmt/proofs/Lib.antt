@@ -1,0 +1,3 @@
+pub mod NoWay
+pub mod SoFar
+pub mod Stopping

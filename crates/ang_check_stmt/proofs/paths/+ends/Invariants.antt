@@ -1,0 +1,8 @@
+use Rattle.std.proofs.Common.{◌≡◌, drop}
+use Rattle.ang_tree.specs.View.{view_stmts}
+use Rattle.ang_check_stmt.specs.Paths as spec
+use Rattle.ang_check_stmt.proofs.paths.+ends.Given as goal
+
+abbrev pub invariant-some_ends-loop-statement : goal.invariant-some_ends-loop-statement
+invariant-some_ends-loop-statement l =
+    spec.some_ends (view_stmts l.statements) ≡ spec.some_ends (view_stmts (drop l.statement-index l.statements))

@@ -1,0 +1,5 @@
+pub mod Paths
+pub mod Ways
+pub mod Typing
+pub mod Halts
+pub mod View

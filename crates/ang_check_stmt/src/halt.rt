@@ -1,0 +1,57 @@
+//! Why the typing of statements stops, in few bytes: each function between a statement and the
+//! statements in it holds such a result, so a nesting takes less of the process's stack.
+ghost use Rattle.std.specs.Prelude.{◌≡◌};
+ghost use Rattle.ang_check_stmt.specs.Halts as spec;
+ghost use Rattle.ang_check_stmt.specs.declared.halt.Halt.TheVariants.{Memory};
+
+use ang_check_operators::{Refusal, Stop};
+use std::alloc::{AllocError, AllocFailed, Global};
+
+/// As `Stop`, with the refusal in a box.
+#[derive(Drop)]
+pub enum Halt {
+    /// The first refusal.
+    Refused(Box<Refusal>),
+    /// A growth of memory was refused.
+    Memory,
+}
+
+impl From<AllocError> for Halt {
+    ghost from_gives = { λ _ e. e ≡ Memory };
+
+    fn from(_e: AllocError) -> Self {
+        Halt::Memory
+    }
+}
+
+impl<T: Drop> From<AllocFailed<T>> for Halt {
+    ghost from_gives = { λ _ e. e ≡ Memory };
+
+    fn from(_e: AllocFailed<T>) -> Self {
+        Halt::Memory
+    }
+}
+
+/// The same with the refusal in a box; `Memory` where there is none for the box.
+#[inline(never)]
+pub fn halt_of(alloc: Global, stop: Stop) -> Halt
+    ensures boxed { spec.IsBoxed result stop }
+{
+    match stop {
+        Stop::Memory => Halt::Memory,
+        Stop::Refused(refusal) => match Box::new(alloc, refusal) {
+            Ok(refusal) => Halt::Refused(refusal),
+            Err(_) => Halt::Memory,
+        },
+    }
+}
+
+/// The same with the refusal out of its box.
+pub fn stop_of(halt: Halt) -> Stop
+    ensures exact { result ≡ spec.stop_of halt }
+{
+    match halt {
+        Halt::Memory => Stop::Memory,
+        Halt::Refused(refusal) => Stop::Refused(Box::into_inner(refusal)),
+    }
+}

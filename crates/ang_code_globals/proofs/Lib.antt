@@ -1,3 +1,0 @@
-pub mod Worlds
-pub mod Operations
-pub mod Keeping

@@ -1,0 +1,34 @@
+use Rattle.std.proofs.Common.{rules, ◌<◌, ◌∙◌, refl, sym, inr, length, Some, None}
+use Rattle.ang_engine_modules.specs.World.{left_to}
+use Rattle.ang_engine_modules.specs.States.{states_in}
+use Rattle.ang_engine_modules.proofs.PlaceLists.{any_default}
+use Rattle.ang_engine_modules.proofs.Finding.{found_same, on_module-none, section_pushed}
+use Rattle.ang_engine_modules.proofs.Keeping.{nothing_kept, one_kept}
+use Rattle.ang_engine_modules.proofs.module_places.add_section.Goals as goal
+
+pub returns-in_default-clause-done : goal.returns-in_default-clause-done
+returns-in_default-clause-done c = λ r.
+    let x = c.args.list.now in (
+      inr (λ rest.
+          on_module-none c.args.name (left_to (states_in x) r) rest _
+          (found_same None _ _ x.code _ _ (c.in_default.ensures.exact x.code) c.deref.ensures.value c.as_slice.ensures.same)),
+      refl,
+    )
+
+pub returns-in_default-clause-kept : goal.returns-in_default-clause-kept
+returns-in_default-clause-kept c = nothing_kept c.args.list.now _ refl refl refl
+
+pub returns-clause-done : goal.returns-clause-done
+returns-clause-done c = λ r.
+    let x = c.args.list.now in
+    let lt : c.in-Some.i < length x.places.items = search rules in
+    section_pushed x.places.items x.code x.order.items r c.push_text.result c.args.name c.args.text c.in-Some.i c.index_mut.result.now c.push_text.new.place
+    (found_same (Some c.in-Some.i) _ _ x.code _ _ (c.in-Some.ensures.exact x.code) c.deref.ensures.value c.as_slice.ensures.same) lt
+    (c.index_mut.ensures.value ∙ any_default x.places.items c.in-Some.i c.index_mut.result.now None lt) c.push_text.ensures.kept c.push_text.ensures.added
+
+pub returns-clause-kept : goal.returns-clause-kept
+returns-clause-kept c =
+    let x = c.args.list.now in
+    let lt : c.in-Some.i < length x.places.items = search rules in
+    one_kept x _ c.in-Some.i c.index_mut.result.now c.push_text.new.place (sym (c.index_mut.ensures.value ∙ any_default x.places.items c.in-Some.i c.index_mut.result.now None lt)) c.push_text.ensures.kept refl refl
+    refl

@@ -1,6 +1,0 @@
-pub mod World
-pub mod States
-pub mod Commands
-pub mod Outcomes
-pub mod Sound
-pub mod Taken

@@ -1,4 +1,0 @@
-pub mod Tree
-pub mod Plain
-pub mod Lowered
-pub mod Kinds

@@ -1,0 +1,9 @@
+pub mod Counts
+pub mod Named
+pub mod Holding
+pub mod Alike
+pub mod Marked
+pub mod Places
+pub mod MemberCounts
+pub mod Numbered
+pub mod Spaced

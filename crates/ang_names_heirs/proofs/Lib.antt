@@ -1,2 +1,0 @@
-pub mod InRows
-pub mod Inherited

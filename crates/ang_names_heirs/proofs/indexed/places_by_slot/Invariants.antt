@@ -1,9 +1,0 @@
-use Rattle.std.proofs.Common.{◌≡◌, ℕ, [], ◌++◌, ◌==◌}
-use Rattle.ang_index.specs.Rows.{items_at}
-use Rattle.ang_names_known.specs.declared.names.Method.{Method}
-use Rattle.ang_names_heirs.specs.Rows.{slot_row}
-use Rattle.ang_names_heirs.proofs.InRows.{places_on}
-use Rattle.ang_names_heirs.proofs.indexed.places_by_slot.Given as goal
-
-abbrev pub invariant-loop-place : goal.invariant-loop-place
-invariant-loop-place l = (slot : ℕ) → slot_row slot l.methods ≡ items_at slot [] l.slots ++ places_on (λ (m : Method). m.slot == slot) l.methods l.place

@@ -1,8 +1,0 @@
-use Rattle.std.proofs.Common.{◌≡◌, ◌++◌, drop, length}
-use Rattle.ang_names_heirs.specs.ByNumber.{refused_from, ring_refusal}
-use Rattle.ang_names_heirs.proofs.rings.ring_refusals.Given as goal
-
-abbrev pub invariant-loop-number : goal.invariant-loop-number
-invariant-loop-number l =
-    refused_from (ring_refusal l.kind l.closed (length l.families)) 0 l.families
-    ≡ l.found.items ++ refused_from (ring_refusal l.kind l.closed (length l.families)) l.number (drop l.number l.families)

@@ -1,3 +1,0 @@
-pub mod Heirs
-pub mod ByNumber
-pub mod Rows

@@ -1,5 +1,0 @@
-use Rattle.ang_names_heritage.proofs.Closure.{least}
-use Rattle.ang_names_heritage.proofs.laws.closure_is_least.Goals as goal
-
-pub returns : goal.returns
-returns c = record { least = least }

@@ -1,9 +1,0 @@
-use Rattle.std.specs.Prelude.{ℕ, Bool, ◌≡◌, length}
-use Rattle.ang_names_heritage.specs.Tables.{Shows}
-use Rattle.ang_names_heritage.proofs.Rings.{IsRound}
-use Rattle.ang_names_heritage.proofs.orders.order_of.Given as goal
-
-abbrev pub invariant-loop-distance : goal.invariant-loop-distance
-invariant-loop-distance l =
-    (length l.near.items ≡ l.n)
-    × ((e : ℕ → ℕ → Bool) → Shows l.edges l.n e → IsRound e l.n l.i l._distance l.near.items l.ring.items l.places.items)

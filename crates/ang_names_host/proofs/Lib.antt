@@ -1,4 +1,0 @@
-pub mod Adding
-pub mod AddingProperties
-pub mod SoFar
-pub mod Among

@@ -1,3 +1,0 @@
-pub mod Added
-pub mod Host
-pub mod Among

@@ -1,5 +1,0 @@
-use Rattle.std.proofs.Common.{◌≡◌, ◌+◌, length}
-use Rattle.ang_names_resolved.proofs.counting.add_bytes.Given as goal
-
-abbrev pub invariant-loop : goal.invariant-loop
-invariant-loop l = length l.bytes.items ≡ length l.initial.bytes.items + l.counter

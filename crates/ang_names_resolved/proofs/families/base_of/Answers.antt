@@ -1,5 +1,0 @@
-use Rattle.ang_names_tables.specs.Hierarchy.{is_base}
-use Rattle.ang_names_resolved.proofs.families.base_of.Goals as goal
-
-pub returns : goal.returns
-returns c = record { exact = c.first_of.ensures.exact (is_base c.args.families.now) c.requires.bases }

@@ -1,9 +1,0 @@
-use Rattle.std.proofs.Common.{◌≡◌, [], length, take}
-use Rattle.ang_names_known.specs.Items.{each_after}
-use Rattle.ang_names_resolved.specs.Resolved.{constructors_after, with_bodies}
-use Rattle.ang_names_resolved.proofs.members.constructors_of.Given as goal
-
-abbrev pub invariant-loop-member : goal.invariant-loop-member
-invariant-loop-member l =
-    (l.found.items ≡ each_after (constructors_after l.space l.family (length l.before)) [] (take l.member-index l.members))
-    × (length l.bodies.items ≡ length (with_bodies l.family.shape.is_class (take l.member-index l.members)))

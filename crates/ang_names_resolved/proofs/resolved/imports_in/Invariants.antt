@@ -1,8 +1,0 @@
-use Rattle.std.proofs.Common.{◌≡◌, ◌++◌, drop}
-use Rattle.std.specs.List.{filter_map}
-use Rattle.ang_names_resolved.specs.Resolved.{imported_of}
-use Rattle.ang_names_resolved.proofs.resolved.imports_in.Given as goal
-
-abbrev pub invariant-loop-declared : goal.invariant-loop-declared
-invariant-loop-declared l =
-    filter_map (imported_of l.space) l.all ≡ l.imports.items ++ filter_map (imported_of l.space) (drop l.declared-index l.all)

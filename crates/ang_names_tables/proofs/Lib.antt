@@ -1,6 +1,0 @@
-pub mod Counts
-pub mod Named
-pub mod Holding
-pub mod Alike
-pub mod Marked
-pub mod Places

@@ -1,7 +1,0 @@
-use Rattle.std.specs.Prelude.{length}
-use Rattle.ang_names_heritage.specs.Tables.{IsBegun}
-use Rattle.ang_names_tables.specs.Hierarchy.{is_base}
-use Rattle.ang_names_tables.proofs.tables.bases_of.Given as goal
-
-abbrev pub invariant-loop-family : goal.invariant-loop-family
-invariant-loop-family l = IsBegun l.table.items (length l.placed) l.family-index (is_base l.placed)

@@ -1,7 +1,0 @@
-use Rattle.std.proofs.Common.{◌≡◌, ◌-◌}
-use Rattle.ang_parse_read.specs.Read.{repeat}
-use Rattle.ang_parse_class.specs.ReadClass as read
-use Rattle.ang_parse_class.proofs.headings.other_bases.Given as goal
-
-abbrev pub invariant-loop : goal.invariant-loop
-invariant-loop l = repeat read.other_base (l.limit - l.counter) l.found.items l.rest ≡ repeat read.other_base l.limit l.fn.first.items l.tokens

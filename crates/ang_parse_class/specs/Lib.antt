@@ -1,2 +1,0 @@
-pub mod ReadClass
-pub mod Parts

@@ -1,2 +1,0 @@
-pub mod ReadFunction
-pub mod Parts

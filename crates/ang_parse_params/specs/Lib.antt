@@ -1,2 +1,0 @@
-pub mod ReadParams
-pub mod Params

@@ -1,5 +1,0 @@
-use Rattle.ang_source_alike.proofs.laws.sources_alike.Goals as goal
-use Rattle.ang_source_alike.proofs.Sources.{sources_alike}
-
-pub returns : goal.returns
-returns c = record { alike = sources_alike }

@@ -1,0 +1,24 @@
+use Rattle.std.proofs.Common.{◌≡◌, sym, subst, IfOk, OnErr, None}
+use Rattle.std.specs.FinMap as map
+use Rattle.ang_heap.specs.Heaps.{objects_of}
+use Rattle.ang_heap.specs.Stores.{world_of}
+use Rattle.ang_meaning.specs.Perform.{new_object}
+use Rattle.ang_vm_ask.proofs.Movings.{moves_heap}
+use Rattle.ang_vm_ask.proofs.FieldOperations.{made, not_made, if_ok, on_err}
+use Rattle.ang_vm_ask.proofs.fields.make.Goals as goal
+
+pub returns-in-Ok-clause-told : goal.returns-in-Ok-clause-told
+returns-in-Ok-clause-told g c = λ z home number e.
+    made z home number c.args.class.now e (world_of (λ v. (g.dyn-1.0.entry v).1) c.args.store.now) c.in-Ok.number (objects_of c.make.new.self)
+    (if_ok c.make.result c.in-Ok.number (λ n. map.get (objects_of c.args.store.now.heap) n ≡ None) c.in-Ok.is c.make.ensures.free)
+    (if_ok c.make.result c.in-Ok.number (λ n. objects_of c.make.new.self ≡ map.insert (objects_of c.args.store.now.heap) n (new_object c.args.class.now)) c.in-Ok.is c.make.ensures.made)
+
+pub returns-in-Err-clause-told : goal.returns-in-Err-clause-told
+returns-in-Err-clause-told g c = λ z home number e.
+    not_made z home number c.args.class.now e (world_of (λ v. (g.dyn-1.0.entry v).1) c.args.store.now) (objects_of c.make.new.self) (on_err c.make.result _ _ c.in-Err.is c.make.ensures.unchanged)
+
+pub returns-in-Ok-clause-moves : goal.returns-in-Ok-clause-moves
+returns-in-Ok-clause-moves g c = λ roles. moves_heap _ roles c.args.store.now c.make.new.self c.make.ensures.counted c.make.ensures.within
+
+pub returns-in-Err-clause-moves : goal.returns-in-Err-clause-moves
+returns-in-Err-clause-moves g c = λ roles. moves_heap _ roles c.args.store.now c.make.new.self c.make.ensures.counted c.make.ensures.within

@@ -1,3 +1,0 @@
-pub mod Operands
-pub mod Crossings
-pub mod Running
