@@ -7,7 +7,7 @@ use Rattle.ang_meaning.specs.declared.slot.Slot.{Slot}
 use Rattle.ang_meaning.specs.declared.routine.Routine.{Routine}
 use Rattle.ang_meaning.specs.declared.routine.Passing.{Passing}
 use Rattle.ang_meaning.specs.World.{World, Tried, Yes, No, or_else, give_all, memory_step}
-use Rattle.ang_meaning.specs.Setting.{Setting, Found, Enters, Misses, target, has_objects, params_of, params_in}
+use Rattle.ang_meaning.specs.Environment.{Environment, Found, Enters, Misses, target, has_objects, params_of, params_in}
 use Rattle.ang_meaning.specs.Results.{Reply, Raises, Calls, ticked, finished, may_nest, entered, found_entered, enter}
 use Rattle.ang_meaning.specs.Counting.{IsCounted}
 use Rattle.ang_meaning.specs.Alike.{Renaming, renamed_all}
@@ -71,7 +71,7 @@ module _ (apart : Type 0) (most : ℕ) where
   tests_alike true true k r below vs body g t v w le p h go =
       tick_alike k r below vs t _ _ v w le p h (λ t' lt. framed_alike k r below vs (λ u. body g vs t' u) (λ u. body g (renamed_all r vs) t' u) v w p h (λ v' w' p' h'. go r t' v' w' lt p' h'))
 
-  entered_alike : (z : Setting) (k d : ℕ) (r : Renaming) (below vs : List Slot) (body : Calls) (g : Routine) (t : ℕ) (v w : World) → t ≤ most → IsCounted (vs ++ below) v → AlikeUpTo apart r v w → BodyGoes body g k below vs
+  entered_alike : (z : Environment) (k d : ℕ) (r : Renaming) (below vs : List Slot) (body : Calls) (g : Routine) (t : ℕ) (v w : World) → t ≤ most → IsCounted (vs ++ below) v → AlikeUpTo apart r v w → BodyGoes body g k below vs
       → ReplyAlike apart most k r below (entered z body d g vs t v) (entered z body d g (renamed_all r vs) t w)
   entered_alike z k d r below vs body g t v w le p h go =
       subst (λ b. ReplyAlike apart most k r below (entered z body d g vs t v)
@@ -79,14 +79,14 @@ module _ (apart : Type 0) (most : ℕ) where
       (sym (objects_renamed r (params_of z g) vs))
       (tests_alike (has_objects (params_of z g) vs) (may_nest z d) k r below vs body g t v w le p h go)
 
-  found_alike : (z : Setting) (k d : ℕ) (r : Renaming) (below vs : List Slot) (body : Calls) (o : Found) (t : ℕ) (v w : World) → t ≤ most → IsCounted (vs ++ below) v → AlikeUpTo apart r v w
+  found_alike : (z : Environment) (k d : ℕ) (r : Renaming) (below vs : List Slot) (body : Calls) (o : Found) (t : ℕ) (v w : World) → t ≤ most → IsCounted (vs ++ below) v → AlikeUpTo apart r v w
       → ((g : Routine) → o ≡ Enters g → BodyGoes body g k below vs) → ReplyAlike apart most k r below (found_entered z body d o vs t v) (found_entered z body d o (renamed_all r vs) t w)
   found_alike z k d r below vs body (Enters g) t v w le p h go = entered_alike z k d r below vs body g t v w le p h (go g refl)
   found_alike z k d r below vs body (Misses f) t v w le p h go = given_alike k r below vs f v w p h
 
 -- ---- bodies
 
-module _ (apart : Type 0) (z : Setting) (bodies : PlainBodies) (sound : (g : Routine) (ps : List Passing) → z.params g ≡ Some ps → IsSoundStmt z g.home false (length ps) (bodies g)) (links : LinksFit z) where
+module _ (apart : Type 0) (z : Environment) (bodies : PlainBodies) (sound : (g : Routine) (ps : List Passing) → z.params g ≡ Some ps → IsSoundStmt z g.home false (length ps) (bodies g)) (links : LinksFit z) where
   pub record Goes (n : ℕ) : Type 0 where
     pub bodies_go : (most : ℕ) → most < n → (d : ℕ) (g : Routine) (ps : List Passing) (r : Renaming) (below vs : List Slot) (t : ℕ) (v w : World) → z.params g ≡ Some ps → length ps ≡ length vs → t ≤ most
         → IsCounted (vs ++ below) v → AlikeUpTo apart r v w → ReplyAlike apart most (out_count ps) r below (body_at z bodies n d g vs t v) (body_at z bodies n d g (renamed_all r vs) t w)

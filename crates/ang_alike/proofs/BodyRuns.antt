@@ -8,7 +8,7 @@ use Rattle.ang_meaning.specs.declared.slot.Slot.TheVariants.{Bits, Script, Host}
 use Rattle.ang_meaning.specs.declared.routine.Passing.{Passing}
 use Rattle.ang_meaning.specs.declared.routine.Passing.TheVariants.{In, Out, Object}
 use Rattle.ang_meaning.specs.World.{World, give, give_all}
-use Rattle.ang_meaning.specs.Setting.{Setting}
+use Rattle.ang_meaning.specs.Environment.{Environment}
 use Rattle.ang_meaning.specs.Results.{Evaluated, Gave, Failed, Ran, Went, Returned, Halted, Broken, Continued, Yields, drop_some, give_some, at_zero, on_test, ticked, leave, with_value, then_run, caught, outs_of, give_others, yielded, finished}
 use Rattle.ang_meaning.specs.Counting.{IsCounted}
 use Rattle.ang_meaning.specs.Alike.{Renaming, renamed, renamed_all}
@@ -312,10 +312,10 @@ module _ (apart : Type 0) (most : ℕ) where
   -- ---- trees
 
   -- passes of sound loops, where fewer ticks are left
-  abbrev pub PassesGo : Setting → ℕ → Passes → Type 0
+  abbrev pub PassesGo : Environment → ℕ → Passes → Type 0
   PassesGo z m q = (e : c.Expr) (s step : stmt.Stmt) (n : ℕ) (below : List Slot) → IsSound z m n e → IsSoundStmt z m true n s → IsSoundStmt z m false n step → RunLater n n below (q e s step)
 
-  module _ (z : Setting) (m : ℕ) (calls : Callees) (go : CallsGo apart most z m calls) where
+  module _ (z : Environment) (m : ℕ) (calls : Callees) (go : CallsGo apart most z m calls) where
     value_goes : (e : c.Expr) (n : ℕ) (r : Renaming) (below ls : List Slot) (t : ℕ) (v w : World) → IsSound z m n e → (length ls ≡ n) × (t ≤ most) → IsCounted (ls ++ below) v → AlikeUpTo apart r v w
         → ValueAlike apart most n r below (eval z m calls e ls t v) (eval z m calls e (renamed_all r ls) t w)
     value_goes e n r below ls t v w s many p h = eval_alike apart most z m calls go e n r below ls t v w s many p h

@@ -9,7 +9,7 @@ use Rattle.ang_meaning.specs.declared.routine.Spot.{Spot}
 use Rattle.ang_meaning.specs.declared.routine.Spot.TheVariants.{Local, Global, Field}
 use Rattle.ang_meaning.specs.declared.routine.Target.{Target}
 use Rattle.ang_meaning.specs.World.{World}
-use Rattle.ang_meaning.specs.Setting.{Setting}
+use Rattle.ang_meaning.specs.Environment.{Environment}
 use Rattle.ang_meaning.specs.Perform.{member_or, member_put}
 use Rattle.ang_meaning.specs.Results.{Gave, Gathered, Ready, Broke, Reply, Yields, Raises, local_at, local_set, brought, Traded, trade, Settled, settled_next, settled, with_outs, replied, called, give_back}
 use Rattle.ang_meaning.specs.Counting.{IsCounted}
@@ -175,11 +175,11 @@ module _ (apart : Type 0) (most : ℕ) where
       (λ l. inr (inl (replied_leaves m xs o ls l))) (λ l. inr (inr (replied_leaves m xs p (renamed_all r ls) l))) h
 
   -- calls that a body makes, with `args` arguments and `outs` values of `&out` parameters, in whatever worlds that are alike
-  abbrev pub CallsGo : Setting → ℕ → Callees → Type 0
+  abbrev pub CallsGo : Environment → ℕ → Callees → Type 0
   CallsGo z m calls = (f : Callee) (args outs : ℕ) (r : Renaming) (below vs : List Slot) (t : ℕ) (v w : World) → Fits z m f args outs → length vs ≡ args → t ≤ most → IsCounted (vs ++ below) v → AlikeUpTo apart r v w
       → ReplyAlike apart most outs r below (calls f vs t v) (calls f (renamed_all r vs) t w)
 
-  module _ (z : Setting) (m : ℕ) (calls : Callees) (go : CallsGo z m calls) where
+  module _ (z : Environment) (m : ℕ) (calls : Callees) (go : CallsGo z m calls) where
     called_leaves : (f : Callee) (xs : List Target) (o : Gathered) → ValuesLeave apart o → ValueLeaves apart (called m (calls f) xs o)
     called_leaves f xs (Ready vs ls t v) h = absurd h
     called_leaves f xs (Broke g ls v) h = h

@@ -10,14 +10,14 @@ use Rattle.ang_view.specs.Registration.{RegistrationList, seen}
 use Rattle.ang_view.specs.Values.{TakesValues}
 use Rattle.ang_view.proofs.Seen.{length-seen}
 use Rattle.ang_registry.proofs.Values.{seen_takes}
-use Rattle.ang_typed.specs.declared.program.Parameter.{Parameter}
+use Rattle.ang_typed.specs.declared.program.TypedParameter.{TypedParameter}
 use Rattle.ang_typed.specs.Typed as t
 use Rattle.ang_names_known.specs.declared.names.ScriptFunction.{ScriptFunction}
 use Rattle.ang_names_known.specs.declared.names.ScriptParameter.{ScriptParameter}
 use Rattle.ang_names_known.specs.Lookup.{same_call}
 use Rattle.ang_check.specs.Typing.{typed_parameter, typed_parameters}
 use Rattle.ang_check_sound.specs.Checked.{module_in}
-use Rattle.ang_meaning.specs.declared.host.HostType.TheVariants.{Plain as PlainType}
+use Rattle.ang_meaning.specs.declared.host.HostValueType.TheVariants.{Plain as PlainType}
 use Rattle.ang_meaning.specs.declared.slot.Slot.{Slot}
 use Rattle.ang_meaning.specs.declared.slot.Slot.TheVariants.{Bits}
 use Rattle.ang_meaning.specs.declared.routine.Routine.{Routine}
@@ -211,9 +211,9 @@ chosen_fits ms good i p decl args n f slots here e =
     let numbers = turned_numbers slots are.numbers in
     let a = program_found ms.places i p good.places here in
     let has : HasNamesOf p.view a.sections (record { names = p.names; tree = p.tree }) = program-named p.view a.sections (record { names = p.names; tree = p.tree }) a.built in
-    let ps : List Parameter = typed_parameters f in
+    let ps : List TypedParameter = typed_parameters f in
     let named : slice_get (module_in p.view p.names).parameters n ≡ Some ps = get-front (map typed_parameters p.names.functions) _ n ps (get-map typed_parameters p.names.functions n f one.at) in
-    let found = map-get (λ (g : t.Function). g.parameters) p.tree.functions n ps (ap (λ xs. slice_get xs n) has.names.parameters ∙ named) in
+    let found = map-get (λ (g : t.TypedFunction). g.parameters) p.tree.functions n ps (ap (λ xs. slice_get xs n) has.names.parameters ∙ named) in
     record {
       takes = record {
         function = found.item;

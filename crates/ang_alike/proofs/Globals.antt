@@ -6,7 +6,7 @@ use Rattle.ang_typed.specs.Typed as t
 use Rattle.ang_meaning.specs.declared.slot.Slot.{Slot}
 use Rattle.ang_meaning.specs.World.{World as RunWorld}
 use Rattle.ang_meaning.specs.Results.{give_back}
-use Rattle.ang_meaning.specs.Setting.{default_of}
+use Rattle.ang_meaning.specs.Environment.{default_of}
 use Rattle.ang_meaning.specs.Counting.{Thing, how_many, in_lists, IsCounted}
 use Rattle.ang_meaning.specs.Alike.{Renaming, renamed_all, renamed_lists}
 use Rattle.ang_meaning.proofs.Counting.{many_append, give_globals}

@@ -4,7 +4,7 @@ use Rattle.std.specs.Prelude.{Result, Ok, Err, ◌&&◌, if◌then◌else◌, re
 use Rattle.std.proofs.lemmas.Slice.Eq.{bytes_eq-Decides}
 use Rattle.ang_kinds.specs.declared.error.Error.{Error}
 use Rattle.ang_view.specs.Registration.{RegistrationList}
-use Rattle.ang_typed.specs.declared.program.Parameter.{Parameter}
+use Rattle.ang_typed.specs.declared.program.TypedParameter.{TypedParameter}
 use Rattle.ang_names_known.specs.declared.names.ScriptFunction.{ScriptFunction}
 use Rattle.ang_names_known.specs.declared.names.ScriptParameter.{ScriptParameter}
 use Rattle.ang_names_known.specs.Lookup.{same_call}
@@ -46,7 +46,7 @@ program_imports V sections r is = imports_after V (sources_of 0 sections) r is
 abbrev way_of : Passed → Passing
 way_of q = passing_by q.pass q.written.ty
 
-ways : (ps : List ScriptParameter) → map (λ (p : Parameter). passing_of p) (map typed_parameter ps) ≡ map way_of (map passed_of ps)
+ways : (ps : List ScriptParameter) → map (λ (p : TypedParameter). passing_of p) (map typed_parameter ps) ≡ map way_of (map passed_of ps)
 ways [] = refl
 ways (p ∷ ps) = ap (λ l. passing_by p.pass p.written.ty ∷ l) (ways ps)
 

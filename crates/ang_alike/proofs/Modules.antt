@@ -426,10 +426,10 @@ module _ (ms : List Module) (i j index n : ℕ) (p q : Program) (importer : (mod
   function_so =
       let named : slice_get (module_in q.view q.names).parameters n ≡ Some (typed_parameters g.function) =
       get-front (map typed_parameters q.names.functions) _ n (typed_parameters g.function) (get-map typed_parameters q.names.functions n g.function g.at) in
-      let here = map-get (λ (f : t.Function). f.parameters) q.tree.functions n (typed_parameters g.function) (ap (λ l. slice_get l n) has.names.parameters ∙ named) in
+      let here = map-get (λ (f : t.TypedFunction). f.parameters) q.tree.functions n (typed_parameters g.function) (ap (λ l. slice_get l n) has.names.parameters ∙ named) in
       ap (λ (x : t.Program). slice_get (passings_in x) n) exporter
-      ∙ get-front (map (λ (f : t.Function). passings_of f.parameters) q.tree.functions) (map (λ c. []) (initializers_from 0 q.tree.globals)) n (passings_of here.item.parameters)
-      (get-map (λ (f : t.Function). passings_of f.parameters) q.tree.functions n here.item here.at)
+      ∙ get-front (map (λ (f : t.TypedFunction). passings_of f.parameters) q.tree.functions) (map (λ c. []) (initializers_from 0 q.tree.globals)) n (passings_of here.item.parameters)
+      (get-map (λ (f : t.TypedFunction). passings_of f.parameters) q.tree.functions n here.item here.at)
       ∙ ap (λ l. Some (passings_of l)) here.same
       ∙ ap (λ l. Some l) (sym (takes_alike import g.function g.same))
 

@@ -12,7 +12,7 @@ use Rattle.ang_meaning.specs.declared.routine.Callee.TheVariants.{Own, Import, V
 use Rattle.ang_meaning.specs.declared.routine.Passing.{Passing}
 use Rattle.ang_meaning.specs.declared.routine.Passing.TheVariants.{In, Out, Object}
 use Rattle.ang_meaning.specs.World.{World, ScriptRecord, give, give_all}
-use Rattle.ang_meaning.specs.Setting.{Setting, method_of, virtual_of, params_in, receiver_in, target, is_null, has_objects}
+use Rattle.ang_meaning.specs.Environment.{Environment, method_of, virtual_of, params_in, receiver_in, target, is_null, has_objects}
 use Rattle.ang_meaning.specs.Results.{local_at, local_set, drop_some, give_some, brought, outs_of, give_others}
 use Rattle.ang_meaning.specs.Counting.{Thing, names, IsCounted}
 use Rattle.ang_meaning.specs.Alike.{Renaming, renamed, renamed_all, renamed_record}
@@ -101,18 +101,18 @@ module _ (r : Renaming) where
   receiver_renamed ps s =
       ap (λ l. slice_index_or l (length ps - 1) (Bits 0)) (take-map (renamed r) (length ps) s) ∙ get_or-map (renamed r) (take (length ps) s) (length ps - 1) (Bits 0)
 
-  method_renamed : (z : Setting) (m k : ℕ) (o : Option ScriptRecord) → method_of z m k (renamed_record r o) ≡ method_of z m k o
+  method_renamed : (z : Environment) (m k : ℕ) (o : Option ScriptRecord) → method_of z m k (renamed_record r o) ≡ method_of z m k o
   method_renamed z m k None = refl
   method_renamed z m k (Some o) = refl
 
   module _ (apart : Type 0) (v w : World) (h : AlikeUpTo apart r v w) where
-    virtual_renamed : (z : Setting) (m k : ℕ) (x : Slot) → virtual_of z m k (renamed r x) w ≡ virtual_of z m k x v
+    virtual_renamed : (z : Environment) (m k : ℕ) (x : Slot) → virtual_of z m k (renamed r x) w ≡ virtual_of z m k x v
     virtual_renamed z m k (Bits n) = refl
     virtual_renamed z m k (Script None) = refl
     virtual_renamed z m k (Script (Some n)) = ap (method_of z m k) (h.objects.has n) ∙ method_renamed z m k (map.get v.objects n)
     virtual_renamed z m k (Host d j) = refl
 
-    pub target_renamed : (z : Setting) (m : ℕ) (c : Callee) (s : List Slot) → target z m c (renamed_all r s) w ≡ target z m c s v
+    pub target_renamed : (z : Environment) (m : ℕ) (c : Callee) (s : List Slot) → target z m c (renamed_all r s) w ≡ target z m c s v
     unfolding target
     target_renamed z m (Own g) s = refl
     target_renamed z m (Import i) s = refl

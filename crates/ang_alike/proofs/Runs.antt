@@ -7,7 +7,7 @@ use Rattle.ang_typed.specs.Typed as t
 use Rattle.ang_meaning.specs.declared.slot.Slot.{Slot}
 use Rattle.ang_meaning.specs.declared.routine.Passing.{Passing}
 use Rattle.ang_meaning.specs.World.{World, give_all}
-use Rattle.ang_meaning.specs.Setting.{Setting}
+use Rattle.ang_meaning.specs.Environment.{Environment}
 use Rattle.ang_meaning.specs.Results.{Reply, Yields, Raises}
 use Rattle.ang_meaning.specs.Counting.{IsCounted}
 use Rattle.ang_meaning.specs.Alike.{Renaming, renamed, renamed_all}
@@ -36,7 +36,7 @@ tree_at (x ∷ xs) zero = refl
 tree_at (x ∷ xs) (suc m) = tree_at xs m
 
 module _ (ms : List Module) (are : AreSoundModules ms) (nesting : ℕ) where
-  abbrev z : Setting
+  abbrev z : Environment
   z = setting_for ms nesting
 
   has_program : (m : ℕ) → HasProgram z m (module_at ms m).tree
@@ -59,23 +59,23 @@ module _ (ms : List Module) (are : AreSoundModules ms) (nesting : ℕ) where
 
 -- ---- how a module's bodies take their arguments
 
-function_at : (fs : List t.Function) (qs : List (List Passing)) (n : ℕ) (f : t.Function) → slice_get fs n ≡ Some f → slice_get (map (λ (h : t.Function). passings_of h.parameters) fs ++ qs) n ≡ Some (passings_of f.parameters)
+function_at : (fs : List t.TypedFunction) (qs : List (List Passing)) (n : ℕ) (f : t.TypedFunction) → slice_get fs n ≡ Some f → slice_get (map (λ (h : t.TypedFunction). passings_of h.parameters) fs ++ qs) n ≡ Some (passings_of f.parameters)
 function_at [] qs n f at = absurd (let x : ⊥ = cc in x)
-function_at (g ∷ fs) qs zero f at = let same : g ≡ f = cc in ap (λ (h : t.Function). Some (passings_of h.parameters)) same
+function_at (g ∷ fs) qs zero f at = let same : g ≡ f = cc in ap (λ (h : t.TypedFunction). Some (passings_of h.parameters)) same
 function_at (g ∷ fs) qs (suc n) f at = function_at fs qs n f at
 
-behind_at : (fs : List t.Function) (qs : List (List Passing)) (k : ℕ) → slice_get (map (λ (h : t.Function). passings_of h.parameters) fs ++ qs) (length fs + k) ≡ slice_get qs k
+behind_at : (fs : List t.TypedFunction) (qs : List (List Passing)) (k : ℕ) → slice_get (map (λ (h : t.TypedFunction). passings_of h.parameters) fs ++ qs) (length fs + k) ≡ slice_get qs k
 behind_at [] qs k = ap (slice_get qs) (let e : 0 + k ≡ k = omega arith in e)
 behind_at (f ∷ fs) qs k =
     let e : suc (length fs) + k ≡ suc (length fs + k) = omega arith in
-    ap (slice_get (map (λ (h : t.Function). passings_of h.parameters) (f ∷ fs) ++ qs)) e ∙ behind_at fs qs k
+    ap (slice_get (map (λ (h : t.TypedFunction). passings_of h.parameters) (f ∷ fs) ++ qs)) e ∙ behind_at fs qs k
 
 none_at : (cs : List Code) (k : ℕ) → k < length cs → ◌≡◌ {A = Option (List Passing)} (slice_get (map (λ c. []) cs) k) (Some [])
 none_at [] k lt = absurd (let x : ⊥ = omega (arith, lt) in x)
 none_at (c ∷ cs) zero lt = refl
 none_at (c ∷ cs) (suc k) lt = none_at cs k (omega (arith, lt))
 
-take_none : (z : Setting) (m n : ℕ) (cs : List Code) → ((k : ℕ) → k < length cs → z.params (routine m (n + k)) ≡ Some []) → TakeNothing z (routines_from m n cs)
+take_none : (z : Environment) (m n : ℕ) (cs : List Code) → ((k : ℕ) → k < length cs → z.params (routine m (n + k)) ≡ Some []) → TakeNothing z (routines_from m n cs)
 take_none z m n [] h = tt
 take_none z m n (c ∷ cs) h =
     let first : n + 0 ≡ n = omega arith in (

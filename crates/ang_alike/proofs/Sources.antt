@@ -3,14 +3,14 @@ use Rattle.std.proofs.Common.{◌≡◌, ◌<◌, ◌≤◌, ◌+◌, ℕ, zero,
 use Rattle.std.specs.Prelude.{false, if◌then◌else◌, slice_get}
 use Rattle.ang_kinds.specs.declared.fault.Fault.TheVariants.{Null, Budget, Depth, Memory}
 use Rattle.ang_view.specs.Registration.{RegistrationList}
-use Rattle.ang_typed.specs.declared.expression.Variable.TheVariants as variable
+use Rattle.ang_typed.specs.declared.expression.TypedVariable.TheVariants as variable
 use Rattle.ang_typed.specs.Typed as tree
 use Rattle.ang_meaning.specs.declared.slot.Slot.{Slot}
 use Rattle.ang_meaning.specs.declared.slot.Slot.TheVariants.{Bits}
 use Rattle.ang_meaning.specs.declared.routine.Routine.{Routine}
 use Rattle.ang_meaning.specs.declared.routine.Passing.{Passing}
 use Rattle.ang_meaning.specs.World.{World, or_else, give, give_all, memory_step}
-use Rattle.ang_meaning.specs.Setting.{Setting, Found, Enters, Misses, target, has_objects, params_of, params_in}
+use Rattle.ang_meaning.specs.Environment.{Environment, Found, Enters, Misses, target, has_objects, params_of, params_in}
 use Rattle.ang_meaning.specs.Results.{Went, Reply, Yields, Raises, Calls, ticked, with_value, finished, may_nest, entered, found_entered, enter}
 use Rattle.ang_meaning.specs.Counting.{IsCounted}
 use Rattle.ang_meaning.specs.Alike.{Renaming, renamed, renamed_all}
@@ -51,7 +51,7 @@ AllSound M [] (x ∷ xs) = ⊥
 AllSound M (ps ∷ pss) [] = ⊥
 AllSound M (ps ∷ pss) (x ∷ xs) = SoundCode M (length ps) x × AllSound M pss xs
 
-functions_sound : (M : Module) (fs : List tree.Function) (pss : List (List Passing)) (xs : List Code) → SoundFunctions M fs → AllSound M pss xs
+functions_sound : (M : Module) (fs : List tree.TypedFunction) (pss : List (List Passing)) (xs : List Code) → SoundFunctions M fs → AllSound M pss xs
     → AllSound M (map (λ f. passings_of f.parameters) fs ++ pss) (map (λ f. of_function f.body) fs ++ xs)
 functions_sound M [] pss xs h k = k
 functions_sound M (f ∷ fs) pss xs h k =
@@ -88,7 +88,7 @@ code_at M (q ∷ pss) (x ∷ xs) (suc k) ps h e = let r = code_at M pss xs k ps 
 -- ---- what is lowered means the same
 
 -- what stands before a body, where the bodies do the same
-entered_same : (z : Setting) (b b' : Calls) (d : ℕ) (g : Routine) (vs : List Slot) (t : ℕ) (w : World) → ((t' : ℕ) (w' : World) → b g vs t' w' ≡ b' g vs t' w') → entered z b d g vs t w ≡ entered z b' d g vs t w
+entered_same : (z : Environment) (b b' : Calls) (d : ℕ) (g : Routine) (vs : List Slot) (t : ℕ) (w : World) → ((t' : ℕ) (w' : World) → b g vs t' w' ≡ b' g vs t' w') → entered z b d g vs t w ≡ entered z b' d g vs t w
 entered_same z b b' d g vs t w h =
     λ j. if has_objects (params_of z g) vs
     then (if may_nest z d
@@ -96,13 +96,13 @@ entered_same z b b' d g vs t w h =
     else (Raises Depth (give_all vs w)))
     else (Raises Null (give_all vs w))
 
-found_same : (z : Setting) (b b' : Calls) (d : ℕ) (f : Found) (vs : List Slot) (t : ℕ) (w : World) → ((g : Routine) → f ≡ Enters g → (t' : ℕ) (w' : World) → b g vs t' w' ≡ b' g vs t' w')
+found_same : (z : Environment) (b b' : Calls) (d : ℕ) (f : Found) (vs : List Slot) (t : ℕ) (w : World) → ((g : Routine) → f ≡ Enters g → (t' : ℕ) (w' : World) → b g vs t' w' ≡ b' g vs t' w')
     → found_entered z b d f vs t w ≡ found_entered z b' d f vs t w
 found_same z b b' d (Enters g) vs t w h = entered_same z b b' d g vs t w (h g refl)
 found_same z b b' d (Misses x) vs t w h = refl
 
 -- a whole body
-code_same : (z : Setting) (m : ℕ) (M : Module) (k : core.Callees) (k' : Callees) (callees : CalleesAgree M k k') (p : plain.Passes) (p' : source.Passes) (passes : PassesAgree M p p')
+code_same : (z : Environment) (m : ℕ) (M : Module) (k : core.Callees) (k' : Callees) (callees : CalleesAgree M k k') (p : plain.Passes) (p' : source.Passes) (passes : PassesAgree M p p')
     (x : Code) (n : ℕ) (ls : List Slot) (t : ℕ) (w : World) → length ls ≡ n → SoundCode M n x → run z m k p (lowered_code n x) ls t w ≡ run_code z m k' p' x ls t w
 code_same z m M k k' callees p p' passes (of_function ss) n ls t w l h =
     (block_same z m M k k' callees p p' passes n (declared_by ss + n) (lowered_all n ss) (source.run_all z m k' p' ss) ls t w l (omega arith)
@@ -111,7 +111,7 @@ code_same z m M k k' callees p p' passes (of_global g e) n ls t w l h =
     ap (λ y. with_value y (λ v ls' t' w'. Went ls' t' (give v w')))
     (stored_same z m k k' n (variable.Global g) (low.lowered n e) (evaluate z m k' e ls t w) ls t w l (value_same z m M k k' callees e n ls t w l h.1)).same
 
-module _ (z : Setting) (V : ℕ → RegistrationList) (program : ℕ → tree.Program) (codes : Codes) (are : AreSoundSources z V program codes) where
+module _ (z : Environment) (V : ℕ → RegistrationList) (program : ℕ → tree.Program) (codes : Codes) (are : AreSoundSources z V program codes) where
   abbrev M : ℕ → Module
   M m = module_of (V m) (program m)
 
@@ -227,7 +227,7 @@ replies_by : (most k : ℕ) (r : Renaming) (o p : Reply) → ReplyAlike ⊥ most
 replies_by most k r o p h =
     three (λ m. record { by = m.by; world = m.other; same = m.same; alike = alike_by m.by (reply_world o) m.other m.alike }) (λ l. absurd (no_leaving o l)) (λ l. absurd (no_leaving p l)) h
 
-pub sources_alike : (z : Setting) (view : ℕ → RegistrationList) (program : ℕ → tree.Program) (codes : Codes) → AreSoundSources z view program codes → AreAlikeInRuns z codes
+pub sources_alike : (z : Environment) (view : ℕ → RegistrationList) (program : ℕ → tree.Program) (codes : Codes) → AreSoundSources z view program codes → AreAlikeInRuns z codes
 sources_alike z view program codes are = record {
   calls = λ budget g ps vs r v w known count p h. replies_by budget (out_count ps) r _ _ (call_alike z view program codes are ⊥ budget g ps vs r v w known count p (alike_of r v w h));
   initializers = λ gs budget r v w none p h. replies_by budget 0 r _ _ (all_alike z view program codes are ⊥ gs budget budget r v w (omega arith) none p (alike_of r v w h));

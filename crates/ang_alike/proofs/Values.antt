@@ -6,11 +6,11 @@ use Rattle.ang_kinds.specs.declared.fault.Fault.{Fault}
 use Rattle.ang_kinds.specs.declared.fault.Fault.TheVariants.{Null as NullFault, Tally}
 use Rattle.ang_meaning.specs.declared.slot.Slot.{Slot}
 use Rattle.ang_meaning.specs.declared.slot.Slot.TheVariants.{Bits, Script, Host}
-use Rattle.ang_meaning.specs.declared.operation.Change.{Change}
+use Rattle.ang_meaning.specs.declared.operation.Update.{Update}
 use Rattle.ang_meaning.specs.declared.operation.Operation.{Operation}
 use Rattle.ang_meaning.specs.Numbers.{Changed, Into, Never}
 use Rattle.ang_meaning.specs.World.{World, Tried, Yes, No, or_else, hold, give, give_all}
-use Rattle.ang_meaning.specs.Setting.{Setting, is_fit}
+use Rattle.ang_meaning.specs.Environment.{Environment, is_fit}
 use Rattle.ang_meaning.specs.Hosts.{Done, Fine, Fails}
 use Rattle.ang_meaning.specs.Perform.{perform, change_of}
 use Rattle.ang_meaning.specs.Results.{Evaluated, Gave, Failed, Gathered, Ready, Broke, local_at, local_set, at_zero, loaded, performed, applied, assigned, altered_by, altered, chosen, then_rest}
@@ -181,7 +181,7 @@ module _ (apart : Type 0) (most : ℕ) where
       (λ l. inr (inl (assigned_leaves i o l))) (λ l. inr (inr (assigned_leaves i p l))) h
 
   -- a change
-  change_same : (n : ℕ) (r : Renaming) (below : List Slot) (i : ℕ) (c : Change) (q : Changed) (x : Slot) (ls : List Slot) (t : ℕ) (v w : World) → i < n → (length ls ≡ n) × (t ≤ most) → change_of c (local_at ls i) x ≡ q
+  change_same : (n : ℕ) (r : Renaming) (below : List Slot) (i : ℕ) (c : Update) (q : Changed) (x : Slot) (ls : List Slot) (t : ℕ) (v w : World) → i < n → (length ls ≡ n) × (t ≤ most) → change_of c (local_at ls i) x ≡ q
       → IsCounted (x ∷ (ls ++ below)) v → AlikeUpTo apart r v w → ValueAlike apart most n r below (altered_by i q x ls t v) (altered_by i q (renamed r x) (renamed_all r ls) t w)
   change_same n r below i c (Into a b) x ls t v w lt many e p h =
       let plain = change_plain c (local_at ls i) x a b e in
@@ -198,11 +198,11 @@ module _ (apart : Type 0) (most : ℕ) where
       })
   change_same n r below i c (Never f) x ls t v w lt many e p h = failed_alike n r below f ls (give x v) (give (renamed r x) w) (give_counted x (ls ++ below) v p) (give_alike apart r x v w h)
 
-  altered_leaves : (i : ℕ) (c : Change) (o : Evaluated) → ValueLeaves apart o → ValueLeaves apart (altered i c o)
+  altered_leaves : (i : ℕ) (c : Update) (o : Evaluated) → ValueLeaves apart o → ValueLeaves apart (altered i c o)
   altered_leaves i c (Gave x ls t v) h = absurd h
   altered_leaves i c (Failed f ls v) h = h
 
-  altered_same : (n : ℕ) (r : Renaming) (below : List Slot) (i : ℕ) (c : Change) (o : Evaluated) (w : World) → i < n → ValueKeeps most n o → IsCounted (value_stack o ++ below) (value_world o) → AlikeUpTo apart r (value_world o) w
+  altered_same : (n : ℕ) (r : Renaming) (below : List Slot) (i : ℕ) (c : Update) (o : Evaluated) (w : World) → i < n → ValueKeeps most n o → IsCounted (value_stack o ++ below) (value_world o) → AlikeUpTo apart r (value_world o) w
       → ValueAlike apart most n r below (altered i c o) (altered i c (turned_value r w o))
   altered_same n r below i c (Gave x ls t v) w lt many p h =
       let q = change_of c (local_at ls i) x in
@@ -211,7 +211,7 @@ module _ (apart : Type 0) (most : ℕ) where
       (change_same n r below i c q x ls t v w lt many refl p h)
   altered_same n r below i c (Failed f ls v) w lt many p h = failed_alike n r below f ls v w p h
 
-  pub altered_alike : (n : ℕ) (r : Renaming) (below : List Slot) (i : ℕ) (c : Change) (o p : Evaluated) → i < n → ValueAlike apart most n r below o p → ValueAlike apart most n r below (altered i c o) (altered i c p)
+  pub altered_alike : (n : ℕ) (r : Renaming) (below : List Slot) (i : ℕ) (c : Update) (o p : Evaluated) → i < n → ValueAlike apart most n r below o p → ValueAlike apart most n r below (altered i c o) (altered i c p)
   altered_alike n r below i c o p lt h =
       three (λ m. value_on n m.by r below (altered i c o) (altered i c p) m.kept (subst (λ e. ValueAlike apart most n m.by below (altered i c o) (altered i c e)) (sym m.same) (altered_same n m.by below i c o m.other lt m.keeps m.counted m.alike)))
       (λ l. inr (inl (altered_leaves i c o l))) (λ l. inr (inr (altered_leaves i c p l))) h
@@ -241,7 +241,7 @@ module _ (apart : Type 0) (most : ℕ) where
       (value_on n x.by r below (performed o vs ls t) (performed p (renamed_all x.by vs) (renamed_all x.by ls) t) (back_kept x.by r ls below lower)
       (three (λ m. done_same n x.by below vs ls t o p many c m) (λ l. inr (inl (done_leaves vs ls t o l))) (λ l. inr (inr (done_leaves (renamed_all x.by vs) (renamed_all x.by ls) t p l))) x.done)))
 
-  module _ (z : Setting) (m : ℕ) (op : Operation) (fit : is_fit z m op ≡ true) where
+  module _ (z : Environment) (m : ℕ) (op : Operation) (fit : is_fit z m op ≡ true) where
     applied_leaves : (o : Gathered) → ValuesLeave apart o → ValueLeaves apart (applied (perform z m op) o)
     applied_leaves (Ready vs ls t v) h = absurd h
     applied_leaves (Broke f ls v) h = h

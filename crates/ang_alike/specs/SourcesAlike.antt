@@ -6,7 +6,7 @@ use Rattle.ang_meaning.specs.declared.slot.Slot.{Slot}
 use Rattle.ang_meaning.specs.declared.routine.Routine.{Routine}
 use Rattle.ang_meaning.specs.declared.routine.Passing.{Passing}
 use Rattle.ang_meaning.specs.World.{World}
-use Rattle.ang_meaning.specs.Setting.{Setting}
+use Rattle.ang_meaning.specs.Environment.{Environment}
 use Rattle.ang_meaning.specs.Results.{Reply, Yields, Raises}
 use Rattle.ang_meaning.specs.Counting.{IsCounted}
 use Rattle.ang_meaning.specs.Alike.{Renaming, renamed, renamed_all, Alike}
@@ -34,7 +34,7 @@ pub record RepliesAlike (o p : Reply) : Type 0 where
 
 -- Two calls, and initializers run twice, in worlds that are equal up to the numbers of script objects,
 -- and told the same but for these, come to the same but for these.
-pub record AreAlikeInRuns (z : Setting) (codes : Codes) : Type 0 where
+pub record AreAlikeInRuns (z : Environment) (codes : Codes) : Type 0 where
   pub calls : (budget : ℕ) (g : Routine) (ps : List Passing) (vs : List Slot) (r : Renaming) (v w : World)
       → z.params g ≡ Some ps → length ps ≡ length vs → IsCounted vs v → Alike r v w
       → RepliesAlike (called_with z codes budget g vs v)
@@ -46,7 +46,7 @@ pub record AreAlikeInRuns (z : Setting) (codes : Codes) : Type 0 where
 
 -- Each module of the setting has this sound tree over what it sees, and imports and methods lead where
 -- they may.
-pub record AreSoundSources (z : Setting) (view : ℕ → RegistrationList) (program : ℕ → t.Program)
+pub record AreSoundSources (z : Environment) (view : ℕ → RegistrationList) (program : ℕ → t.Program)
     (codes : Codes) : Type 0 where
   pub sound : (m : ℕ) → SoundProgram (view m) (program m)
   pub sees : (m : ℕ) → HasView z m (view m)

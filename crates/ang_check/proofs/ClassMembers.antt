@@ -12,9 +12,9 @@ use Rattle.ang_tree.specs.declared.declaration.FieldName.{FieldName}
 use Rattle.ang_tree.specs.declared.type_name.TypeName.{TypeName}
 use Rattle.ang_tree.specs.Declarations.{Params, MemberTree, SuperTree, fields, method, constructor}
 use Rattle.ang_tree.specs.Stmt.{Body, Stmts}
-use Rattle.ang_names_known.specs.declared.names.Constructor.{Constructor}
+use Rattle.ang_names_known.specs.declared.names.ScriptConstructor.{ScriptConstructor}
 use Rattle.ang_names_known.specs.declared.names.Family.{Family}
-use Rattle.ang_names_known.specs.declared.names.Method.{Method}
+use Rattle.ang_names_known.specs.declared.names.ScriptMethod.{ScriptMethod}
 use Rattle.ang_names_known.specs.declared.names.Names.{Names}
 use Rattle.ang_names_known.specs.Items.{each_after}
 use Rattle.ang_check_context.specs.Scope.{BodyContext}
@@ -104,10 +104,10 @@ module _ (V : RegistrationList) (names : Names) where
       (λ before h. adds_none a)
 
   -- the method of a place in a family that is there
-  method_found : (c m : ℕ) (f : Family) (o : Option Method) → slice_get names.families c ≡ Some f → slice_get f.methods m ≡ o → method_at V names c m ≡ o
+  method_found : (c m : ℕ) (f : Family) (o : Option ScriptMethod) → slice_get names.families c ≡ Some f → slice_get f.methods m ≡ o → method_at V names c m ≡ o
   method_found c m f o e h = ap (option_and_then (λ (g : Family). slice_get g.methods m)) e ∙ h
 
-  constructor_found : (c m : ℕ) (f : Family) (o : Option Constructor) → slice_get names.families c ≡ Some f → slice_get f.constructors m ≡ o → constructor_at V names c m ≡ o
+  constructor_found : (c m : ℕ) (f : Family) (o : Option ScriptConstructor) → slice_get names.families c ≡ Some f → slice_get f.constructors m ≡ o → constructor_at V names c m ≡ o
   constructor_found c m f o e h = ap (option_and_then (λ (g : Family). slice_get g.constructors m)) e ∙ h
 
   method_left : (f : Family) (l k : MembersLeft) (before : List MemberTree) (access : Option Token) (y : TypeName) (x : Token) (ps : Params) (constant : Option Token) (attributes : List Token) (b : Body)
@@ -130,7 +130,7 @@ module _ (V : RegistrationList) (names : Names) where
       (ap (λ o. judged_method V names class.number class.text.now x b o ++ [])
       (method_found class.number i f None is.family (none_left f.methods l.methods.now i none h.methods))) (adds_none a))
 
-  pub method_judged : (class : OfClass) (f : Family) (own : Token) (bases : List BaseName) (l k : MembersLeft) (a c : Found) (m : Method) (w : Within) (s : BodyContext)
+  pub method_judged : (class : OfClass) (f : Family) (own : Token) (bases : List BaseName) (l k : MembersLeft) (a c : Found) (m : ScriptMethod) (w : Within) (s : BodyContext)
       (access : Option Token) (y : TypeName) (x : Token) (ps : Params) (constant : Option Token) (attributes : List Token) (b : Body)
       → IsOf V names class f own bases → l.methods.now ≡ m ∷ k.methods.now → k.constructors.now ≡ l.constructors.now
       → w ≡ within_of V names class.number m.read_only → s ≡ context_in V names class.text.now (Some w)
@@ -170,7 +170,7 @@ module _ (V : RegistrationList) (names : Names) where
       (ap (λ o. judged_constructor V names c class.text.now x (base_name V names c class.text.now own bases) (base_of V names c) u ss o ++ [])
       (constructor_found c i f None is.family (none_left f.constructors l.constructors.now i none h.constructors))) (adds_none a))
 
-  pub constructor_judged : (class : OfClass) (f : Family) (own : Token) (bases : List BaseName) (l k : MembersLeft) (a c : Found) (m : Constructor) (w : Within) (s : BodyContext)
+  pub constructor_judged : (class : OfClass) (f : Family) (own : Token) (bases : List BaseName) (l k : MembersLeft) (a c : Found) (m : ScriptConstructor) (w : Within) (s : BodyContext)
       (x : Token) (ps : Params) (left : Token) (u : Option SuperTree) (ss : Stmts) (right : Token)
       → IsOf V names class f own bases → l.constructors.now ≡ m ∷ k.constructors.now → k.methods.now ≡ l.methods.now
       → w ≡ within_of V names class.number false → s ≡ context_in V names class.text.now (Some w)

@@ -4,7 +4,7 @@ use Rattle.std.proofs.lemmas.List.{map-append}
 use Rattle.std.proofs.lemmas.Option.{slice_get_past}
 use Rattle.ang_typed.specs.Typed as t
 use Rattle.ang_typed.specs.View.{view_stmt}
-use Rattle.ang_typed.specs.declared.statement.Statement.{Statement}
+use Rattle.ang_typed.specs.declared.statement.TypedStatement.{TypedStatement}
 use Rattle.ang_names_known.specs.Spaces.{family_type, family_of_type}
 use Rattle.ang_check_uses.specs.Uses.{Scope, makers_of, makers_for, makers_in}
 use Rattle.ang_check.specs.Typing.{with_last}
@@ -30,6 +30,6 @@ last_of : (ss : List t.Stmt) (s : t.Stmt) → with_last (t.stmts ss) s ≡ t.stm
 last_of [] s = refl
 last_of (x ∷ xs) s = ap (t.then x) (last_of xs s)
 
-pub last_behind : (ss : List Statement) (s : Statement)
+pub last_behind : (ss : List TypedStatement) (s : TypedStatement)
     → with_last (t.stmts (list_map view_stmt ss)) (view_stmt s) ≡ t.stmts (list_map view_stmt (ss ++ s ∷ []))
 last_behind ss s = last_of (list_map view_stmt ss) (view_stmt s) ∙ ap t.stmts (sym (map-append view_stmt ss (s ∷ [])))

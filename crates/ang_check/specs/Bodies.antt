@@ -12,18 +12,18 @@ use Rattle.ang_tree.specs.Stmt.{Init, Var, Body, Stmts}
 use Rattle.ang_tree.specs.Declarations.{Decl, class, interface, function, globals, MemberTree, fields, method, constructor, SuperTree}
 use Rattle.ang_types.specs.declared.arg_type.ArgType.{ArgType}
 use Rattle.ang_types.specs.declared.asks.Refused.{Refused}
-use Rattle.ang_typed.specs.declared.program.Class as classes
+use Rattle.ang_typed.specs.declared.program.TypedClass as classes
 use Rattle.ang_typed.specs.declared.program.Heading.{Heading}
 use Rattle.ang_typed.specs.Typed as t
 use Rattle.ang_view.specs.Registration.{RegistrationList}
-use Rattle.ang_names_known.specs.declared.names.Constructor.{Constructor}
+use Rattle.ang_names_known.specs.declared.names.ScriptConstructor.{ScriptConstructor}
 use Rattle.ang_names_known.specs.declared.names.Family.{Family}
 use Rattle.ang_names_known.specs.declared.names.Field.{Field}
-use Rattle.ang_names_known.specs.declared.names.Method.{Method}
+use Rattle.ang_names_known.specs.declared.names.ScriptMethod.{ScriptMethod}
 use Rattle.ang_names_known.specs.declared.names.Names.{Names}
 use Rattle.ang_names_known.specs.declared.names.ScriptFunction.{ScriptFunction}
 use Rattle.ang_names_known.specs.declared.names.ScriptGlobal.{ScriptGlobal}
-use Rattle.ang_check_operators.specs.declared.refusal.Refusal.{Refusal}
+use Rattle.ang_check_operators.specs.declared.refusal.TypingRefusal.{TypingRefusal}
 use Rattle.ang_check_context.specs.declared.scope.Within.{Within}
 use Rattle.ang_names_known.specs.Items.{each_after}
 use Rattle.ang_names_known.specs.Lookup.{Numbered, kin_of}
@@ -115,9 +115,9 @@ base_token text (Some f) own bases = option_map_or (λ (x : BaseName). x.name) (
 
 -- what one of them gives, with the bytes of its section
 pub data Judgement : Type 0 where
-  of_function : List ℕ → Typing t.Function → Judgement
+  of_function : List ℕ → Typing t.TypedFunction → Judgement
   of_global : List ℕ → Typing t.Global → Judgement
-  of_member : List ℕ → Typing t.Function → Judgement
+  of_member : List ℕ → Typing t.TypedFunction → Judgement
   of_default : List ℕ → Typing Base → Judgement
 
 -- Over a view and the names that the scripts declare:
@@ -143,18 +143,18 @@ module _ (V : RegistrationList) (names : Names) where
   judged_global text y i None = []
   judged_global text y i (Some g) = of_global text (global_typing (context_in text None) g y i) ∷ []
 
-  abbrev pub method_at : ℕ → ℕ → Option Method
+  abbrev pub method_at : ℕ → ℕ → Option ScriptMethod
   method_at c m = option_and_then (λ (f : Family). slice_get f.methods m) (slice_get names.families c)
 
-  abbrev pub judged_method : ℕ → List ℕ → Token → Body → Option Method → List Judgement
+  abbrev pub judged_method : ℕ → List ℕ → Token → Body → Option ScriptMethod → List Judgement
   judged_method c text x b None = []
   judged_method c text x b (Some m) =
       let w = within_of c m.read_only in of_member text (method_body_typing (context_in text (Some w)) w m.function x b) ∷ []
 
-  abbrev pub constructor_at : ℕ → ℕ → Option Constructor
+  abbrev pub constructor_at : ℕ → ℕ → Option ScriptConstructor
   constructor_at c k = option_and_then (λ (f : Family). slice_get f.constructors k) (slice_get names.families c)
 
-  abbrev pub judged_constructor : ℕ → List ℕ → Token → Token → Option ℕ → Option SuperTree → Stmts → Option Constructor → List Judgement
+  abbrev pub judged_constructor : ℕ → List ℕ → Token → Token → Option ℕ → Option SuperTree → Stmts → Option ScriptConstructor → List Judgement
   judged_constructor c text x base b u ss None = []
   judged_constructor c text x base b u ss (Some k) =
       let w = within_of c false in of_member text (constructor_typing (context_in text (Some w)) w k.function x base b u ss) ∷ []
@@ -173,10 +173,10 @@ module _ (V : RegistrationList) (names : Names) where
 -- ---- what a build gets of it
 
 -- a refusal in a section of these bytes
-abbrev pub error_of : List ℕ → Refusal → Error
+abbrev pub error_of : List ℕ → TypingRefusal → Error
 error_of text r = record { kind = r.kind; place = r.place; name = name_of text r.name }
 
-abbrev pub refused_of : List ℕ → Refusal → Refused
+abbrev pub refused_of : List ℕ → TypingRefusal → Refused
 refused_of text r = record { error = error_of text r; asks = r.asks; is_there = r.is_there }
 
 abbrev pub refused_by : {A : Type 0} → List ℕ → Typing A → Option Refused
@@ -193,13 +193,13 @@ abbrev pub given : {A : Type 0} → Typing A → Option A
 given (Ok a) = Some a
 given (Err r) = None
 
-abbrev pub function_given : Judgement → Option t.Function
+abbrev pub function_given : Judgement → Option t.TypedFunction
 function_given (of_function text f) = given f
 function_given (of_global text g) = None
 function_given (of_member text f) = None
 function_given (of_default text b) = None
 
-abbrev pub member_given : Judgement → Option t.Function
+abbrev pub member_given : Judgement → Option t.TypedFunction
 member_given (of_function text f) = None
 member_given (of_global text g) = None
 member_given (of_member text f) = given f
@@ -226,10 +226,10 @@ types_behind [] = []
 types_behind (f ∷ fs) = types_behind fs ++ own_types f.1
 
 -- the slot and the body of a method, where it has one
-abbrev pub slot_and_body : Method → Option (ℕ × ℕ)
+abbrev pub slot_and_body : ScriptMethod → Option (ℕ × ℕ)
 slot_and_body m = option_map (λ k. (m.slot, k)) m.body
 
-abbrev pub typed_class : List Family → ℕ → Family → classes.Class
+abbrev pub typed_class : List Family → ℕ → Family → classes.TypedClass
 typed_class fs c f = record {
   fields = if f.is_class then types_behind (kin_of fs c) else [];
   base = f.base;
@@ -238,10 +238,10 @@ typed_class fs c f = record {
   rank = f.rank;
 }
 
-abbrev pub typed_classes : List Family → List classes.Class
+abbrev pub typed_classes : List Family → List classes.TypedClass
 typed_classes fs = each_after (λ before f. typed_class fs (length before) f ∷ []) [] fs
 
-abbrev pub method_heading : ℕ → Method → Heading
+abbrev pub method_heading : ℕ → ScriptMethod → Heading
 method_heading c m = record {
   parameters = this_parameter (record { family = c; read_only = m.read_only }) ∷ typed_parameters m.function;
   result = m.function.result.ty;
@@ -269,11 +269,11 @@ program_of V names sources =
 -- Over a view and names, in a resolved tree:
 module _ (V : RegistrationList) (names : Names) (sources : List Source) (p : t.Program) where
   -- body k of the tree is a function that was typed so
-  abbrev pub IsBody : ℕ → Typing t.Function → Type 0
-  IsBody k typing = (f : t.Function) × (typing ≡ Ok f) × (slice_get p.functions k ≡ Some f)
+  abbrev pub IsBody : ℕ → Typing t.TypedFunction → Type 0
+  IsBody k typing = (f : t.TypedFunction) × (typing ≡ Ok f) × (slice_get p.functions k ≡ Some f)
 
-  -- Method m of class c is written in some section, and its body k is what was typed there.
-  pub record HasMethodBody (c m k : ℕ) (x : Method) : Type 0 where
+  -- ScriptMethod m of class c is written in some section, and its body k is what was typed there.
+  pub record HasMethodBody (c m k : ℕ) (x : ScriptMethod) : Type 0 where
     pub text : List ℕ
     pub name : Token
     pub tree : Body
@@ -281,7 +281,7 @@ module _ (V : RegistrationList) (names : Names) (sources : List Source) (p : t.P
     pub typed : let w = within_of V names c x.read_only in IsBody k (method_body_typing (context_in V names text (Some w)) w x.function name tree)
 
   -- The same of constructor m of class c.
-  pub record HasConstructorBody (c m : ℕ) (x : Constructor) : Type 0 where
+  pub record HasConstructorBody (c m : ℕ) (x : ScriptConstructor) : Type 0 where
     pub text : List ℕ
     pub name : Token
     pub own : Token
@@ -294,5 +294,5 @@ module _ (V : RegistrationList) (names : Names) (sources : List Source) (p : t.P
 
   -- Each body of the names has the function at its number that was typed of its own tree.
   pub record HasBodies : Type 0 where
-    pub methods : (c m k : ℕ) (x : Method) → method_at V names c m ≡ Some x → x.body ≡ Some k → HasMethodBody c m k x
-    pub constructors : (c m : ℕ) (x : Constructor) → constructor_at V names c m ≡ Some x → HasConstructorBody c m x
+    pub methods : (c m k : ℕ) (x : ScriptMethod) → method_at V names c m ≡ Some x → x.body ≡ Some k → HasMethodBody c m k x
+    pub constructors : (c m : ℕ) (x : ScriptConstructor) → constructor_at V names c m ≡ Some x → HasConstructorBody c m x

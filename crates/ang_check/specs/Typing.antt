@@ -10,8 +10,8 @@ use Rattle.ang_tree.specs.Stmt.{Init, Body, Stmts}
 use Rattle.ang_tree.specs.Declarations.{SuperTree}
 use Rattle.ang_types.specs.declared.arg_type.ArgType.{ArgType}
 use Rattle.ang_types.specs.declared.arg_type.ArgType.TheVariants as type
-use Rattle.ang_typed.specs.declared.expression.Callee.TheVariants as callee
-use Rattle.ang_typed.specs.declared.program.Parameter.{Parameter}
+use Rattle.ang_typed.specs.declared.expression.TypedCallee.TheVariants as callee
+use Rattle.ang_typed.specs.declared.program.TypedParameter.{TypedParameter}
 use Rattle.ang_typed.specs.Typed as t
 use Rattle.ang_names_known.specs.declared.names.Default.{Default}
 use Rattle.ang_names_known.specs.declared.names.Default.TheVariants as default
@@ -31,7 +31,7 @@ use Rattle.ang_names_known.specs.Lookup.{is_read_only, default_of}
 use Rattle.ang_names_known.specs.Spaces.{family_type}
 use Rattle.ang_check_operators.specs.Operands.{Operand}
 use Rattle.ang_check_operators.specs.Refusals.{Typing, ◌>>=◌, refused, refused_for}
-use Rattle.ang_check_stmt.specs.Typing.{Frame, block_typing, stmts_typing, initializer_typing, own_object}
+use Rattle.ang_check_stmt.specs.Typing.{FunctionContext, block_typing, stmts_typing, initializer_typing, own_object}
 use Rattle.ang_check_context.specs.Names.{own_type}
 use Rattle.ang_check_context.specs.Operands.{types_of}
 use Rattle.ang_check_context.specs.Scope.{BodyContext, scope_of}
@@ -45,17 +45,17 @@ use Rattle.ang_check_uses.specs.Uses.{best_of_those, makers_of, why}
 abbrev pub parameter_local : ScriptParameter → LocalVariable
 parameter_local p = record { name = p.name; ty = p.written.ty; read_only = is_read_only p.written }
 
-abbrev pub typed_parameter : ScriptParameter → Parameter
+abbrev pub typed_parameter : ScriptParameter → TypedParameter
 typed_parameter p = record { ty = p.written.ty; pass = p.pass }
 
-abbrev pub typed_parameters : ScriptFunction → List Parameter
+abbrev pub typed_parameters : ScriptFunction → List TypedParameter
 typed_parameters f = map typed_parameter f.params
 
 -- `this` has no name of its own, and is an object that can't be another one
 abbrev pub this_local : Within → LocalVariable
 this_local w = record { name = []; ty = own_type w; read_only = true }
 
-abbrev pub this_parameter : Within → Parameter
+abbrev pub this_parameter : Within → TypedParameter
 this_parameter w = record { ty = own_type w; pass = pass.RefInOut }
 
 -- ---- functions and methods
@@ -69,21 +69,21 @@ is_void (type.Object n c) = false
 is_void (type.Handle n c) = false
 
 -- Every path through a function with a result has to end.
-abbrev pub ending : ArgType → Token → Bool → List Parameter → t.Stmts → Typing t.Function
+abbrev pub ending : ArgType → Token → Bool → List TypedParameter → t.Stmts → Typing t.TypedFunction
 ending ty x ends ps ss = if ends || is_void ty then Ok (record { parameters = ps; result = ty; body = ss }) else Err (refused kind.NoReturn x)
 
-abbrev pub frame_of : BodyContext → ArgType → List LocalVariable → Frame
+abbrev pub frame_of : BodyContext → ArgType → List LocalVariable → FunctionContext
 frame_of s ty ps = record { context = s; returns = returns.Value ty; parameters = length ps }
 
 -- the body of the function that is declared with this name
-unfoldable pub function_typing : BodyContext → ScriptFunction → Token → Body → Typing t.Function
+unfoldable pub function_typing : BodyContext → ScriptFunction → Token → Body → Typing t.TypedFunction
 function_typing s f x b =
     let ps = map parameter_local f.params in do
       ss ← block_typing (frame_of s f.result.ty ps) false ps b
       ending f.result.ty x (body_ends b) (typed_parameters f) ss
 
 -- a method, whose first local is `this`
-unfoldable pub method_body_typing : BodyContext → Within → ScriptFunction → Token → Body → Typing t.Function
+unfoldable pub method_body_typing : BodyContext → Within → ScriptFunction → Token → Body → Typing t.TypedFunction
 method_body_typing s w f x b =
     let ps = this_local w ∷ map parameter_local f.params in do
       ss ← block_typing (frame_of s f.result.ty ps) false ps b
@@ -142,7 +142,7 @@ abbrev pub with_last : t.Stmts → t.Stmt → t.Stmts
 with_last t.end s = t.then s t.end
 with_last (t.then r ss) s = t.then r (with_last ss s)
 
-abbrev pub constructed : Within → ScriptFunction → Base → t.Stmts → t.Function
+abbrev pub constructed : Within → ScriptFunction → Base → t.Stmts → t.TypedFunction
 constructed w f base ss = record {
   parameters = this_parameter w ∷ typed_parameters f;
   result = own_type w;
@@ -150,11 +150,11 @@ constructed w f base ss = record {
 }
 
 -- a constructor returns as a `void` function, and gives its object
-abbrev pub maker_frame : BodyContext → Within → List LocalVariable → Frame
+abbrev pub maker_frame : BodyContext → Within → List LocalVariable → FunctionContext
 maker_frame s w ps = record { context = s; returns = returns.Own (own_type w); parameters = length ps }
 
 -- A constructor: `super`, then its statements, then it gives its object back.
-unfoldable pub constructor_typing : BodyContext → Within → ScriptFunction → Token → Token → Option ℕ → Option SuperTree → Stmts → Typing t.Function
+unfoldable pub constructor_typing : BodyContext → Within → ScriptFunction → Token → Token → Option ℕ → Option SuperTree → Stmts → Typing t.TypedFunction
 constructor_typing s w f x base b u ss =
     let ps = this_local w ∷ map parameter_local f.params in do
       first ← base_typing s ps x base b u

@@ -7,7 +7,7 @@ ghost use Rattle.ang_names.specs.Phases.{IsRefused, errors_in, refusals_of};
 ghost use Rattle.ang_names_classes.specs.Resolved.{names_of};
 ghost use Rattle.ang_names_listed.specs.Sources.{source_of};
 
-use crate::{Judged, judge};
+use crate::{CheckedBuild, judge};
 use ang_kinds::Unbuilt;
 use ang_names::unbuilt;
 use ang_names_known::Names;
@@ -40,7 +40,7 @@ pub fn check(
     let Ok(judged) = judge(alloc, view, names, scripts) else {
         return Err(Unbuilt::Memory);
     };
-    let Judged { typed, refused } = judged;
+    let CheckedBuild { typed, refused } = judged;
     if refused.as_slice().is_empty() {
         return Ok(typed);
     }

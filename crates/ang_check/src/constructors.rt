@@ -2,7 +2,7 @@
 ghost use Rattle.std.specs.Prelude.{◌≡◌, ◌<◌, ◌∷◌, [], Some, option_map, IfOk, map as list_map};
 ghost use Rattle.ang_tree.specs.View as trees;
 ghost use Rattle.ang_typed.specs.Typed as tree;
-ghost use Rattle.ang_typed.specs.declared.expression.Callee.TheVariants as callee;
+ghost use Rattle.ang_typed.specs.declared.expression.TypedCallee.TheVariants as callee;
 ghost use Rattle.ang_typed.specs.View.{view_arg, view_block, view_function, view_stmt, view_stmts};
 ghost use Rattle.ang_check_operators.specs.Refusals.{Gives};
 ghost use Rattle.ang_check_operators.specs.View.{view_operands};
@@ -14,8 +14,8 @@ ghost use Rattle.ang_check.specs.View.{view_base};
 
 use crate::functions::{member_locals, member_parameters};
 use ang_check_context::{BodyContext, Locals, Within, own_type, types_of};
-use ang_check_operators::{Operand, Stop, boxed, refused, refused_for};
-use ang_check_stmt::{Frame, Returns, block, own_object};
+use ang_check_operators::{Operand, TypingError, boxed, refused, refused_for};
+use ang_check_stmt::{FunctionContext, Returns, block, own_object};
 use ang_check_typing::{arguments_for, typing_of_all};
 use ang_check_uses::{Callables, Called, Resolution, Scope, best_of_those, makers_of};
 use ang_kinds::{ErrorKind, List, Place};
@@ -23,7 +23,7 @@ use ang_lex::Token;
 use ang_names_known::{Default, Names, ScriptFunction, default_of, family_type};
 use ang_tree as written;
 use ang_tree::SuperCall;
-use ang_typed::{Argument, Block, Callee, Expression, Function, Parameter, Statement};
+use ang_typed::{TypedArgument, TypedBlock, TypedCallee, TypedExpression, TypedFunction, TypedParameter, TypedStatement};
 use ang_types::ArgType;
 use std::alloc::{AllocError, Global};
 
@@ -34,7 +34,7 @@ pub struct BaseCall {
     /// The number of its body.
     pub body: Option<usize>,
     /// The arguments after `this`.
-    pub arguments: List<Argument>,
+    pub arguments: List<TypedArgument>,
 }
 
 fn without_arguments(alloc: Global, body: Option<usize>) -> BaseCall
@@ -51,7 +51,7 @@ fn default_base(
     place: Place,
     base: &Token,
     default: Default,
-) -> Result<BaseCall, Stop>
+) -> Result<BaseCall, TypingError>
     ensures exact { Gives view_base result (spec.default_base place base.now default) }
 {
     match default {
@@ -72,7 +72,7 @@ pub fn implicit_super(
     place: Place,
     base_name: &Token,
     base: Option<usize>,
-) -> Result<BaseCall, Stop>
+) -> Result<BaseCall, TypingError>
     ensures exact { Gives view_base result
         (spec.implicit_super names.now place base_name.now base) }
 {
@@ -101,7 +101,7 @@ fn super_chosen(
     word: &Token,
     operands: Vec<Operand>,
     resolution: Resolution,
-) -> Result<BaseCall, Stop>
+) -> Result<BaseCall, TypingError>
     ensures exact { Gives view_base result
         (spec.super_chosen context.now word.now (view_operands operands.items) resolution) }
 {
@@ -144,7 +144,7 @@ fn super_of(
     word: &Token,
     operands: Vec<Operand>,
     base: usize,
-) -> Result<BaseCall, Stop>
+) -> Result<BaseCall, TypingError>
     ensures exact { Gives view_base result
         (spec.super_by context.now word.now (view_operands operands.items) (Some base)) }
 {
@@ -166,7 +166,7 @@ fn super_by(
     word: &Token,
     operands: Vec<Operand>,
     base: Option<usize>,
-) -> Result<BaseCall, Stop>
+) -> Result<BaseCall, TypingError>
     ensures exact { Gives view_base result
         (spec.super_by context.now word.now (view_operands operands.items) base) }
 {
@@ -187,7 +187,7 @@ fn super_typing(
     locals: &Locals<'_>,
     base: Option<usize>,
     call: &SuperCall,
-) -> Result<BaseCall, Stop>
+) -> Result<BaseCall, TypingError>
     ensures exact { Gives view_base result
         (spec.super_typing context.now locals.now base (trees.view_super call.now)) }
 {
@@ -203,7 +203,7 @@ fn base_typing(
     base_name: &Token,
     base: Option<usize>,
     call: &Option<SuperCall>,
-) -> Result<BaseCall, Stop>
+) -> Result<BaseCall, TypingError>
     ensures exact { Gives view_base result (spec.base_typing context.now locals.now name.now
         base_name.now base (option_map trees.view_super call.now)) }
 {
@@ -219,14 +219,14 @@ fn base_typing(
 fn behind_this(
     alloc: Global,
     ty: ArgType,
-    arguments: List<Argument>,
-) -> Result<Vec<Argument>, AllocError>
+    arguments: List<TypedArgument>,
+) -> Result<Vec<TypedArgument>, AllocError>
     ensures exact { IfOk result (λ v. list_map view_arg v.items
         ≡ tree.by_value ty (object_of ty) ∷ list_map view_arg arguments) }
 {
     let own = own_object(alloc, ty)?;
     let mut all = Vec::new(alloc);
-    all.push(Argument::Value {
+    all.push(TypedArgument::Value {
         ty,
         value: Box::into_inner(own),
     })?;
@@ -242,8 +242,8 @@ fn base_statement(
     alloc: Global,
     ty: ArgType,
     body: usize,
-    arguments: List<Argument>,
-) -> Result<Statement, AllocError>
+    arguments: List<TypedArgument>,
+) -> Result<TypedStatement, AllocError>
     ensures exact { IfOk result (λ s. view_stmt s ≡ tree.expression (Some (tree.call
         (callee.Own body) ty
         (tree.args (tree.by_value ty (object_of ty) ∷ list_map view_arg arguments))))) }
@@ -251,13 +251,13 @@ fn base_statement(
     let arguments = behind_this(alloc, ty, arguments)?;
     let call = boxed(
         alloc,
-        Expression::Call {
-            callee: Callee::Own(body),
+        TypedExpression::Call {
+            callee: TypedCallee::Own(body),
             result: ty,
             arguments,
         },
     )?;
-    Ok(Statement::Expression(Some(call)))
+    Ok(TypedStatement::Expression(Some(call)))
 }
 
 /// Statements after another one.
@@ -265,9 +265,9 @@ fn base_statement(
 /// The only error is want of memory.
 fn behind(
     alloc: Global,
-    first: Statement,
-    statements: Vec<Statement>,
-) -> Result<Vec<Statement>, AllocError>
+    first: TypedStatement,
+    statements: Vec<TypedStatement>,
+) -> Result<Vec<TypedStatement>, AllocError>
     ensures exact { IfOk result (λ v. list_map view_stmt v.items
         ≡ view_stmt first ∷ list_map view_stmt statements.items) }
 {
@@ -285,8 +285,8 @@ fn with_base(
     alloc: Global,
     within: Within,
     base: BaseCall,
-    statements: Vec<Statement>,
-) -> Result<Vec<Statement>, AllocError>
+    statements: Vec<TypedStatement>,
+) -> Result<Vec<TypedStatement>, AllocError>
     requires few { within.family < 256 }
     ensures exact { IfOk result (λ v. view_stmts v.items ≡ spec.base_call within
         (view_base base).0 (view_base base).1 (view_stmts statements.items)) }
@@ -304,11 +304,11 @@ fn with_base(
 /// The statement that gives the object back.
 ///
 /// The only error is want of memory.
-fn own_returned(alloc: Global, ty: ArgType) -> Result<Statement, AllocError>
+fn own_returned(alloc: Global, ty: ArgType) -> Result<TypedStatement, AllocError>
     ensures exact { IfOk result (λ s. view_stmt s ≡ tree.return (Some (object_of ty))) }
 {
     let own = own_object(alloc, ty)?;
-    Ok(Statement::Return(Some(own)))
+    Ok(TypedStatement::Return(Some(own)))
 }
 
 /// Statements, and then the object is given back.
@@ -318,8 +318,8 @@ fn own_returned(alloc: Global, ty: ArgType) -> Result<Statement, AllocError>
 fn with_return(
     alloc: Global,
     ty: ArgType,
-    statements: Vec<Statement>,
-) -> Result<Vec<Statement>, AllocError>
+    statements: Vec<TypedStatement>,
+) -> Result<Vec<TypedStatement>, AllocError>
     ensures exact { IfOk result (λ v. view_stmts v.items ≡ spec.with_last
         (view_stmts statements.items) (tree.return (Some (object_of ty)))) }
 {
@@ -337,20 +337,20 @@ fn constructed(
     within: Within,
     function: &ScriptFunction,
     base: BaseCall,
-    body: Block,
-) -> Result<Function, AllocError>
+    body: TypedBlock,
+) -> Result<TypedFunction, AllocError>
     requires few { within.family < 256 }
     ensures exact { IfOk result (λ f. view_function f
         ≡ spec.constructed within function.now (view_base base) (view_block body)) }
 {
-    let Block { statements } = body;
+    let TypedBlock { statements } = body;
     let statements = with_return(alloc, own_type(within), statements)?;
     let statements = with_base(alloc, within, base, statements)?;
     let parameters = member_parameters(alloc, within, function)?;
-    Ok(Function {
+    Ok(TypedFunction {
         parameters: List::from_vec(parameters),
         result: own_type(within),
-        body: Block { statements },
+        body: TypedBlock { statements },
     })
 }
 
@@ -364,7 +364,7 @@ pub fn constructor_typing<'a>(
     base_name: &Token,
     base: Option<usize>,
     written: &written::Constructor,
-) -> Result<Function, Stop>
+) -> Result<TypedFunction, TypingError>
     requires few { within.family < 256 }
     ensures exact { Gives view_function result (spec.constructor_typing context.entry within
         function.now written.now.name base_name.now base
@@ -381,7 +381,7 @@ pub fn constructor_typing<'a>(
         base,
         &written.super_call,
     )?;
-    let frame = Frame::new(context, Returns::Own(own_type(within)), locals.len());
+    let frame = FunctionContext::new(context, Returns::Own(own_type(within)), locals.len());
     let body = block(
         alloc,
         &frame,

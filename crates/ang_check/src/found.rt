@@ -9,10 +9,10 @@ ghost use Rattle.ang_check.specs.Typing.{Base};
 ghost use Rattle.ang_check.specs.View.{view_base};
 
 use crate::BaseCall;
-use ang_check_operators::{Refusal, Stop};
+use ang_check_operators::{TypingRefusal, TypingError};
 use ang_kinds::Error;
 use ang_names_listed::name_at;
-use ang_typed::{Function, Global as TypedGlobal};
+use ang_typed::{TypedFunction, Global as TypedGlobal};
 use ang_types::Refused;
 use std::alloc::{AllocError, Global};
 
@@ -20,9 +20,9 @@ use std::alloc::{AllocError, Global};
 #[derive(Drop)]
 pub struct Found {
     /// The resolved functions.
-    pub functions: Vec<Function>,
+    pub functions: Vec<TypedFunction>,
     /// The resolved bodies of methods and constructors.
-    pub members: Vec<Function>,
+    pub members: Vec<TypedFunction>,
     /// The resolved globals.
     pub globals: Vec<TypedGlobal>,
     /// Of each body and initializer that is refused its first refusal.
@@ -32,7 +32,7 @@ pub struct Found {
 /// A refusal in a section of these bytes, with the text of its name.
 ///
 /// The only error is want of memory.
-fn refused_of(alloc: Global, text: &[u8], refusal: Refusal) -> Result<Refused, AllocError>
+fn refused_of(alloc: Global, text: &[u8], refusal: TypingRefusal) -> Result<Refused, AllocError>
     ensures exact { IfOk result (λ r. r ≡ bodies.refused_of text.now refusal) }
 {
     let name = name_at(alloc, text, &refusal.name)?;
@@ -52,7 +52,7 @@ fn push_refusal(
     alloc: Global,
     text: &[u8],
     all: &mut Vec<Refused>,
-    refusal: Refusal,
+    refusal: TypingRefusal,
 ) -> Result<(), AllocError>
     ensures pushed { OnOk result
         (all.new.items ≡ all.old.items ++ (bodies.refused_of text.now refusal ∷ [])) }
@@ -69,9 +69,9 @@ pub fn note_function(
     alloc: Global,
     text: &[u8],
     found: &mut Found,
-    typed: Result<Function, Stop>,
+    typed: Result<TypedFunction, TypingError>,
 ) -> Result<(), AllocError>
-    ensures noted { OnOk result ((typing : Typing tree.Function) → Gives view_function typed typing
+    ensures noted { OnOk result ((typing : Typing tree.TypedFunction) → Gives view_function typed typing
         → spec.Noted found.old found.new (bodies.of_function text.now typing)) }
 {
     match typed {
@@ -79,8 +79,8 @@ pub fn note_function(
             found.functions.push(function)?;
             Ok(())
         }
-        Err(Stop::Refused(refusal)) => push_refusal(alloc, text, &mut found.refused, refusal),
-        Err(Stop::Memory) => Err(AllocError),
+        Err(TypingError::Refused(refusal)) => push_refusal(alloc, text, &mut found.refused, refusal),
+        Err(TypingError::Memory) => Err(AllocError),
     }
 }
 
@@ -91,9 +91,9 @@ pub fn note_member(
     alloc: Global,
     text: &[u8],
     found: &mut Found,
-    typed: Result<Function, Stop>,
+    typed: Result<TypedFunction, TypingError>,
 ) -> Result<(), AllocError>
-    ensures noted { OnOk result ((typing : Typing tree.Function) → Gives view_function typed typing
+    ensures noted { OnOk result ((typing : Typing tree.TypedFunction) → Gives view_function typed typing
         → spec.Noted found.old found.new (bodies.of_member text.now typing)) }
 {
     match typed {
@@ -101,8 +101,8 @@ pub fn note_member(
             found.members.push(function)?;
             Ok(())
         }
-        Err(Stop::Refused(refusal)) => push_refusal(alloc, text, &mut found.refused, refusal),
-        Err(Stop::Memory) => Err(AllocError),
+        Err(TypingError::Refused(refusal)) => push_refusal(alloc, text, &mut found.refused, refusal),
+        Err(TypingError::Memory) => Err(AllocError),
     }
 }
 
@@ -113,7 +113,7 @@ pub fn note_global(
     alloc: Global,
     text: &[u8],
     found: &mut Found,
-    typed: Result<TypedGlobal, Stop>,
+    typed: Result<TypedGlobal, TypingError>,
 ) -> Result<(), AllocError>
     ensures noted { OnOk result ((typing : Typing tree.Global) → Gives view_global typed typing
         → spec.Noted found.old found.new (bodies.of_global text.now typing)) }
@@ -123,8 +123,8 @@ pub fn note_global(
             found.globals.push(global)?;
             Ok(())
         }
-        Err(Stop::Refused(refusal)) => push_refusal(alloc, text, &mut found.refused, refusal),
-        Err(Stop::Memory) => Err(AllocError),
+        Err(TypingError::Refused(refusal)) => push_refusal(alloc, text, &mut found.refused, refusal),
+        Err(TypingError::Memory) => Err(AllocError),
     }
 }
 
@@ -135,14 +135,14 @@ pub fn note_default(
     alloc: Global,
     text: &[u8],
     found: &mut Found,
-    typed: Result<BaseCall, Stop>,
+    typed: Result<BaseCall, TypingError>,
 ) -> Result<(), AllocError>
     ensures noted { OnOk result ((typing : Typing Base) → Gives view_base typed typing
         → spec.Noted found.old found.new (bodies.of_default text.now typing)) }
 {
     match typed {
         Ok(_) => Ok(()),
-        Err(Stop::Refused(refusal)) => push_refusal(alloc, text, &mut found.refused, refusal),
-        Err(Stop::Memory) => Err(AllocError),
+        Err(TypingError::Refused(refusal)) => push_refusal(alloc, text, &mut found.refused, refusal),
+        Err(TypingError::Memory) => Err(AllocError),
     }
 }

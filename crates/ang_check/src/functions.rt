@@ -7,14 +7,14 @@ ghost use Rattle.ang_check_stmt.specs.Typing.{block_typing};
 ghost use Rattle.ang_check.specs.Typing as spec;
 
 use ang_check_context::{BodyContext, LocalVariable, Locals, Within, own_type};
-use ang_check_operators::{Stop, refused};
-use ang_check_stmt::{Frame, Returns, block, body_ends, initializer};
+use ang_check_operators::{TypingError, refused};
+use ang_check_stmt::{FunctionContext, Returns, block, body_ends, initializer};
 use ang_kinds::{ErrorKind, List, Pass};
 use ang_lex::Token;
-use ang_names_known::{ScriptFunction, ScriptGlobal, ScriptParameter, Text, is_read_only};
+use ang_names_known::{ScriptFunction, ScriptGlobal, ScriptParameter, BorrowedText, is_read_only};
 use ang_tree as written;
 use ang_tree::{Initializer, TypeName};
-use ang_typed::{Block, Function, Global as TypedGlobal, Parameter};
+use ang_typed::{TypedBlock, TypedFunction, Global as TypedGlobal, TypedParameter};
 use ang_types::ArgType;
 use std::alloc::{AllocError, Global};
 
@@ -31,7 +31,7 @@ fn push_locals<'a>(
         locals.push(
             alloc,
             LocalVariable {
-                name: Text::new(param.name.as_slice()),
+                name: BorrowedText::new(param.name.as_slice()),
                 ty: param.written.ty,
                 read_only: is_read_only(param.written),
             },
@@ -42,14 +42,14 @@ fn push_locals<'a>(
 
 /// The parameters of a function in the resolved tree, at the end of some.
 fn push_parameters(
-    parameters: &mut Vec<Parameter>,
+    parameters: &mut Vec<TypedParameter>,
     params: &[ScriptParameter],
 ) -> Result<(), AllocError>
     ensures exact { OnOk result (parameters.new.items
         ≡ parameters.old.items ++ list_map spec.typed_parameter params.now) }
 {
     for param in params {
-        parameters.push(Parameter {
+        parameters.push(TypedParameter {
             ty: param.written.ty,
             pass: param.pass,
         })?;
@@ -75,7 +75,7 @@ fn this_local<'a>(within: Within) -> LocalVariable<'a>
     ensures exact { result ≡ spec.this_local within }
 {
     LocalVariable {
-        name: Text::new(&[]),
+        name: BorrowedText::new(&[]),
         ty: own_type(within),
         read_only: true,
     }
@@ -98,7 +98,7 @@ pub fn member_locals<'a>(
 }
 
 /// The parameters of a function.
-pub fn parameters_of(alloc: Global, function: &ScriptFunction) -> Result<Vec<Parameter>, AllocError>
+pub fn parameters_of(alloc: Global, function: &ScriptFunction) -> Result<Vec<TypedParameter>, AllocError>
     ensures exact { IfOk result (λ v. v.items ≡ spec.typed_parameters function.now) }
 {
     let mut parameters = Vec::new(alloc);
@@ -111,13 +111,13 @@ pub fn member_parameters(
     alloc: Global,
     within: Within,
     function: &ScriptFunction,
-) -> Result<Vec<Parameter>, AllocError>
+) -> Result<Vec<TypedParameter>, AllocError>
     requires few { within.family < 256 }
     ensures exact { IfOk result (λ v. v.items
         ≡ spec.this_parameter within ∷ spec.typed_parameters function.now) }
 {
     let mut parameters = Vec::new(alloc);
-    parameters.push(Parameter {
+    parameters.push(TypedParameter {
         ty: own_type(within),
         pass: Pass::RefInOut,
     })?;
@@ -150,14 +150,14 @@ fn ending(
     ty: ArgType,
     name: &Token,
     ends: bool,
-    parameters: Vec<Parameter>,
-    body: Block,
-) -> Result<Function, Stop>
+    parameters: Vec<TypedParameter>,
+    body: TypedBlock,
+) -> Result<TypedFunction, TypingError>
     ensures exact { Gives view_function result
         (spec.ending ty name.now ends parameters.items (view_block body)) }
 {
     if may_end(ends, ty) {
-        Ok(Function {
+        Ok(TypedFunction {
             parameters: List::from_vec(parameters),
             result: ty,
             body,
@@ -174,13 +174,13 @@ fn body_typing<'a>(
     ty: ArgType,
     locals: Locals<'a>,
     body: &written::Block,
-) -> Result<Block, Stop>
+) -> Result<TypedBlock, TypingError>
     ensures exact { Gives view_block result (block_typing
         (spec.frame_of context.entry ty locals.entry) false locals.entry
         (view_body body.now)) }
 {
     let mut locals = locals;
-    let frame = Frame::new(context, Returns::Value(ty), locals.len());
+    let frame = FunctionContext::new(context, Returns::Value(ty), locals.len());
     block(
         alloc,
         &frame,
@@ -201,7 +201,7 @@ pub fn function_typing<'a>(
     function: &'a ScriptFunction,
     name: &Token,
     body: &written::Block,
-) -> Result<Function, Stop>
+) -> Result<TypedFunction, TypingError>
     ensures exact { Gives view_function result
         (spec.function_typing context.entry function.now name.now (view_body body.now)) }
 {
@@ -220,7 +220,7 @@ pub fn method_typing<'a>(
     function: &'a ScriptFunction,
     name: &Token,
     body: &written::Block,
-) -> Result<Function, Stop>
+) -> Result<TypedFunction, TypingError>
     requires few { within.family < 256 }
     ensures exact { Gives view_function result (spec.method_body_typing context.entry within
         function.now name.now (view_body body.now)) }
@@ -239,7 +239,7 @@ pub fn global_typing(
     global: &ScriptGlobal,
     declared: &TypeName,
     written: &Initializer,
-) -> Result<TypedGlobal, Stop>
+) -> Result<TypedGlobal, TypingError>
     ensures exact { Gives view_global result
         (spec.global_typing context.now global.now declared.now (view_init written.now)) }
 {

@@ -12,14 +12,14 @@ use crate::program::{import_headings, method_headings, typed_classes};
 use ang_kinds::List;
 use ang_names_known::{Names, lineage_of};
 use ang_tree::Script;
-use ang_typed::{Function, Typed};
+use ang_typed::{TypedFunction, Typed};
 use ang_types::Refused;
 use ang_view::View;
 use std::alloc::{AllocError, Global};
 
 /// What judging the bodies and initializers of a build gives.
 #[derive(Drop)]
-pub struct Judged {
+pub struct CheckedBuild {
     /// The resolved tree, where nothing is refused.
     pub typed: Typed,
     /// Of each body and each initializer that is refused the first refusal, in their order.
@@ -53,9 +53,9 @@ fn found_in(alloc: Global, build: &Build<'_>, scripts: &[Script]) -> Result<Foun
 
 /// Functions, with the bodies of members after them.
 fn with_members(
-    functions: Vec<Function>,
-    members: Vec<Function>,
-) -> Result<Vec<Function>, AllocError>
+    functions: Vec<TypedFunction>,
+    members: Vec<TypedFunction>,
+) -> Result<Vec<TypedFunction>, AllocError>
     ensures exact { IfOk result (λ v. list_map view_function v.items
         ≡ list_map view_function functions.items ++ list_map view_function members.items) }
 {
@@ -66,7 +66,7 @@ fn with_members(
 }
 
 /// The resolved tree of what was found, and what was refused.
-fn judged_of(alloc: Global, names: &Names, found: Found) -> Result<Judged, AllocError>
+fn judged_of(alloc: Global, names: &Names, found: Found) -> Result<CheckedBuild, AllocError>
     requires few { length names.now.families ≤ 256 }
     ensures typed { IfOk result (λ j. spec.IsTreeOf names.now found (view_typed j.typed)) }
     ensures refused { IfOk result (λ j. j.refused ≡ found.refused.items) }
@@ -81,7 +81,7 @@ fn judged_of(alloc: Global, names: &Names, found: Found) -> Result<Judged, Alloc
     let classes = typed_classes(alloc, names.families())?;
     let methods = method_headings(alloc, names.families())?;
     let imports = import_headings(alloc, names.imports())?;
-    Ok(Judged {
+    Ok(CheckedBuild {
         typed: Typed {
             functions: List::from_vec(functions),
             globals: List::from_vec(globals),
@@ -103,7 +103,7 @@ pub fn judge(
     view: &View,
     names: &Names,
     scripts: &[Script],
-) -> Result<Judged, AllocError>
+) -> Result<CheckedBuild, AllocError>
     requires families { AreFamilies names.now.families }
     ensures typed { IfOk result (λ j. j.refused ≡ [] → view_typed j.typed
         ≡ bodies.program_of view.now names.now (list_map source_of scripts.now)) }

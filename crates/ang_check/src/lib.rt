@@ -25,4 +25,4 @@ pub use denying::denials;
 pub use functions::{
     function_typing, global_typing, member_parameters, method_typing, parameters_of,
 };
-pub use judging::{Judged, judge};
+pub use judging::{CheckedBuild, judge};

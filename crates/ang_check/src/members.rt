@@ -15,7 +15,7 @@ use crate::parts::Build;
 use crate::{constructor_typing, implicit_super, method_typing};
 use ang_check_context::{BodyContext, Within};
 use ang_lex::Token;
-use ang_names_known::{Constructor, Family, Method};
+use ang_names_known::{ScriptConstructor, Family, ScriptMethod};
 use ang_names_listed::text_at;
 use ang_tree as written;
 use ang_tree::{BaseName, Member};
@@ -38,9 +38,9 @@ pub struct OfClass<'a> {
 #[derive(Drop)]
 pub struct MembersLeft<'a> {
     /// The methods.
-    pub methods: &'a [Method],
+    pub methods: &'a [ScriptMethod],
     /// The constructors.
-    pub constructors: &'a [Constructor],
+    pub constructors: &'a [ScriptConstructor],
 }
 
 fn add_method(

@@ -8,8 +8,8 @@ ghost use Rattle.ang_check.specs.Judging.{field_type};
 use crate::{member_parameters, parameters_of};
 use ang_check_context::Within;
 use ang_kinds::List;
-use ang_names_known::{Family, Field, Method, ScriptFunction};
-use ang_typed::{Class, Heading};
+use ang_names_known::{Family, Field, ScriptMethod, ScriptFunction};
+use ang_typed::{TypedClass, Heading};
 use ang_types::ArgType;
 use std::alloc::{AllocError, Global};
 
@@ -103,7 +103,7 @@ fn field_types(
 }
 
 /// The slot and the body of a method, where it has one, at the end of some.
-fn push_slot(slots: &mut Vec<(usize, usize)>, method: &Method) -> Result<(), AllocError>
+fn push_slot(slots: &mut Vec<(usize, usize)>, method: &ScriptMethod) -> Result<(), AllocError>
     ensures pushed { OnOk result
         (slots.new.items ≡ slots.old.items ++ option_to_list (spec.slot_and_body method.now)) }
 {
@@ -117,7 +117,7 @@ fn push_slot(slots: &mut Vec<(usize, usize)>, method: &Method) -> Result<(), All
 ///
 /// The only error is want of memory.
 #[tactic(auto, using(crate::proofs::Lists::cons_joins))]
-fn slots_of(alloc: Global, methods: &[Method]) -> Result<Vec<(usize, usize)>, AllocError>
+fn slots_of(alloc: Global, methods: &[ScriptMethod]) -> Result<Vec<(usize, usize)>, AllocError>
     ensures exact { IfOk result (λ v. v.items ≡ filter_map spec.slot_and_body methods.now) }
 {
     let mut slots = Vec::new(alloc);
@@ -136,14 +136,14 @@ fn typed_class(
     families: &[Family],
     number: usize,
     family: &Family,
-) -> Result<Class, AllocError>
+) -> Result<TypedClass, AllocError>
     requires number { slice_get families.now number ≡ Some family.now }
     ensures exact { IfOk result (λ k. k ≡ spec.typed_class families.now number family.now) }
 {
     let fields = field_types(alloc, families, family)?;
     let above = Vec::from_slice(alloc, family.above.as_slice())?;
     let chosen = slots_of(alloc, family.methods.as_slice())?;
-    Ok(Class {
+    Ok(TypedClass {
         fields: List::from_vec(fields),
         base: family.base,
         above: List::from_vec(above),
@@ -155,7 +155,7 @@ fn typed_class(
 /// The classes and interfaces, with what is known of them where their objects are made and their methods are chosen.
 ///
 /// The only error is want of memory.
-pub fn typed_classes(alloc: Global, families: &[Family]) -> Result<Vec<Class>, AllocError>
+pub fn typed_classes(alloc: Global, families: &[Family]) -> Result<Vec<TypedClass>, AllocError>
     ensures exact { IfOk result (λ v. v.items ≡ spec.typed_classes families.now) }
 {
     let mut classes = Vec::new(alloc);
@@ -169,7 +169,7 @@ pub fn typed_classes(alloc: Global, families: &[Family]) -> Result<Vec<Class>, A
 /// The heading of a method of the family of this number, with `this` in front.
 ///
 /// The only error is want of memory.
-fn method_heading(alloc: Global, number: usize, method: &Method) -> Result<Heading, AllocError>
+fn method_heading(alloc: Global, number: usize, method: &ScriptMethod) -> Result<Heading, AllocError>
     requires few { number < 256 }
     ensures exact { IfOk result (λ h. h ≡ spec.method_heading number method.now) }
 {
@@ -189,7 +189,7 @@ fn push_headings(
     alloc: Global,
     headings: &mut Vec<Heading>,
     number: usize,
-    methods: &[Method],
+    methods: &[ScriptMethod],
 ) -> Result<(), AllocError>
     requires few { number < 256 }
     ensures pushed { OnOk result (headings.new.items

@@ -7,7 +7,7 @@ use Rattle.ang_tree.specs.declared.type_name.TypeName.{TypeName}
 use Rattle.ang_tree.specs.Declarations.{SuperTree}
 use Rattle.ang_tree.specs.Stmt.{Init, Body, Stmts}
 use Rattle.ang_types.specs.declared.arg_type.ArgType.{ArgType}
-use Rattle.ang_typed.specs.declared.program.Parameter.{Parameter}
+use Rattle.ang_typed.specs.declared.program.TypedParameter.{TypedParameter}
 use Rattle.ang_typed.specs.Typed as t
 use Rattle.ang_names_known.specs.declared.names.Default.{Default}
 use Rattle.ang_names_known.specs.declared.names.Default.TheVariants as default
@@ -31,7 +31,7 @@ use Rattle.ang_check_asked.proofs.Expressions.{args_use}
 use Rattle.ang_check_asked.proofs.Statements.{BodyUses, here, none_here, then_here, block_use, statements_use}
 use Rattle.ang_check_asked.proofs.Variables.{initializer_uses}
 
-ending_silent : (ty : ArgType) (x : Token) (ends : Bool) (ps : List Parameter) (ss : t.Stmts) → Silent (ending ty x ends ps ss)
+ending_silent : (ty : ArgType) (x : Token) (ends : Bool) (ps : List TypedParameter) (ss : t.Stmts) → Silent (ending ty x ends ps ss)
 ending_silent ty x ends ps ss = either_silent (ends || is_void ty) _ _ tt refl
 
 default_base_silent : (place : Place) (base : Token) (d : Default) → Silent (default_base place base d)

@@ -10,7 +10,7 @@ use Rattle.ang_types.specs.declared.arg_type.ArgType.{ArgType}
 use Rattle.ang_types.specs.declared.asks.Asks.{Asks}
 use Rattle.ang_types.specs.declared.asks.Asks.TheVariants as asks
 use Rattle.ang_types.specs.Ranks.{Ancestors}
-use Rattle.ang_typed.specs.declared.expression.Variable.{Variable}
+use Rattle.ang_typed.specs.declared.expression.TypedVariable.{TypedVariable}
 use Rattle.ang_names_known.specs.Lookup.{FoundMethod, may_use}
 use Rattle.ang_names_known.specs.Spaces.{family_type, family_of_type}
 use Rattle.ang_names_listed.specs.Sources.{text_of}
@@ -36,7 +36,7 @@ use Rattle.ang_check_asked.proofs.Names.{Uses, no_use, refused_use}
 
 -- ---- arguments
 
-out_or_silent : (place : Place) (x : Option Variable) → Silent (out_or place x)
+out_or_silent : (place : Place) (x : Option TypedVariable) → Silent (out_or place x)
 out_or_silent place None = refl
 out_or_silent place (Some x) = tt
 

@@ -13,22 +13,22 @@ use Rattle.ang_types.specs.declared.asks.Refused.{Refused}
 use Rattle.ang_view.specs.Registration.{RegistrationList}
 use Rattle.ang_names_known.specs.declared.names.Family.{Family}
 use Rattle.ang_names_known.specs.declared.names.Field.{Field}
-use Rattle.ang_names_known.specs.declared.names.Method.{Method}
+use Rattle.ang_names_known.specs.declared.names.ScriptMethod.{ScriptMethod}
 use Rattle.ang_names_known.specs.Lookup.{families_at}
 use Rattle.ang_names_known.specs.Spaces.{Space, space_of_names, type_of_name}
-use Rattle.ang_names_listed.specs.declared.listed.Declared.{Declared}
-use Rattle.ang_names_listed.specs.declared.listed.Member.{Member}
+use Rattle.ang_names_listed.specs.declared.listed.ListedDeclaration.{ListedDeclaration}
+use Rattle.ang_names_listed.specs.declared.listed.ListedMember.{ListedMember}
 use Rattle.ang_names_listed.specs.declared.listed.MemberKind.{MemberKind}
 use Rattle.ang_names_listed.specs.declared.listed.MemberKind.TheVariants as member
 use Rattle.ang_names_listed.specs.declared.listed.Part.{Part}
 use Rattle.ang_names_listed.specs.declared.listed.Part.TheVariants as part
-use Rattle.ang_names_listed.specs.declared.listed.Shape.{Shape}
+use Rattle.ang_names_listed.specs.declared.listed.ListedFamily.{ListedFamily}
 use Rattle.ang_names_listed.specs.Declarations.{Declaring, declarations_of, families_of}
 use Rattle.ang_names_listed.specs.Taken.{is_taken, is_first_above, name_refusal}
 use Rattle.ang_names_classes.specs.Headings.{parameter_role}
 use Rattle.ang_names_classes.specs.Resolved.{families_in, space_of_declared}
-use Rattle.ang_names_listed.specs.declared.role.Role.{Role}
-use Rattle.ang_names_listed.specs.declared.role.Role.TheVariants as role
+use Rattle.ang_names_listed.specs.declared.role.TypePosition.{TypePosition}
+use Rattle.ang_names_listed.specs.declared.role.TypePosition.TheVariants as role
 use Rattle.ang_names_listed.specs.Sources.{Source, text_of}
 use Rattle.ang_names_listed.specs.Types.{TypeOrError, type_in}
 use Rattle.ang_names.specs.Heirs.{at_name, ancestor_refusal, of_interfaces, missing_among, missing_by, missing_method, inherits, field_refusal, overridden, is_bad_override, method_refusal, first_refused, is_before, earlier, class_refusal, heir_refusal, cycle_refusal}
@@ -63,7 +63,7 @@ module _ (S : Scope) (E : Space) (same : space_of_names S.view S.names ≡ E) wh
   why_again text t (Err kind.UnknownType) h = ap type_meant (ap (λ (F : Space). type_of_name F (text_of text t)) same ∙ h)
   why_again text t (Err _) h = tt
 
-  type_again : (text : List ℕ) (r : Role) (y : TypeName) → Again (type_refusal_of E text r y)
+  type_again : (text : List ℕ) (r : TypePosition) (y : TypeName) → Again (type_refusal_of E text r y)
   type_again text r y = why_again text y.name (type_in E r text y) (type_refused_so E r text y)
 
   parameters_again : (text : List ℕ) (imported : Bool) (ps : List Parameter) → Again (parameters_refusal E text imported ps)
@@ -85,10 +85,10 @@ module _ (S : Scope) (E : Space) (same : space_of_names S.view S.names ≡ E) wh
 
   -- ---- members and bases
 
-  duplicate_again : (text : List ℕ) (before : List Member) (m : Member) → Again (duplicate text before m)
+  duplicate_again : (text : List ℕ) (before : List ListedMember) (m : ListedMember) → Again (duplicate text before m)
   duplicate_again text before m = test_again (list_any (clashes_with_member text m) before) kind.Duplicate text m.name
 
-  member_again : (text family : List ℕ) (before : List Member) (m : Member) (x : MemberKind) → Again (member_refusal E text family before m x)
+  member_again : (text family : List ℕ) (before : List ListedMember) (m : ListedMember) (x : MemberKind) → Again (member_refusal E text family before m x)
   member_again text family before m (member.Field y) =
       or_again (type_refusal_of E text role.Field y) (duplicate text before m) (type_again text role.Field y) (duplicate_again text before m)
   member_again text family before m (member.Method y ps a) =
@@ -103,7 +103,7 @@ module _ (S : Scope) (E : Space) (same : space_of_names S.view S.names ≡ E) wh
       (or_again (duplicate text before m) (parameter_list_refusal E text false m.name ps) (duplicate_again text before m)
       (list_again text false m.name ps))
 
-  members_again : (text family : List ℕ) (before ms : List Member) → Again (members_refusal E text family before ms)
+  members_again : (text family : List ℕ) (before ms : List ListedMember) → Again (members_refusal E text family before ms)
   members_again text family before [] = tt
   members_again text family before (m ∷ ms) =
       or_again (member_refusal E text family before m m.kind) (members_refusal E text family (before ++ m ∷ []) ms)
@@ -119,7 +119,7 @@ module _ (S : Scope) (E : Space) (same : space_of_names S.view S.names ≡ E) wh
       (test_again (is_bad_base is_class has_class s) kind.BadBase text b)
       (bases_again families text is_class (has_class || names_class s) bs)
 
-  family_again : (families : List Declaring) (d : Declared) (s : Shape) → Again (family_refusal E families d s)
+  family_again : (families : List Declaring) (d : ListedDeclaration) (s : ListedFamily) → Again (family_refusal E families d s)
   family_again families d s =
       or_again (member_limit d s)
       (option_or (bases_refusal families d.text s.is_class false s.bases) (members_refusal E d.text (text_of d.text d.name) [] s.members))
@@ -127,19 +127,19 @@ module _ (S : Scope) (E : Space) (same : space_of_names S.view S.names ≡ E) wh
       (or_again (bases_refusal families d.text s.is_class false s.bases) (members_refusal E d.text (text_of d.text d.name) [] s.members)
       (bases_again families d.text s.is_class false s.bases) (members_again d.text (text_of d.text d.name) [] s.members))
 
-  part_again : (families : List Declaring) (d : Declared) (p : Part) → Again (part_refusal E families d p)
+  part_again : (families : List Declaring) (d : ListedDeclaration) (p : Part) → Again (part_refusal E families d p)
   part_again families d (part.Family s) = family_again families d s
   part_again families d (part.Function y ps) = heading_again d.text false d.name y ps
   part_again families d (part.Import y ps) = heading_again d.text true d.name y ps
   part_again families d (part.Global y) = type_again d.text role.Variable y
 
-  types_again : (all : List Declared) (d : Declared) → Again (type_refusal E all d)
+  types_again : (all : List ListedDeclaration) (d : ListedDeclaration) → Again (type_refusal E all d)
   unfolding type_refusal
   types_again all d = part_again (families_of all) d d.part
 
   -- ---- names
 
-  names_again : (V : RegistrationList) (before : List Declared) (d : Declared) → Again (name_refusal V before d)
+  names_again : (V : RegistrationList) (before : List ListedDeclaration) (d : ListedDeclaration) → Again (name_refusal V before d)
   unfolding name_refusal
   names_again V before d =
       either_again (is_taken V before d) _ _ tt (either_again (is_first_above before d.part) _ _ tt tt)
@@ -154,7 +154,7 @@ module _ (S : Scope) (E : Space) (same : space_of_names S.view S.names ≡ E) wh
   numbered_again p c None h = tt
   numbered_again p c (Some f) h = h c f
 
-  of_family_again : (p : ℕ → Family → Option Refused) (fs : List Family) (before : List Declared) (x : Part)
+  of_family_again : (p : ℕ → Family → Option Refused) (fs : List Family) (before : List ListedDeclaration) (x : Part)
       → ((n : ℕ) (g : Family) → Again (p n g)) → Again (of_family p fs before x)
   of_family_again p fs before (part.Family s) h =
       numbered_again p (length (families_of before)) (slice_get fs (length (families_of before))) h
@@ -162,7 +162,7 @@ module _ (S : Scope) (E : Space) (same : space_of_names S.view S.names ≡ E) wh
   of_family_again p fs before (part.Import y ps) h = tt
   of_family_again p fs before (part.Global y) h = tt
 
-  missing_by_again : (f : Family) (m : Option Method) → Again (missing_by f m)
+  missing_by_again : (f : Family) (m : Option ScriptMethod) → Again (missing_by f m)
   missing_by_again f None = tt
   missing_by_again f (Some m) = tt
 
@@ -181,7 +181,7 @@ module _ (S : Scope) (E : Space) (same : space_of_names S.view S.names ≡ E) wh
       (missing_by_again f (missing_among fs c (of_interfaces (families_at fs f.above))))
       (earlier_again (first_refused (field_refusal fs f) f.fields) (first_refused (method_refusal fs f) f.methods)
       (first_again (field_refusal fs f) f.fields (λ (x : Field). either_again (inherits fs f.base x.name) _ None tt tt))
-      (first_again (method_refusal fs f) f.methods (λ (m : Method). either_again (is_bad_override m (overridden fs f m)) _ None tt tt)))
+      (first_again (method_refusal fs f) f.methods (λ (m : ScriptMethod). either_again (is_bad_override m (overridden fs f m)) _ None tt tt)))
 
   heir_again : (fs : List Family) (c : ℕ) (f : Family) → Again (heir_refusal fs c f)
   unfolding heir_refusal
@@ -189,14 +189,14 @@ module _ (S : Scope) (E : Space) (same : space_of_names S.view S.names ≡ E) wh
 
 -- ---- the phases
 
-module _ (S : Scope) (V : RegistrationList) (all : List Declared) (same : space_of_names S.view S.names ≡ space_of_declared V all) where
+module _ (S : Scope) (V : RegistrationList) (all : List ListedDeclaration) (same : space_of_names S.view S.names ≡ space_of_declared V all) where
   abbrev E : Space
   E = space_of_declared V all
 
   abbrev fs : List Family
   fs = families_in E all
 
-  phase_again : (p : Phase) (before : List Declared) (d : Declared) → IfSome (refusal V all p before d) (IsAskedAgain S)
+  phase_again : (p : Phase) (before : List ListedDeclaration) (d : ListedDeclaration) → IfSome (refusal V all p before d) (IsAskedAgain S)
   phase_again Names before d = names_again S E same V before d
   phase_again Types before d = types_again S E same all d
   phase_again Ancestors before d =

@@ -15,8 +15,8 @@ use Rattle.ang_names_known.specs.declared.host.WantedProperty.TheVariants as pro
 use Rattle.ang_names_known.specs.Host.{property_where}
 use Rattle.ang_names_known.specs.Lookup.{field_named, may_use}
 use Rattle.ang_names_known.specs.Spaces.{family_of_type, type_of_name}
-use Rattle.ang_names_listed.specs.declared.role.Role.{Role}
-use Rattle.ang_names_listed.specs.declared.role.Role.TheVariants as role
+use Rattle.ang_names_listed.specs.declared.role.TypePosition.{TypePosition}
+use Rattle.ang_names_listed.specs.declared.role.TypePosition.TheVariants as role
 use Rattle.ang_names_listed.specs.Sources.{text_of}
 use Rattle.ang_names_listed.specs.Types.{TypeOrError, type_in}
 use Rattle.ang_check_operators.specs.Operands.{Operand, object_of}
@@ -93,7 +93,7 @@ module _ (s : BodyContext) (ps : List LocalVariable) where
   type_uses x (Err kind.UnknownType) h = refused_use kind.UnknownType x asks.Type (ap type_meant h)
   type_uses x (Err _) h = tt
 
-  pub written_uses : (r : Role) (y : TypeName) → Uses (type_or_refusal s ps y.name (type_in (space_of s) r s.text y))
+  pub written_uses : (r : TypePosition) (y : TypeName) → Uses (type_or_refusal s ps y.name (type_in (space_of s) r s.text y))
   written_uses r y = type_uses y.name (type_in (space_of s) r s.text y) (type_refused_so (space_of s) r s.text y)
 
   pub cast_type_uses : (y : TypeName) → Uses (cast_type s ps y)

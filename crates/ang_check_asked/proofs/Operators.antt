@@ -17,12 +17,12 @@ use Rattle.ang_typed.specs.declared.expression.Comparison.{Comparison}
 use Rattle.ang_typed.specs.declared.expression.StepKind.{StepKind}
 use Rattle.ang_typed.specs.declared.expression.StepKind.TheVariants as step
 use Rattle.ang_typed.specs.Typed as t
-use Rattle.ang_check_operators.specs.declared.operand.Seat.{Seat}
-use Rattle.ang_check_operators.specs.declared.operand.Target.{Target}
+use Rattle.ang_check_operators.specs.declared.operand.HandleSite.{HandleSite}
+use Rattle.ang_check_operators.specs.declared.operand.SiteUse.{SiteUse}
 use Rattle.ang_check_operators.specs.declared.forms.Form.{Form}
 use Rattle.ang_check_operators.specs.declared.forms.Form.TheVariants as form
-use Rattle.ang_check_operators.specs.declared.forms.Work.{Work}
-use Rattle.ang_check_operators.specs.declared.forms.Work.TheVariants as work
+use Rattle.ang_check_operators.specs.declared.forms.IntegerOperator.{IntegerOperator}
+use Rattle.ang_check_operators.specs.declared.forms.IntegerOperator.TheVariants as work
 use Rattle.ang_check_operators.specs.Operands.{Operand, fit_by, fit, integer_in, integer, number_in, number, truth_in, truth, identity_in, identity, object_of, site_in, site_or, target_by, target, seat_by, seat}
 use Rattle.ang_check_operators.specs.Refusals.{Typing, ◌>>=◌, refused, fault}
 use Rattle.ang_check_operators.specs.Forms.{binary_form, compound_work}
@@ -81,7 +81,7 @@ site_silent : (place : Place) (x : Option t.Site) → Silent (site_or place x)
 site_silent place None = refl
 site_silent place (Some x) = tt
 
-target_by_silent : (place : Place) (x : Option Target) (e : t.Expr) → Silent (target_by place x e)
+target_by_silent : (place : Place) (x : Option SiteUse) (e : t.Expr) → Silent (target_by place x e)
 target_by_silent place None e = refl
 target_by_silent place (Some x) e =
     either_silent x.read_only (Err (refused why.Const x.name)) (site_or place (site_in e)) refl (site_silent place (site_in e))
@@ -90,7 +90,7 @@ target_silent : (a : Operand) → Silent (target a)
 unfolding target
 target_silent a = target_by_silent a.place a.target a.tree
 
-seat_by_silent : (place : Place) (x : Option Seat) (e : t.Expr) → Silent (seat_by place x e)
+seat_by_silent : (place : Place) (x : Option HandleSite) (e : t.Expr) → Silent (seat_by place x e)
 seat_by_silent place None e = refl
 seat_by_silent place (Some x) e =
     either_silent x.is_object (Err (refused why.Const x.target.name)) (target_by place (Some x.target) e) refl (target_by_silent place (Some x.target) e)
@@ -325,7 +325,7 @@ unfolding reseated
 reseated_silent ancestors a b =
     silent_in (seat a) _ (seat_silent a) (λ x. silent_in (fit ancestors a.ty b) _ (fit_silent ancestors a.ty b) (λ y. tt))
 
-assigned_by_silent : (ancestors : Ancestors) (at : Place) (a b : Operand) (s : Option Seat) → Silent (assigned_by ancestors at a b s)
+assigned_by_silent : (ancestors : Ancestors) (at : Place) (a b : Operand) (s : Option HandleSite) → Silent (assigned_by ancestors at a b s)
 assigned_by_silent ancestors at a b None = assigned_silent ancestors at a b
 assigned_by_silent ancestors at a b (Some s) = reseated_silent ancestors a b
 
@@ -342,7 +342,7 @@ unfolding compound_shift
 compound_shift_silent ancestors op a b =
     silent_in (target a) _ (target_silent a) (λ x. number_and_integer a b _ (λ q r. compound_silent ancestors op a.place x q (raised_type q) b))
 
-assignment_by_silent : (ancestors : Ancestors) (at : Place) (w : Option Work) (a b : Operand) → Silent (assignment_by ancestors at w a b)
+assignment_by_silent : (ancestors : Ancestors) (at : Place) (w : Option IntegerOperator) (a b : Operand) → Silent (assignment_by ancestors at w a b)
 assignment_by_silent ancestors at None a b = assigned_by_silent ancestors at a b a.seat
 assignment_by_silent ancestors at (Some (work.Arithmetic op)) a b = compound_arithmetic_silent ancestors op a b
 assignment_by_silent ancestors at (Some (work.Shift op)) a b = compound_shift_silent ancestors op a b

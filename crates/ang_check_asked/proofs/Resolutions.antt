@@ -9,7 +9,7 @@ use Rattle.ang_types.specs.Best.{best_of}
 use Rattle.ang_types.specs.Ranks.{Ancestors}
 use Rattle.ang_view.specs.Named.{values_named}
 use Rattle.ang_view.specs.Registration.{RegistrationList}
-use Rattle.ang_names_known.specs.declared.host.HostProperty.{HostProperty}
+use Rattle.ang_names_known.specs.declared.host.SeenProperty.{SeenProperty}
 use Rattle.ang_names_known.specs.declared.host.WantedProperty.TheVariants as property
 use Rattle.ang_names_known.specs.declared.names.ScriptGlobal.{ScriptGlobal}
 use Rattle.ang_names_known.specs.declared.space.Named.{Named}
@@ -86,15 +86,15 @@ unfolding value_meant
 value_is V name = among_is V (values_named V name)
 
 module _ (otherwise : Resolution) (is : IsVariable otherwise) where
-  host_is : (host : Option HostProperty) → IsVariable (host_meant otherwise host)
+  host_is : (host : Option SeenProperty) → IsVariable (host_meant otherwise host)
   host_is None = is
   host_is (Some h) = tt
 
-  variable_is : (n : ℕ) (g : Option ScriptGlobal) (host : Option HostProperty) → IsVariable (variable_meant otherwise n g host)
+  variable_is : (n : ℕ) (g : Option ScriptGlobal) (host : Option SeenProperty) → IsVariable (variable_meant otherwise n g host)
   variable_is n None host = host_is host
   variable_is n (Some g) host = tt
 
-  global_is : (gs : List ScriptGlobal) (o : Option ℕ) (host : Option HostProperty) → IsVariable (global_or_host otherwise gs o host)
+  global_is : (gs : List ScriptGlobal) (o : Option ℕ) (host : Option SeenProperty) → IsVariable (global_or_host otherwise gs o host)
   global_is gs None host = host_is host
   global_is gs (Some n) host = variable_is n (slice_get gs n) host
 
@@ -109,7 +109,7 @@ enumeration_is named.Unknown = tt
 enumeration_is (named.Object n) = tt
 enumeration_is (named.Enumeration n) = tt
 
-pub property_is : (h : Option HostProperty) → IsProperty (property_meant h)
+pub property_is : (h : Option SeenProperty) → IsProperty (property_meant h)
 property_is None = tt
 property_is (Some h) = tt
 

@@ -7,21 +7,21 @@ use Rattle.ang_tree.specs.Declarations.{SuperTree}
 use Rattle.ang_tree.specs.Stmt.{Every, Init, Body, Stmts}
 use Rattle.ang_types.specs.declared.asks.Asks.{Asks}
 use Rattle.ang_view.specs.Registration.{RegistrationList}
-use Rattle.ang_names_known.specs.declared.names.Constructor.{Constructor}
+use Rattle.ang_names_known.specs.declared.names.ScriptConstructor.{ScriptConstructor}
 use Rattle.ang_names_known.specs.declared.names.Family.{Family}
-use Rattle.ang_names_known.specs.declared.names.Method.{Method}
+use Rattle.ang_names_known.specs.declared.names.ScriptMethod.{ScriptMethod}
 use Rattle.ang_names_known.specs.declared.names.Names.{Names}
 use Rattle.ang_names_known.specs.declared.names.ScriptFunction.{ScriptFunction}
 use Rattle.ang_names_known.specs.declared.names.ScriptGlobal.{ScriptGlobal}
 use Rattle.ang_names_known.specs.Items.{each_after}
 use Rattle.ang_names_known.specs.Spaces.{Space, space_of_names}
-use Rattle.ang_names_listed.specs.declared.listed.Declared.{Declared}
+use Rattle.ang_names_listed.specs.declared.listed.ListedDeclaration.{ListedDeclaration}
 use Rattle.ang_names_listed.specs.Declarations.{Declaring, declarations_of, families_of, family_name}
 use Rattle.ang_names_classes.specs.Headings.{signatures_of}
 use Rattle.ang_names_classes.specs.Resolved.{families_after, functions_in, families_in, names_of, space_of_declared}
 use Rattle.ang_names_listed.specs.Sources.{Source, name_of}
 use Rattle.ang_names.specs.Phases.{refusals_of}
-use Rattle.ang_check_operators.specs.declared.refusal.Refusal.{Refusal}
+use Rattle.ang_check_operators.specs.declared.refusal.TypingRefusal.{TypingRefusal}
 use Rattle.ang_check_operators.specs.Refusals.{Typing}
 use Rattle.ang_check_context.specs.declared.scope.LocalVariable.{LocalVariable}
 use Rattle.ang_check_context.specs.Scope as context
@@ -39,12 +39,12 @@ use Rattle.ang_check_asked.proofs.Declared.{declarations_again}
 
 -- ---- a body
 
-asks_again : (s : BodyContext) (r : Refusal) (o : Option Asks) → IfSome o (λ (a : Asks). (ps : List LocalVariable) × IsRefusedUse s ps r a)
+asks_again : (s : BodyContext) (r : TypingRefusal) (o : Option Asks) → IfSome o (λ (a : Asks). (ps : List LocalVariable) × IsRefusedUse s ps r a)
     → IfSome o (λ (a : Asks). resolution_of (context.scope_of s) (name_of s.text r.name) a ≡ resolution.Refused r.kind)
 asks_again s r None h = tt
 asks_again s r (Some a) h =
     subst (λ (x : Option Token). resolution_of (context.scope_of s) (name_of s.text x) a ≡ resolution.Refused r.kind)
-    (sym (ap (λ (q : Refusal). q.name) h.1.refusal)) h.1.means_nothing
+    (sym (ap (λ (q : TypingRefusal). q.name) h.1.refusal)) h.1.means_nothing
 
 use_again : {A : Type 0} (s : BodyContext) (x : Typing A) → BodyUses s x → IfSome (refused_by s.text x) (IsAskedAgain (context.scope_of s))
 use_again s (Ok a) h = tt
@@ -64,13 +64,13 @@ module _ (V : RegistrationList) (names : Names) where
   global_again text y i (Some g) =
       let s = context_in V names text None in (use_again s (global_typing s g y i) (global_use s g y i), tt)
 
-  method_again : (c : ℕ) (text : List ℕ) (x : Token) (b : Body) (m : Option Method) → Every Again (judged_method V names c text x b m)
+  method_again : (c : ℕ) (text : List ℕ) (x : Token) (b : Body) (m : Option ScriptMethod) → Every Again (judged_method V names c text x b m)
   method_again c text x b None = tt
   method_again c text x b (Some m) =
       let w = within_of V names c m.read_only in
       let s = context_in V names text (Some w) in (use_again s (method_body_typing s w m.function x b) (method_use s w m.function x b), tt)
 
-  constructor_again : (c : ℕ) (text : List ℕ) (x base : Token) (b : Option ℕ) (u : Option SuperTree) (ss : Stmts) (k : Option Constructor)
+  constructor_again : (c : ℕ) (text : List ℕ) (x base : Token) (b : Option ℕ) (u : Option SuperTree) (ss : Stmts) (k : Option ScriptConstructor)
       → Every Again (judged_constructor V names c text x base b u ss k)
   constructor_again c text x base b u ss None = tt
   constructor_again c text x base b u ss (Some k) =
@@ -105,7 +105,7 @@ same_names E fs all n before (d ∷ ds) = ap (λ xs. family_name d ∷ xs) (same
 space_with : RegistrationList → List (List ℕ) → Space
 space_with V families = record { view = V; families = families }
 
-same_space : (V : RegistrationList) (ds : List Declared) → space_of_names V (names_of V ds) ≡ space_of_declared V ds
+same_space : (V : RegistrationList) (ds : List ListedDeclaration) → space_of_names V (names_of V ds) ≡ space_of_declared V ds
 unfolding space_with names_of families_in
 same_space V ds =
     let E = space_of_declared V ds in

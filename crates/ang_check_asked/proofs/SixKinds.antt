@@ -13,7 +13,7 @@ use Rattle.ang_types.specs.Best.{best_of}
 use Rattle.ang_types.specs.Ranks.{Ancestors}
 use Rattle.ang_view.specs.Named.{values_named}
 use Rattle.ang_view.specs.Registration.{RegistrationList}
-use Rattle.ang_names_known.specs.declared.host.HostProperty.{HostProperty}
+use Rattle.ang_names_known.specs.declared.host.SeenProperty.{SeenProperty}
 use Rattle.ang_names_known.specs.declared.host.WantedProperty.TheVariants as property
 use Rattle.ang_names_known.specs.declared.names.ScriptGlobal.{ScriptGlobal}
 use Rattle.ang_names_known.specs.declared.space.Named.{Named}
@@ -62,15 +62,15 @@ unfolding value_meant
 meant_six V name = among_six V (values_named V name)
 
 module _ (otherwise : Resolution) (six : IsSix otherwise) where
-  host_six : (host : Option HostProperty) → IsSix (host_meant otherwise host)
+  host_six : (host : Option SeenProperty) → IsSix (host_meant otherwise host)
   host_six None = six
   host_six (Some h) = tt
 
-  variable_six : (n : ℕ) (g : Option ScriptGlobal) (host : Option HostProperty) → IsSix (variable_meant otherwise n g host)
+  variable_six : (n : ℕ) (g : Option ScriptGlobal) (host : Option SeenProperty) → IsSix (variable_meant otherwise n g host)
   variable_six n None host = host_six host
   variable_six n (Some g) host = tt
 
-  global_six : (gs : List ScriptGlobal) (o : Option ℕ) (host : Option HostProperty) → IsSix (global_or_host otherwise gs o host)
+  global_six : (gs : List ScriptGlobal) (o : Option ℕ) (host : Option SeenProperty) → IsSix (global_or_host otherwise gs o host)
   global_six gs None host = host_six host
   global_six gs (Some n) host = variable_six n (slice_get gs n) host
 
@@ -79,7 +79,7 @@ unfolding global_meant
 value_six s name =
     global_six (value_meant s.view name) (meant_six s.view name) s.names.globals (global_named s.names.globals name) (property_where (property.Global name) s.view)
 
-property_six : (h : Option HostProperty) → IsSix (property_meant h)
+property_six : (h : Option SeenProperty) → IsSix (property_meant h)
 property_six None = refl
 property_six (Some h) = tt
 

@@ -13,7 +13,7 @@ use Rattle.ang_types.specs.declared.asks.Asks.{Asks}
 use Rattle.ang_types.specs.Ranks.{Ancestors}
 use Rattle.ang_typed.specs.Typed as t
 use Rattle.ang_names_listed.specs.Sources.{text_of}
-use Rattle.ang_check_operators.specs.declared.refusal.Refusal.{Refusal}
+use Rattle.ang_check_operators.specs.declared.refusal.TypingRefusal.{TypingRefusal}
 use Rattle.ang_check_operators.specs.Operands.{Operand, truth}
 use Rattle.ang_check_operators.specs.Refusals.{Typing, ◌>>=◌}
 use Rattle.ang_check_context.specs.declared.scope.LocalVariable.{LocalVariable}
@@ -21,7 +21,7 @@ use Rattle.ang_check_context.specs.Scope.{BodyContext}
 use Rattle.ang_check_typing.specs.Typing.{typing_of, typing_of_all}
 use Rattle.ang_check_stmt.specs.declared.frame.Returns.{Returns}
 use Rattle.ang_check_stmt.specs.declared.frame.Returns.TheVariants as returns
-use Rattle.ang_check_stmt.specs.Typing.{Frame, with_same, optional_typing, expression_typing, condition_typing, optional_condition, steps_typing, local_type, local_name_error, name_judged, local_name, initializer_typing, local_typing, each_local, locals_typing, declaration_typing, value_returned, nothing_returned, return_nothing, return_value, result_typing, return_typing, jump, start_typing, head_typing, block_of, alone, tested_of, either_of, while_of, do_while_of, for_of, stmt_typing, block_typing, stmts_typing}
+use Rattle.ang_check_stmt.specs.Typing.{FunctionContext, with_same, optional_typing, expression_typing, condition_typing, optional_condition, steps_typing, local_type, local_name_error, name_judged, local_name, initializer_typing, local_typing, each_local, locals_typing, declaration_typing, value_returned, nothing_returned, return_nothing, return_value, result_typing, return_typing, jump, start_typing, head_typing, block_of, alone, tested_of, either_of, while_of, do_while_of, for_of, stmt_typing, block_typing, stmts_typing}
 use Rattle.ang_check_asked.specs.Asked.{IsRefusedUse}
 use Rattle.ang_check_asked.proofs.Judged.{Silent, refused_in, unasked}
 use Rattle.ang_check_asked.proofs.Operators.{fit_silent, truth_silent}
@@ -33,13 +33,13 @@ use Rattle.ang_check_asked.proofs.Variables.{local_type_uses, initializer_uses}
 
 module _ (s : BodyContext) where
   -- the refusal of a use, wherever it stands in the body
-  abbrev pub IsBodyUse : Refusal → Type 0
+  abbrev pub IsBodyUse : TypingRefusal → Type 0
   IsBodyUse r = IfSome r.asks (λ (a : Asks). (ps : List LocalVariable) × IsRefusedUse s ps r a)
 
   abbrev pub BodyUses : {A : Type 0} → Typing A → Type 0
   BodyUses x = IfErr x IsBodyUse
 
-  wider : (ps : List LocalVariable) (r : Refusal) (o : Option Asks) → IfSome o (IsRefusedUse s ps r)
+  wider : (ps : List LocalVariable) (r : TypingRefusal) (o : Option Asks) → IfSome o (IsRefusedUse s ps r)
       → IfSome o (λ (a : Asks). (qs : List LocalVariable) × IsRefusedUse s qs r a)
   wider ps r None h = tt
   wider ps r (Some a) h = (ps, h)
@@ -49,7 +49,7 @@ module _ (s : BodyContext) where
   here ps (Err r) h = wider ps r r.asks h
 
   pub none_here : {A : Type 0} (x : Typing A) → Silent x → BodyUses x
-  none_here x h = unasked (λ (r : Refusal) (a : Asks). (ps : List LocalVariable) × IsRefusedUse s ps r a) x h
+  none_here x h = unasked (λ (r : TypingRefusal) (a : Asks). (ps : List LocalVariable) × IsRefusedUse s ps r a) x h
 
   pub then_here : {A B : Type 0} (x : Typing A) (f : A → Typing B) → BodyUses x → ((a : A) → BodyUses (f a)) → BodyUses (x >>= f)
   then_here x f h g = refused_in IsBodyUse x f h g
@@ -80,7 +80,7 @@ name_judged_silent : (why : Option ErrorKind) (x : Token) (name : List ℕ) → 
 name_judged_silent None x name = tt
 name_judged_silent (Some why) x name = refl
 
-local_name_silent : (f : Frame) (start : ℕ) (ps : List LocalVariable) (x : Token) → Silent (local_name f start ps x)
+local_name_silent : (f : FunctionContext) (start : ℕ) (ps : List LocalVariable) (x : Token) → Silent (local_name f start ps x)
 unfolding local_name
 local_name_silent f start ps x = name_judged_silent (local_name_error f start ps (text_of f.context.text x)) x (text_of f.context.text x)
 
@@ -116,7 +116,7 @@ jump_silent false word x = refl
 
 -- ---- in a function
 
-module _ (f : Frame) where
+module _ (f : FunctionContext) where
   abbrev Within : {A : Type 0} → Typing A → Type 0
   Within x = BodyUses f.context x
 

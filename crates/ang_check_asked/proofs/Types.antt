@@ -14,8 +14,8 @@ use Rattle.ang_types.specs.declared.arg_type.ArgType.TheVariants as type
 use Rattle.ang_names_known.specs.declared.space.Named.{Named}
 use Rattle.ang_names_known.specs.declared.space.Named.TheVariants as named
 use Rattle.ang_names_known.specs.Spaces.{Space, type_of_name, is_family_type}
-use Rattle.ang_names_listed.specs.declared.role.Role.{Role}
-use Rattle.ang_names_listed.specs.declared.role.Role.TheVariants as role
+use Rattle.ang_names_listed.specs.declared.role.TypePosition.{TypePosition}
+use Rattle.ang_names_listed.specs.declared.role.TypePosition.TheVariants as role
 use Rattle.ang_names_listed.specs.Sources.{text_of}
 use Rattle.ang_names_listed.specs.Types.{TypeOrError, ◌and_then◌, without_handle, object_type, written_type, no_void, no_object, taken_in, changed, passed, crossing, is_by_value, cast_to, admitted, type_in}
 
@@ -107,7 +107,7 @@ module _ (d : Named) where
   cast_refused (type.Object n c) = tt
   cast_refused (type.Handle n c) = tt
 
-  admitted_refused : (r : Role) (t : ArgType) → Refuses d (admitted r t)
+  admitted_refused : (r : TypePosition) (t : ArgType) → Refuses d (admitted r t)
   admitted_refused role.Result t = value_refused t
   admitted_refused role.Variable t = void_refused t
   admitted_refused role.Field t = then_refused d (no_void t) no_object (void_refused t) value_refused
@@ -118,7 +118,7 @@ module _ (d : Named) where
       (crossing_refused (is_by_value p))
   admitted_refused role.Cast t = cast_refused t
 
-pub type_refused_so : (E : Space) (r : Role) (text : List ℕ) (y : TypeName) → IfErr (type_in E r text y) (IfUnknown (type_of_name E (text_of text y.name)))
+pub type_refused_so : (E : Space) (r : TypePosition) (text : List ℕ) (y : TypeName) → IfErr (type_in E r text y) (IfUnknown (type_of_name E (text_of text y.name)))
 unfolding type_in
 type_refused_so E r text y =
     let d = type_of_name E (text_of text y.name) in

@@ -6,7 +6,7 @@ use Rattle.ang_tree.specs.Stmt.{Init, absent, value, constructor}
 use Rattle.ang_types.specs.declared.arg_type.ArgType.{ArgType}
 use Rattle.ang_types.specs.declared.arg_type.ArgType.TheVariants as type
 use Rattle.ang_types.specs.Ranks.{Ancestors}
-use Rattle.ang_names_listed.specs.declared.role.Role.TheVariants as role
+use Rattle.ang_names_listed.specs.declared.role.TypePosition.TheVariants as role
 use Rattle.ang_check_operators.specs.Operands.{Operand, fit}
 use Rattle.ang_check_operators.specs.Refusals.{Typing}
 use Rattle.ang_check_context.specs.declared.scope.LocalVariable.{LocalVariable}

@@ -6,7 +6,7 @@ use Rattle.ang_lex.specs.declared.token.Token.{Token}
 use Rattle.ang_types.specs.declared.asks.Asks.{Asks}
 use Rattle.ang_types.specs.declared.asks.Refused.{Refused}
 use Rattle.ang_names_listed.specs.Sources.{text_of}
-use Rattle.ang_check_operators.specs.declared.refusal.Refusal.{Refusal}
+use Rattle.ang_check_operators.specs.declared.refusal.TypingRefusal.{TypingRefusal}
 use Rattle.ang_check_operators.specs.Refusals.{use_refused}
 use Rattle.ang_check_context.specs.declared.scope.LocalVariable.{LocalVariable}
 use Rattle.ang_check_context.specs.Scope.{BodyContext, scope_of, is_there}
@@ -20,13 +20,13 @@ IsAskedAgain s r = IfSome r.asks (λ a. resolution_of s r.error.name a ≡ resol
 
 -- The refusal of a use in a body, where these parameters and locals are alive: at its name, which as this means nothing for just this
 -- reason. Of a bare name it says whether a local, a parameter or a member has it too.
-pub record IsRefusedUse (s : BodyContext) (ps : List LocalVariable) (r : Refusal) (a : Asks) : Type 0 where
+pub record IsRefusedUse (s : BodyContext) (ps : List LocalVariable) (r : TypingRefusal) (a : Asks) : Type 0 where
   pub name : Token
   pub means_nothing : resolution_of (scope_of s) (text_of s.text name) a ≡ resolution.Refused r.kind
   pub refusal : r ≡ use_refused r.kind name a (is_bare a && is_there s ps (text_of s.text name))
 
 -- A refusal is such, if it asks anything.
-abbrev pub IsAskedThere : BodyContext → List LocalVariable → Refusal → Type 0
+abbrev pub IsAskedThere : BodyContext → List LocalVariable → TypingRefusal → Type 0
 IsAskedThere s ps r = IfSome r.asks (IsRefusedUse s ps r)
 
 -- ---- errors of uses

@@ -9,7 +9,7 @@ use Rattle.ang_types.specs.declared.arg_type.ArgType.TheVariants as type
 use Rattle.ang_types.specs.declared.asks.Asks.TheVariants as asks
 use Rattle.ang_typed.specs.Typed as t
 use Rattle.ang_check_context.specs.declared.scope.LocalVariable.{LocalVariable}
-use Rattle.ang_names_listed.specs.declared.role.Role.TheVariants as role
+use Rattle.ang_names_listed.specs.declared.role.TypePosition.TheVariants as role
 use Rattle.ang_names_known.specs.Spaces.{family_of_type}
 use Rattle.ang_check_operators.specs.Operands.{Operand, operand, object_of}
 use Rattle.ang_check_operators.specs.Refusals.{Typing, fault, refused, use_refused}

@@ -9,8 +9,8 @@ use Rattle.ang_lex.specs.declared.token.Token.{Token}
 use Rattle.ang_types.specs.declared.arg_type.ArgType.{ArgType}
 use Rattle.ang_types.specs.declared.arg_type.ArgType.TheVariants as type
 use Rattle.ang_types.specs.declared.asks.Asks.TheVariants as asks
-use Rattle.ang_typed.specs.declared.expression.Variable.{Variable}
-use Rattle.ang_typed.specs.declared.expression.Variable.TheVariants as variable
+use Rattle.ang_typed.specs.declared.expression.TypedVariable.{TypedVariable}
+use Rattle.ang_typed.specs.declared.expression.TypedVariable.TheVariants as variable
 use Rattle.ang_typed.specs.Typed as t
 use Rattle.ang_names_known.specs.declared.names.FoundField.{FoundField}
 use Rattle.ang_check_context.specs.declared.scope.LocalVariable.{LocalVariable}
@@ -69,7 +69,7 @@ scoped_name_typing s ps e x =
 
 -- ---- a bare name
 
-abbrev pub variable_at : Token → Variable → ArgType → Bool → Operand
+abbrev pub variable_at : Token → TypedVariable → ArgType → Bool → Operand
 variable_at x v ty read_only = reading x.place (t.named v) ty (record { read_only = read_only; bare = true; name = x })
 
 abbrev pub value_use : BodyContext → Token → Bool → Resolution → Typing Operand

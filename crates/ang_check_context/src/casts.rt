@@ -13,22 +13,22 @@ ghost use Rattle.ang_typed.specs.View.{view_tree};
 use crate::context::{BodyContext, type_or_refusal};
 use crate::receiver::Receiver;
 use crate::scope::Locals;
-use ang_check_operators::{Operand, Stop, boxed, fault, object_of, plain_operand};
+use ang_check_operators::{Operand, TypingError, boxed, fault, object_of, plain_operand};
 use ang_kinds::{ErrorKind, Place};
 use ang_lex::Token;
 use ang_names_known::{Space, family_of_type};
-use ang_names_listed::{Role, type_in};
+use ang_names_listed::{TypePosition, type_in};
 use ang_tree::TypeName;
-use ang_typed::Expression;
+use ang_typed::TypedExpression;
 use ang_types::ArgType;
 use std::alloc::Global;
 
 fn written_type(context: &BodyContext<'_>, declared: &TypeName) -> Result<ArgType, ErrorKind>
     ensures exact { result
-        ≡ types.type_in (scopes.space_of context.now) Role.Cast context.now.text declared.now }
+        ≡ types.type_in (scopes.space_of context.now) TypePosition.Cast context.now.text declared.now }
 {
     let space = Space::of_names(context.view(), context.names());
-    type_in(&space, Role::Cast, context.text(), declared)
+    type_in(&space, TypePosition::Cast, context.text(), declared)
 }
 
 /// The type between the `<` and `>` of a cast. It takes no memory.
@@ -42,7 +42,7 @@ pub fn cast_type(
     context: &BodyContext<'_>,
     locals: &Locals<'_>,
     declared: &TypeName,
-) -> Result<ArgType, Stop>
+) -> Result<ArgType, TypingError>
     ensures exact { Gives (λ ty. ty) result (spec.cast_type context.now locals.now declared.now) }
 {
     let written = written_type(context, declared);
@@ -54,14 +54,14 @@ fn asked(
     place: Place,
     ty: ArgType,
     family: usize,
-    tree: Box<Expression>,
-) -> Result<Operand, Stop>
+    tree: Box<TypedExpression>,
+) -> Result<Operand, TypingError>
     ensures exact { Gives view_operand result
         (Ok (operands.operand place ty (t.cast family (view_tree tree)))) }
 {
     let tree = boxed(
         alloc,
-        Expression::Cast {
+        TypedExpression::Cast {
             family,
             operand: tree,
         },
@@ -76,7 +76,7 @@ fn cast_between(
     to: Receiver,
     written: Operand,
     from: u32,
-) -> Result<Operand, Stop>
+) -> Result<Operand, TypingError>
     ensures exact { Gives view_operand result (spec.cast_between place to.number to.read_only
         (view_operand written) from
         (spaces.family_of_type to.number) (spaces.family_of_type from)) }
@@ -111,7 +111,7 @@ fn cast_between(
 /// `BadConversion` at the operand, where it or the type is no object or handle, or between a host
 /// type and another type. `Memory` where a growth was refused.
 #[tactic(auto, unfolding(crate::specs::Casts::cast_typing))]
-pub fn cast(alloc: Global, word: &Token, ty: ArgType, written: Operand) -> Result<Operand, Stop>
+pub fn cast(alloc: Global, word: &Token, ty: ArgType, written: Operand) -> Result<Operand, TypingError>
     ensures exact { Gives view_operand result
         (spec.cast_typing word.now ty (view_operand written)) }
 {

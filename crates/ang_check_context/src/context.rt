@@ -10,7 +10,7 @@ ghost use Rattle.ang_names_known.specs.Lookup as lookup;
 ghost use Rattle.ang_names_listed.specs.Sources as sources;
 
 use crate::scope::{Locals, Within};
-use ang_check_operators::{Stop, refused, use_refused};
+use ang_check_operators::{TypingError, refused, use_refused};
 use ang_check_uses::{Callables, Resolution, Scope, makers_of, resolution_of};
 use ang_kinds::ErrorKind;
 use ang_lex::Token;
@@ -228,7 +228,7 @@ pub fn type_or_refusal(
     locals: &Locals<'_>,
     name: &Token,
     written: Result<ArgType, ErrorKind>,
-) -> Result<ArgType, Stop>
+) -> Result<ArgType, TypingError>
     ensures exact { Gives (λ ty. ty) result
         (casts.type_or_refusal context.now locals.now name.now written) }
 {

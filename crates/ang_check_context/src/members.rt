@@ -9,12 +9,12 @@ ghost use Rattle.ang_typed.specs.View.{view_tree};
 
 use crate::context::{BodyContext, access_error, may_reach, resolved};
 use crate::receiver::Receiver;
-use ang_check_operators::{Operand, Stop, Target, object_of, reading, refused, use_refused};
+use ang_check_operators::{Operand, TypingError, SiteUse, object_of, reading, refused, use_refused};
 use ang_check_uses::{Resolution, entity_of};
 use ang_kinds::ErrorKind;
 use ang_lex::Token;
 use ang_names_known::{FoundField, family_of_type, is_read_only};
-use ang_typed::{Member, Site};
+use ang_typed::{TypedMember, TypedSite};
 use ang_types::{ArgType, Asks};
 use std::alloc::{AllocError, Global};
 
@@ -23,19 +23,19 @@ fn member_at(
     alloc: Global,
     object: Operand,
     name: &Token,
-    member: Member,
+    member: TypedMember,
     ty: ArgType,
     read_only: bool,
 ) -> Result<Operand, AllocError>
     ensures exact { IfOk result (λ a. view_operand a ≡ spec.member_at (view_operand object)
         name.now (t.member_of (view_tree object.tree) member) ty read_only) }
 {
-    let target = Target {
+    let target = SiteUse {
         read_only,
         bare: false,
         name: *name,
     };
-    let site = Site::Of {
+    let site = TypedSite::Of {
         object: object.tree,
         member,
     };
@@ -48,13 +48,13 @@ fn property_use(
     name: &Token,
     on: Receiver,
     resolution: Resolution,
-) -> Result<Operand, Stop>
+) -> Result<Operand, TypingError>
     ensures exact { Gives view_operand result
         (spec.property_use (view_operand object) name.now on.number on.read_only resolution) }
 {
     match resolution {
         Resolution::Property(host) => {
-            let member = Member::Property(entity_of(host));
+            let member = TypedMember::Property(entity_of(host));
             let read_only = host.read_only || on.read_only;
             Ok(member_at(alloc, object, name, member, host.ty, read_only)?)
         }
@@ -79,7 +79,7 @@ fn field_typing(
     name: &Token,
     read_only: bool,
     found: Option<FoundField>,
-) -> Result<Operand, Stop>
+) -> Result<Operand, TypingError>
     ensures exact { Gives view_operand result
         (spec.field_typing context.now (view_operand object) name.now read_only found) }
 {
@@ -89,7 +89,7 @@ fn field_typing(
     if !may_reach(context, field.owner, field.access) {
         return Err(refused(access_error(field.access), name));
     }
-    let member = Member::Field(field.number);
+    let member = TypedMember::Field(field.number);
     let read_only = is_read_only(field.written) || read_only;
     Ok(member_at(alloc, object, name, member, field.written.ty, read_only)?)
 }
@@ -100,7 +100,7 @@ fn member_of_type(
     object: Operand,
     name: &Token,
     on: Receiver,
-) -> Result<Operand, Stop>
+) -> Result<Operand, TypingError>
     ensures exact { Gives view_operand result (spec.member_of_type context.now (view_operand object)
         name.now on.number on.read_only (spaces.family_of_type on.number)) }
 {
@@ -130,7 +130,7 @@ pub fn member_of(
     context: &BodyContext<'_>,
     object: Operand,
     name: &Token,
-) -> Result<Operand, Stop>
+) -> Result<Operand, TypingError>
     ensures exact { Gives view_operand result
         (spec.member_typing context.now (view_operand object) name.now) }
 {

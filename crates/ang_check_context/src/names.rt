@@ -9,31 +9,31 @@ ghost use Rattle.ang_names_listed.specs.Sources as sources;
 use crate::context::{BodyContext, access_error, is_there, may_reach, resolved};
 use crate::scope::{Locals, Within};
 use crate::values::value_operand;
-use ang_check_operators::{Operand, Stop, Target, reading, refused, use_refused};
+use ang_check_operators::{Operand, TypingError, SiteUse, reading, refused, use_refused};
 use ang_check_uses::Resolution;
 use ang_kinds::ErrorKind;
 use ang_lex::Token;
 use ang_names_known::{FoundField, is_read_only};
-use ang_typed::{Site, Variable};
+use ang_typed::{TypedSite, TypedVariable};
 use ang_types::{ArgType, Asks};
 use std::alloc::{AllocError, Global};
 
 fn variable_at(
     alloc: Global,
     name: &Token,
-    variable: Variable,
+    variable: TypedVariable,
     ty: ArgType,
     read_only: bool,
 ) -> Result<Operand, AllocError>
     ensures exact { IfOk result
         (λ a. view_operand a ≡ spec.variable_at name.now variable ty read_only) }
 {
-    let target = Target {
+    let target = SiteUse {
         read_only,
         bare: true,
         name: *name,
     };
-    reading(alloc, name.place, Site::Named(variable), ty, target)
+    reading(alloc, name.place, TypedSite::Named(variable), ty, target)
 }
 
 /// The refusal of a use of the name as a value. Only then are the locals gone through once more.
@@ -42,8 +42,8 @@ fn value_refused(
     locals: &Locals<'_>,
     kind: ErrorKind,
     name: &Token,
-) -> Stop
-    ensures exact { result ≡ Stop.Refused (refusal_of kind name.now Asks.Value
+) -> TypingError
+    ensures exact { result ≡ TypingError.Refused (refusal_of kind name.now Asks.Value
         (scopes.is_there context.now locals.now (sources.text_of context.now.text name.now))) }
 {
     let is_there = is_there(context, locals, context.text_of(name));
@@ -56,7 +56,7 @@ fn value_use(
     locals: &Locals<'_>,
     name: &Token,
     resolution: Resolution,
-) -> Result<Operand, Stop>
+) -> Result<Operand, TypingError>
     ensures exact { Gives view_operand result (spec.value_use context.now name.now
         (scopes.is_there context.now locals.now (sources.text_of context.now.text name.now))
         resolution) }
@@ -95,7 +95,7 @@ fn own_field(
     name: &Token,
     within: Within,
     field: FoundField,
-) -> Result<Operand, Stop>
+) -> Result<Operand, TypingError>
     ensures exact { Gives view_operand result
         (spec.field_or_global context.now name.now false (Some (within, field))) }
 {
@@ -103,7 +103,7 @@ fn own_field(
         return Err(refused(access_error(field.access), name));
     }
     let read_only = is_read_only(field.written) || within.read_only;
-    let variable = Variable::Field(field.number);
+    let variable = TypedVariable::Field(field.number);
     Ok(variable_at(alloc, name, variable, field.written.ty, read_only)?)
 }
 
@@ -113,7 +113,7 @@ fn field_or_global(
     locals: &Locals<'_>,
     name: &Token,
     found: Option<(Within, FoundField)>,
-) -> Result<Operand, Stop>
+) -> Result<Operand, TypingError>
     ensures exact { Gives view_operand result (spec.field_or_global context.now name.now
         (scopes.is_there context.now locals.now (sources.text_of context.now.text name.now))
         found) }
@@ -142,7 +142,7 @@ fn local_named(
     let Some(local) = locals.get(number) else {
         return Ok(None);
     };
-    let variable = Variable::Local(number);
+    let variable = TypedVariable::Local(number);
     let operand = variable_at(alloc, token, variable, local.ty, local.read_only)?;
     Ok(Some(operand))
 }
@@ -161,7 +161,7 @@ pub fn named(
     context: &BodyContext<'_>,
     locals: &Locals<'_>,
     token: &Token,
-) -> Result<Operand, Stop>
+) -> Result<Operand, TypingError>
     ensures exact { Gives view_operand result (spec.name_typing context.now locals.now token.now) }
 {
     let name = context.text_of(token);

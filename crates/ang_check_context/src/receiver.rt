@@ -7,11 +7,11 @@ ghost use Rattle.ang_names_known.specs.Spaces as spaces;
 
 use crate::context::BodyContext;
 use crate::scope::Within;
-use ang_check_operators::{Operand, Stop, boxed, plain_operand, refused};
+use ang_check_operators::{Operand, TypingError, boxed, plain_operand, refused};
 use ang_kinds::{ErrorKind, Place};
 use ang_lex::Token;
 use ang_names_known::family_type;
-use ang_typed::{Expression, Site, Variable};
+use ang_typed::{TypedExpression, TypedSite, TypedVariable};
 use ang_types::ArgType;
 use std::alloc::{AllocError, Global};
 
@@ -56,8 +56,8 @@ pub fn this_operand(alloc: Global, place: Place, within: Within) -> Result<Opera
     ensures exact { IfOk result (λ a. view_operand a ≡ names.this_operand place within) }
 {
     let ty = own_type(within);
-    let site = Site::Named(Variable::Local(0));
-    let tree = boxed(alloc, Expression::Read { site, ty })?;
+    let site = TypedSite::Named(TypedVariable::Local(0));
+    let tree = boxed(alloc, TypedExpression::Read { site, ty })?;
     Ok(plain_operand(place, ty, tree))
 }
 
@@ -67,7 +67,7 @@ pub fn this_operand(alloc: Global, place: Place, within: Within) -> Result<Opera
 ///
 /// `UnknownName` in any other body. `Memory` where a growth was refused.
 #[tactic(auto, unfolding(crate::specs::Names::this_typing))]
-pub fn this(alloc: Global, context: &BodyContext<'_>, token: &Token) -> Result<Operand, Stop>
+pub fn this(alloc: Global, context: &BodyContext<'_>, token: &Token) -> Result<Operand, TypingError>
     ensures exact { Gives view_operand result (names.this_typing context.now token.now) }
 {
     match context.within() {

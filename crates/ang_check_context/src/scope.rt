@@ -3,7 +3,7 @@ ghost use Rattle.std.specs.Prelude.{◌≡◌, ◌-◌, ◌++◌, ◌∷◌, [],
 ghost use Rattle.ang_check_context.specs.Numbered.{AreNumbered};
 
 use ang_index::Index;
-use ang_names_known::Text;
+use ang_names_known::BorrowedText;
 use ang_types::ArgType;
 use std::alloc::{AllocError, Global};
 use std::marker::Model;
@@ -12,7 +12,7 @@ use std::marker::Model;
 #[derive(Drop)]
 pub struct LocalVariable<'a> {
     /// Its name, empty for a parameter without one and for `this`.
-    pub name: Text<'a>,
+    pub name: BorrowedText<'a>,
     /// Its type.
     pub ty: ArgType,
     /// Whether it can't be assigned.

@@ -8,11 +8,11 @@ ghost use Rattle.ang_names_listed.specs.Sources as sources;
 
 use crate::context::{BodyContext, is_there, resolved};
 use crate::scope::Locals;
-use ang_check_operators::{Operand, Stop, boxed, plain_operand, refused, use_refused};
+use ang_check_operators::{Operand, TypingError, boxed, plain_operand, refused, use_refused};
 use ang_check_uses::{EnumerationValue, Resolution, value_of};
 use ang_kinds::{ErrorKind, Place, Prim};
 use ang_lex::Token;
-use ang_typed::Expression;
+use ang_typed::TypedExpression;
 use ang_types::{ArgType, Asks};
 use std::alloc::{AllocError, Global};
 
@@ -38,7 +38,7 @@ pub(crate) fn value_operand(
     };
     let tree = boxed(
         alloc,
-        Expression::Number {
+        TypedExpression::Number {
             ty: Prim::I32,
             value: int_bits(value.number),
         },
@@ -51,7 +51,7 @@ fn value_or_unknown(
     enumeration: &Token,
     name: &Token,
     found: Option<EnumerationValue>,
-) -> Result<Operand, Stop>
+) -> Result<Operand, TypingError>
     ensures exact { Gives view_operand result
         (spec.value_or_unknown enumeration.now name.now found) }
 {
@@ -67,8 +67,8 @@ fn enumeration_refused(
     locals: &Locals<'_>,
     kind: ErrorKind,
     name: &Token,
-) -> Stop
-    ensures exact { result ≡ Stop.Refused (refusal_of kind name.now Asks.Enumeration
+) -> TypingError
+    ensures exact { result ≡ TypingError.Refused (refusal_of kind name.now Asks.Enumeration
         (scopes.is_there context.now locals.now (sources.text_of context.now.text name.now))) }
 {
     let is_there = is_there(context, locals, context.text_of(name));
@@ -82,7 +82,7 @@ fn scoped_name_use(
     enumeration: &Token,
     name: &Token,
     resolution: Resolution,
-) -> Result<Operand, Stop>
+) -> Result<Operand, TypingError>
     ensures exact { Gives view_operand result
         (spec.scoped_name_use context.now enumeration.now name.now
         (scopes.is_there context.now locals.now
@@ -121,7 +121,7 @@ pub fn scoped_name(
     locals: &Locals<'_>,
     enumeration: &Token,
     name: &Token,
-) -> Result<Operand, Stop>
+) -> Result<Operand, TypingError>
     ensures exact { Gives view_operand result
         (spec.scoped_name_typing context.now locals.now enumeration.now name.now) }
 {

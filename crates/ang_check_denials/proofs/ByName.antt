@@ -22,7 +22,7 @@ use Rattle.ang_view.specs.Named.{is_value, is_value_named, values_named}
 use Rattle.ang_view.specs.Registration.{RegistrationList, entry_at, is_function, is_function_named, is_host_type, is_number, is_type, seen}
 use Rattle.ang_view.specs.Types.{is_enumeration, is_enumeration_named, is_type_named}
 use Rattle.ang_view.proofs.Lists.{and_gives}
-use Rattle.ang_names_known.specs.declared.host.HostProperty.{HostProperty}
+use Rattle.ang_names_known.specs.declared.host.SeenProperty.{SeenProperty}
 use Rattle.ang_names_known.specs.declared.host.Wanted.TheVariants as wanted
 use Rattle.ang_names_known.specs.declared.host.WantedProperty.{WantedProperty}
 use Rattle.ang_names_known.specs.declared.host.WantedProperty.TheVariants as property
@@ -123,11 +123,11 @@ method_name ancestors cs args R name x n (Some y) e =
     let others = and_gives (is_number n y.owner) (bytes_eq y.signature.name name) parts.1 in
     own_meant is_method refl R y name parts.0 others.1
 
-own_wins : (x : ℕ) (o seen : Option HostProperty) → is_property_of x seen ≡ false → is_property_of x (added_property o seen) ≡ true → is_some o ≡ true
+own_wins : (x : ℕ) (o seen : Option SeenProperty) → is_property_of x seen ≡ false → is_property_of x (added_property o seen) ≡ true → is_some o ≡ true
 own_wins x None seen f e = let no' : false ≡ true = sym f ∙ e in cc
 own_wins x (Some p) seen f e = refl
 
-some_wanted : (b : Bool) (o : Option HostProperty) → is_some (cond b o None) ≡ true → b ≡ true
+some_wanted : (b : Bool) (o : Option SeenProperty) → is_some (cond b o None) ≡ true → b ≡ true
 some_wanted true o e = refl
 some_wanted false o e = cc
 
@@ -139,7 +139,7 @@ global_name R name x (Some y) e =
     own_meant is_global refl R y name parts.0 parts.1
 
 -- of a bare name that means an entry, which is a property or a value, the property that is seen is none
-bare_name : (R : RegistrationList) (s : Scope) (name : List ℕ) (x : ℕ) (own seen : Option HostProperty) → own ≡ property_found (property.Global name) R x (entry_at R x)
+bare_name : (R : RegistrationList) (s : Scope) (name : List ℕ) (x : ℕ) (own seen : Option SeenProperty) → own ≡ property_found (property.Global name) R x (entry_at R x)
     → is_property_of x seen ≡ false → value_wins R s name x (added_property own seen) ≡ true → name_meant R (entry_at R x) ≡ name
 bare_name R s name x (Some p) seen is f e = global_name R name x (entry_at R x) (ap is_some (sym is))
 bare_name R s name x None (Some h) is f e = let no' : false ≡ true = sym f ∙ e in cc
@@ -166,7 +166,7 @@ numbered w V k (Some y) = by_test (is_wanted_property w y) (host_type V y.signat
     by_test true None = tt
     by_test true (Some t) = refl
 
-first_apart : (x n : ℕ) (o r : Option HostProperty) → IfSome o (λ h. h.entity.0 ≡ n) → (n ≡ x → o ≡ None) → is_property_of x r ≡ false
+first_apart : (x n : ℕ) (o r : Option SeenProperty) → IfSome o (λ h. h.entity.0 ≡ n) → (n ≡ x → o ≡ None) → is_property_of x r ≡ false
     → is_property_of x (option_or o r) ≡ false
 first_apart x n None r e f rest = rest
 first_apart x n (Some p) r e f rest = same_number p.entity.0 x (λ s. let no' : Some p ≡ None = f (sym e ∙ s) in cc)

@@ -19,14 +19,14 @@ use Rattle.ang_view.specs.Hidden.{seen_with}
 use Rattle.ang_view.specs.Registration.{RegistrationList, entry_at, is_function_named, is_number, seen}
 use Rattle.ang_view.specs.Named.{values_named}
 use Rattle.ang_view.specs.Types.{is_enumeration_named, is_type_named}
-use Rattle.ang_names_known.specs.declared.host.HostFunction.{HostFunction}
-use Rattle.ang_names_known.specs.declared.host.HostProperty.{HostProperty}
+use Rattle.ang_names_known.specs.declared.host.SeenFunction.{SeenFunction}
+use Rattle.ang_names_known.specs.declared.host.SeenProperty.{SeenProperty}
 use Rattle.ang_names_known.specs.declared.host.Wanted.TheVariants as wanted
 use Rattle.ang_names_known.specs.declared.host.WantedProperty.{WantedProperty}
 use Rattle.ang_names_known.specs.declared.host.WantedProperty.TheVariants as property
 use Rattle.ang_names_known.specs.declared.names.Default.{Default}
 use Rattle.ang_names_known.specs.declared.names.Default.TheVariants as default
-use Rattle.ang_names_known.specs.declared.names.Constructor.{Constructor}
+use Rattle.ang_names_known.specs.declared.names.ScriptConstructor.{ScriptConstructor}
 use Rattle.ang_names_known.specs.declared.names.Family.{Family}
 use Rattle.ang_names_known.specs.declared.names.ScriptFunction.{ScriptFunction}
 use Rattle.ang_names_known.specs.declared.names.ScriptGlobal.{ScriptGlobal}
@@ -66,21 +66,21 @@ second_of_two false c e = cc
 
 -- ---- values and properties
 
-meant_member : (x : ℕ) (h : Option HostProperty) → means_entry x (property_meant h) ≡ is_property_of x h
+meant_member : (x : ℕ) (h : Option SeenProperty) → means_entry x (property_meant h) ≡ is_property_of x h
 meant_member x None = refl
 meant_member x (Some h) = refl
 
 module _ (R : RegistrationList) (s : Scope) (name : List ℕ) (x : ℕ) (otherwise : Resolution) (meant : means_entry x otherwise ≡ value_wins R s name x None) where
-  meant_property : (h : Option HostProperty) → means_entry x (host_meant otherwise h) ≡ value_wins R s name x h
+  meant_property : (h : Option SeenProperty) → means_entry x (host_meant otherwise h) ≡ value_wins R s name x h
   meant_property None = meant
   meant_property (Some h) = refl
 
-  meant_variable : (n : ℕ) (g : Option ScriptGlobal) (h : Option HostProperty)
+  meant_variable : (n : ℕ) (g : Option ScriptGlobal) (h : Option SeenProperty)
       → means_entry x (variable_meant otherwise n g h) ≡ (not (is_some g) && value_wins R s name x h)
   meant_variable n None h = meant_property h
   meant_variable n (Some g) h = refl
 
-  meant_value : (gs : List ScriptGlobal) (o : Option ℕ) (h : Option HostProperty)
+  meant_value : (gs : List ScriptGlobal) (o : Option ℕ) (h : Option SeenProperty)
       → means_entry x (global_or_host otherwise gs o h) ≡ (not (has_place gs o) && value_wins R s name x h)
   meant_value gs None h = meant_property h
   meant_value gs (Some n) h = meant_variable n (slice_get gs n) h
@@ -153,7 +153,7 @@ module _ (x : ℕ) where
   apart_default c default.Unwritten = (refl, tt)
   apart_default c (default.Written body) = (refl, tt)
 
-  apart_constructors : (c : ℕ) (ks : List Constructor) → Apart x (map (constructor_of c) ks)
+  apart_constructors : (c : ℕ) (ks : List ScriptConstructor) → Apart x (map (constructor_of c) ks)
   apart_constructors c [] = tt
   apart_constructors c (k ∷ ks) = (refl, apart_constructors c ks)
 
@@ -188,7 +188,7 @@ meant_method x ancestors (d ∷ cs) n c args =
 
 -- ---- what wins was wanted
 
-pub wins_wanted : (ancestors : Ancestors) (cand : HostFunction → Candidate) (cs : List Candidate) (args : List ArgType) (b : Bool) (o : Option HostFunction)
+pub wins_wanted : (ancestors : Ancestors) (cand : SeenFunction → Candidate) (cs : List Candidate) (args : List ArgType) (b : Bool) (o : Option SeenFunction)
     → wins ancestors cand cs args (cond b o None) ≡ true → b ≡ true
 wins_wanted ancestors cand cs args true o e = refl
 wins_wanted ancestors cand cs args false o e = cc

@@ -13,7 +13,7 @@ use Rattle.ang_types.proofs.BestLaws.{best_of-says, is_best-Decides}
 use Rattle.ang_types.proofs.PlaceLaws.{same_at_its_place}
 use Rattle.ang_view.specs.Hidden.{seen_with}
 use Rattle.ang_view.specs.Registration.{RegistrationList, entry_at, seen}
-use Rattle.ang_names_known.specs.declared.host.HostFunction.{HostFunction}
+use Rattle.ang_names_known.specs.declared.host.SeenFunction.{SeenFunction}
 use Rattle.ang_names_known.specs.declared.host.Wanted.{Wanted}
 use Rattle.ang_names_known.specs.Added.{added, put_in}
 use Rattle.ang_names_known.specs.Host.{found, host_where}
@@ -120,18 +120,18 @@ module _ (ancestors : Ancestors) (k : ErrorKind) (x : ℕ) (args : List ArgType)
 -- ---- what the host has
 
 -- none of these has the number
-abbrev pub ApartHosts : ℕ → List HostFunction → Type 0
+abbrev pub ApartHosts : ℕ → List SeenFunction → Type 0
 ApartHosts x [] = Unit {0}
 ApartHosts x (g ∷ gs) = (g.entity.0 ≢ x) × ApartHosts x gs
 
 -- where one is put in
-record Split (f : HostFunction) (gs : List HostFunction) : Type 0 where
-  before : List HostFunction
-  after : List HostFunction
+record Split (f : SeenFunction) (gs : List SeenFunction) : Type 0 where
+  before : List SeenFunction
+  after : List SeenFunction
   others : gs ≡ before ++ after
   all : put_in f gs ≡ before ++ f ∷ after
 
-split : (f : HostFunction) (gs : List HostFunction) → Split f gs
+split : (f : SeenFunction) (gs : List SeenFunction) → Split f gs
 split f [] = record { before = []; after = []; others = refl; all = refl }
 split f (g ∷ gs) = by_test (nat_lt f.entity.0 g.entity.0) (split f gs) refl
   where
@@ -139,11 +139,11 @@ split f (g ∷ gs) = by_test (nat_lt f.entity.0 g.entity.0) (split f gs) refl
     by_test true s e = record { before = []; after = g ∷ gs; others = refl; all = rw e refl }
     by_test false s e = record { before = g ∷ s.before; after = s.after; others = ap (λ r. g ∷ r) s.others; all = rw e (ap (λ r. g ∷ r) s.all) }
 
-apart_parts : (x : ℕ) (bs cs : List HostFunction) → ApartHosts x (bs ++ cs) → ApartHosts x bs × ApartHosts x cs
+apart_parts : (x : ℕ) (bs cs : List SeenFunction) → ApartHosts x (bs ++ cs) → ApartHosts x bs × ApartHosts x cs
 apart_parts x [] cs a = (tt, a)
 apart_parts x (b ∷ bs) cs a = let r = apart_parts x bs cs a.1 in ((a.0, r.0), r.1)
 
-apart_more : (x n : ℕ) (o : Option HostFunction) (rest : List HostFunction) → IfSome o (λ h. h.entity.0 ≡ n) → (o ≡ None ⊎ (n ≢ x)) → ApartHosts x rest → ApartHosts x (option_to_list o ++ rest)
+apart_more : (x n : ℕ) (o : Option SeenFunction) (rest : List SeenFunction) → IfSome o (λ h. h.entity.0 ≡ n) → (o ≡ None ⊎ (n ≢ x)) → ApartHosts x rest → ApartHosts x (option_to_list o ++ rest)
 apart_more x n None rest e ne a = a
 apart_more x n (Some h) rest e (inl f) a = cc
 apart_more x n (Some h) rest e (inr ne) a = (λ g. ne (sym e ∙ g), a)
@@ -151,7 +151,7 @@ apart_more x n (Some h) rest e (inr ne) a = (λ g. ne (sym e ∙ g), a)
 same_or : (n x : ℕ) → (n ≡ x) ⊎ (n ≢ x)
 same_or n x = grind arith
 
-scan_apart : (G : ℕ → Option HostFunction) (x : ℕ) → HaveNumbers G → G x ≡ None → (n l : ℕ) → ApartHosts x (scan_n G n l)
+scan_apart : (G : ℕ → Option SeenFunction) (x : ℕ) → HaveNumbers G → G x ≡ None → (n l : ℕ) → ApartHosts x (scan_n G n l)
 unfolding scan_n
 scan_apart G x b isnt n zero = tt
 scan_apart G x b isnt n (suc l) =
@@ -168,26 +168,26 @@ seen_apart R m x w hidden =
 -- ---- functions of the host after others
 
 -- what is called is the function itself
-abbrev pub CallsItself : (HostFunction → Callable) → Type 0
-CallsItself conv = (x : ℕ) (f : HostFunction) → is_called x (conv f).called ≡ (f.entity.0 == x)
+abbrev pub CallsItself : (SeenFunction → Callable) → Type 0
+CallsItself conv = (x : ℕ) (f : SeenFunction) → is_called x (conv f).called ≡ (f.entity.0 == x)
 
-abbrev pub HasCandidate : (HostFunction → Callable) → (HostFunction → Candidate) → Type 0
-HasCandidate conv cand = (f : HostFunction) → (conv f).candidate ≡ cand f
+abbrev pub HasCandidate : (SeenFunction → Callable) → (SeenFunction → Candidate) → Type 0
+HasCandidate conv cand = (f : SeenFunction) → (conv f).candidate ≡ cand f
 
-pub candidates_map : (conv : HostFunction → Callable) (cand : HostFunction → Candidate) → HasCandidate conv cand → (fs : List HostFunction)
+pub candidates_map : (conv : SeenFunction → Callable) (cand : SeenFunction → Candidate) → HasCandidate conv cand → (fs : List SeenFunction)
     → candidates_of (map conv fs) ≡ map cand fs
 candidates_map conv cand h [] = refl
 candidates_map conv cand h (f ∷ fs) = let here = h f in let rest = candidates_map conv cand h fs in λ i. here i ∷ rest i
 
-apart_hosts : (conv : HostFunction → Callable) → CallsItself conv → (x : ℕ) (fs : List HostFunction) → ApartHosts x fs → Apart x (map conv fs)
+apart_hosts : (conv : SeenFunction → Callable) → CallsItself conv → (x : ℕ) (fs : List SeenFunction) → ApartHosts x fs → Apart x (map conv fs)
 apart_hosts conv h x [] a = tt
 apart_hosts conv h x (f ∷ fs) a = (h x f ∙ same_number f.entity.0 x a.0, apart_hosts conv h x fs a.1)
 
 is_itself : (n x : ℕ) → n ≡ x → (n == x) ≡ true
 is_itself n x e = search (arith, e)
 
-module _ (ancestors : Ancestors) (k : ErrorKind) (conv : HostFunction → Callable) (cand : HostFunction → Candidate) (h : CallsItself conv) (c : HasCandidate conv cand) (front : List Callable) (args : List ArgType) where
-  by_split : (x : ℕ) (f : HostFunction) (gs : List HostFunction) → f.entity.0 ≡ x → Apart x front → ApartHosts x gs → Split f gs
+module _ (ancestors : Ancestors) (k : ErrorKind) (conv : SeenFunction → Callable) (cand : SeenFunction → Candidate) (h : CallsItself conv) (c : HasCandidate conv cand) (front : List Callable) (args : List ArgType) where
+  by_split : (x : ℕ) (f : SeenFunction) (gs : List SeenFunction) → f.entity.0 ≡ x → Apart x front → ApartHosts x gs → Split f gs
       → means_entry x (best_of_those ancestors k (front ++ map conv (put_in f gs)) args) ≡ is_best ancestors (cand f ∷ candidates_of (front ++ map conv gs)) args 0
   by_split x f gs e a b s =
       let parts = apart_parts x s.before s.after (subst (ApartHosts x) s.others b) in
@@ -205,7 +205,7 @@ module _ (ancestors : Ancestors) (k : ErrorKind) (conv : HostFunction → Callab
       ∙ ap (λ d. is_best ancestors (d ∷ candidates_of (bs ++ cs)) args 0) (c f)
       ∙ sym (ap (λ ds. is_best ancestors (cand f ∷ candidates_of ds) args 0) others)
 
-  by_found : (x : ℕ) (o : Option HostFunction) (gs : List HostFunction) → IfSome o (λ f. f.entity.0 ≡ x) → Apart x front → ApartHosts x gs
+  by_found : (x : ℕ) (o : Option SeenFunction) (gs : List SeenFunction) → IfSome o (λ f. f.entity.0 ≡ x) → Apart x front → ApartHosts x gs
       → means_entry x (best_of_those ancestors k (front ++ map conv (added o gs)) args) ≡ wins ancestors cand (candidates_of (front ++ map conv gs)) args o
   by_found x None gs e a b = none_meant ancestors k x args (front ++ map conv gs) (apart_append x front (map conv gs) a (apart_hosts conv h x gs b))
   by_found x (Some f) gs e a b = by_split x f gs e a b (split f gs)

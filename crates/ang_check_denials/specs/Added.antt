@@ -15,8 +15,8 @@ use Rattle.ang_view.specs.Hidden.{is_with, seen_with}
 use Rattle.ang_view.specs.Registration.{RegistrationList, entry_at, is_function_named}
 use Rattle.ang_view.specs.Named.{is_value_named, values_named}
 use Rattle.ang_view.specs.Types.{is_enumeration_named, is_type_named}
-use Rattle.ang_names_known.specs.declared.host.HostFunction.{HostFunction}
-use Rattle.ang_names_known.specs.declared.host.HostProperty.{HostProperty}
+use Rattle.ang_names_known.specs.declared.host.SeenFunction.{SeenFunction}
+use Rattle.ang_names_known.specs.declared.host.SeenProperty.{SeenProperty}
 use Rattle.ang_names_known.specs.declared.host.Wanted.{Wanted}
 use Rattle.ang_names_known.specs.declared.host.Wanted.TheVariants as wanted
 use Rattle.ang_names_known.specs.declared.host.WantedProperty.{WantedProperty}
@@ -36,10 +36,10 @@ use Rattle.ang_check_denials.specs.Names.{is_a_type_named}
 -- ---- what is seen beside the entry that is added
 
 -- a function or a factory, and a method with its receiver in front, as candidates
-abbrev pub plain : HostFunction → Candidate
+abbrev pub plain : SeenFunction → Candidate
 plain f = record { params = f.params }
 
-abbrev pub with_receiver : ℕ → HostFunction → Candidate
+abbrev pub with_receiver : ℕ → SeenFunction → Candidate
 with_receiver n f = record { params = (type.Object n f.read_only, pass.RefInOut) ∷ f.params }
 
 abbrev pub factories : RegistrationList → ℕ → List Candidate
@@ -68,7 +68,7 @@ types_of (asks.Property n) = []
 types_of (asks.Method n c args) = type.Object n c ∷ args
 
 -- the property that is seen
-abbrev pub property_for : Scope → List ℕ → Asks → Option HostProperty
+abbrev pub property_for : Scope → List ℕ → Asks → Option SeenProperty
 property_for s name asks.Value = property_where (property.Global name) s.view
 property_for s name asks.Type = None
 property_for s name asks.Enumeration = None
@@ -108,12 +108,12 @@ has_place xs (Some n) = is_some (slice_get xs n)
 abbrev pub has_global : List ScriptGlobal → List ℕ → Bool
 has_global gs name = has_place gs (global_named gs name)
 
-abbrev pub is_property_of : ℕ → Option HostProperty → Bool
+abbrev pub is_property_of : ℕ → Option SeenProperty → Bool
 is_property_of x None = false
 is_property_of x (Some h) = h.entity.0 == x
 
 -- the property that is wanted would be that of entry x, beside the one that is seen
-abbrev pub property_wins : RegistrationList → ℕ → WantedProperty → Option HostProperty → Bool
+abbrev pub property_wins : RegistrationList → ℕ → WantedProperty → Option SeenProperty → Bool
 property_wins R x w seen = is_property_of x (added_property (property_found w R x (entry_at R x)) seen)
 
 -- entry x is a value of the name, of some enumeration
@@ -121,16 +121,16 @@ abbrev pub is_value_at : List ℕ → ℕ → Option Entry → Bool
 is_value_at name x o = is_value_named name o && is_some (value_in x o)
 
 -- what a bare name means that no global of the script has: this property, else entry x, where that is the only value of the name
-abbrev pub value_wins : RegistrationList → Scope → List ℕ → ℕ → Option HostProperty → Bool
+abbrev pub value_wins : RegistrationList → Scope → List ℕ → ℕ → Option SeenProperty → Bool
 value_wins R s name x None = is_value_at name x (entry_at R x) && is_empty (values_named s.view name)
 value_wins R s name x (Some h) = h.entity.0 == x
 
 -- a function that is found would be the best beside some candidates
-abbrev pub wins : Ancestors → (HostFunction → Candidate) → List Candidate → List ArgType → Option HostFunction → Bool
+abbrev pub wins : Ancestors → (SeenFunction → Candidate) → List Candidate → List ArgType → Option SeenFunction → Bool
 wins ancestors candidate cs args None = false
 wins ancestors candidate cs args (Some f) = is_best ancestors (candidate f ∷ cs) args 0
 
-abbrev pub found_in : RegistrationList → ℕ → Wanted → Option HostFunction
+abbrev pub found_in : RegistrationList → ℕ → Wanted → Option SeenFunction
 found_in R x w = found w R x (entry_at R x)
 
 abbrev pub is_number_of : ℕ → Named → Bool

@@ -7,8 +7,8 @@ use Rattle.ang_kinds.specs.declared.mask.Mask.{Mask}
 use Rattle.ang_types.specs.declared.asks.Asks.{Asks}
 use Rattle.ang_types.specs.declared.asks.Asks.TheVariants as asks
 use Rattle.ang_types.specs.declared.asks.Refused.{Refused}
-use Rattle.ang_typed.specs.declared.expression.Variable.{Variable}
-use Rattle.ang_typed.specs.declared.expression.Variable.TheVariants as variable
+use Rattle.ang_typed.specs.declared.expression.TypedVariable.{TypedVariable}
+use Rattle.ang_typed.specs.declared.expression.TypedVariable.TheVariants as variable
 use Rattle.ang_view.specs.declared.entry.Entry.{Entry}
 use Rattle.ang_view.specs.Hidden.{is_hidden, is_unmet, is_with, numbers_of, seen_with}
 use Rattle.ang_view.specs.Registration.{RegistrationList, entry_at, is_function}
@@ -22,7 +22,7 @@ use Rattle.ang_check_uses.specs.Uses.{Scope, resolution_of, functions_of}
 
 -- ---- what a use means
 
-abbrev pub is_variable : ℕ → Variable → Bool
+abbrev pub is_variable : ℕ → TypedVariable → Bool
 is_variable x (variable.Local n) = false
 is_variable x (variable.Global n) = false
 is_variable x (variable.Property h) = h.entity.0 == x

@@ -10,7 +10,7 @@ ghost use Rattle.ang_check_denials.specs.Names as names;
 use crate::masked::Masked;
 use crate::named::types_named;
 use ang_check_uses::{Scope, functions_of, host_methods, types_with_receiver};
-use ang_names_known::{HostProperty, Text, Wanted, WantedProperty, host_where, property_where};
+use ang_names_known::{SeenProperty, BorrowedText, Wanted, WantedProperty, host_where, property_where};
 use ang_types::{ArgType, Asks, Candidate, Rivals};
 use ang_view::View;
 use std::alloc::{AllocError, Global};
@@ -23,7 +23,7 @@ pub struct Beside {
     /// The types of all arguments, a receiver's in front.
     pub types: Vec<ArgType>,
     /// The property that is seen.
-    pub property: Option<HostProperty>,
+    pub property: Option<SeenProperty>,
     /// Whether there are functions of the name, which a hidden one would join.
     pub joined: bool,
     /// The object types and the enumerations of the name in the whole list, seen or hidden, by their numbers.
@@ -72,7 +72,7 @@ fn of_candidates(
 fn of_property(
     alloc: Global,
     scope: &Scope<'_>,
-    property: Option<HostProperty>,
+    property: Option<SeenProperty>,
     named: Vec<u32>,
 ) -> Result<Beside, AllocError>
     ensures rivals { IfOk result (λ b. AreRivals b.rivals scope.now.ancestors [] []) }
@@ -177,7 +177,7 @@ pub fn beside_of(
     let named = types_named(alloc, masked.whole(), name)?;
     match asks {
         Asks::Value => {
-            let wanted = WantedProperty::Global(Text::new(name));
+            let wanted = WantedProperty::Global(BorrowedText::new(name));
             of_property(alloc, scope, property_where(scope.view(), &wanted), named)
         }
         Asks::Type | Asks::Enumeration => of_property(alloc, scope, None, named),
@@ -185,7 +185,7 @@ pub fn beside_of(
         Asks::Make(number, args) => of_factories(alloc, scope, *number, args.as_slice(), named),
         Asks::Default(number) => of_factories(alloc, scope, *number, &[], named),
         Asks::Property(number) => {
-            let wanted = WantedProperty::Member(*number, Text::new(name));
+            let wanted = WantedProperty::Member(*number, BorrowedText::new(name));
             of_property(alloc, scope, property_where(scope.view(), &wanted), named)
         }
         Asks::Method(number, read_only, args) => {

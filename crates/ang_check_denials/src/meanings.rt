@@ -21,7 +21,7 @@ use crate::named::{is_a_type_named, is_called_by, is_enumeration_named, named_wi
 use ang_check_uses::{Scope, params_with_receiver, takes_number};
 use ang_kinds::EntityNo;
 use ang_names_known::{
-    HostProperty, Named, Names, Text, Wanted, WantedProperty, family_of_type, found_at, property_at,
+    SeenProperty, Named, Names, BorrowedText, Wanted, WantedProperty, family_of_type, found_at, property_at,
 };
 use ang_types::{ArgType, Asks, Lineage, Rivals};
 use ang_view::{EntryKind, View};
@@ -38,7 +38,7 @@ fn has_global(names: &Names, name: &[u8]) -> bool
 }
 
 /// Of the property of the entry that is added, and of the one that is seen, the one of the lower number.
-fn first_property(added: Option<HostProperty>, seen: Option<HostProperty>) -> Option<HostProperty>
+fn first_property(added: Option<SeenProperty>, seen: Option<SeenProperty>) -> Option<SeenProperty>
     ensures exact { result ≡ added_property added seen }
 {
     match (added, seen) {
@@ -55,7 +55,7 @@ fn first_property(added: Option<HostProperty>, seen: Option<HostProperty>) -> Op
 }
 
 /// Whether a property is that of the entry of this number.
-fn is_property_of(property: Option<HostProperty>, number: u32) -> bool
+fn is_property_of(property: Option<SeenProperty>, number: u32) -> bool
     ensures exact { result ≡ spec.is_property_of number property }
 {
     match property {
@@ -69,7 +69,7 @@ fn property_wins(
     masked: &Masked<'_>,
     added: u32,
     wanted: &WantedProperty<'_>,
-    seen: Option<HostProperty>,
+    seen: Option<SeenProperty>,
 ) -> bool
     ensures exact { result ≡ spec.property_wins masked.now.list added wanted.now seen }
 {
@@ -105,7 +105,7 @@ fn value_wins(
     scope: &Scope<'_>,
     name: &[u8],
     added: u32,
-    property: Option<HostProperty>,
+    property: Option<SeenProperty>,
 ) -> bool
     ensures exact { result
         ≡ spec.value_wins masked.now.list scope.now name.now added property }
@@ -122,14 +122,14 @@ fn value_means(
     scope: &Scope<'_>,
     added: u32,
     name: &[u8],
-    seen: Option<HostProperty>,
+    seen: Option<SeenProperty>,
 ) -> bool
     ensures exact { result ≡ (not (spec.has_global scope.now.names.globals name.now)
         && spec.value_wins masked.now.list scope.now name.now added (added_property
         (property_found (sought_property.Global name.now) masked.now.list added
         (entry_at masked.now.list added)) seen)) }
 {
-    let wanted = WantedProperty::Global(Text::new(name));
+    let wanted = WantedProperty::Global(BorrowedText::new(name));
     let found = property_at(masked.whole(), &wanted, EntityNo(added));
     !has_global(scope.names(), name)
         && value_wins(masked, scope, name, added, first_property(found, seen))
@@ -231,7 +231,7 @@ fn method_wins(
         won ≡ spec.wins lineage.now (spec.with_receiver number) cs beside.now.types.items
         (spec.found_in masked.now.list added (sought.Method number name.now))) }
 {
-    let wanted = Wanted::Method(number, Text::new(name));
+    let wanted = Wanted::Method(number, BorrowedText::new(name));
     match found_at(alloc, masked.whole(), &wanted, EntityNo(added))? {
         None => Ok(false),
         Some(function) => {
@@ -293,7 +293,7 @@ fn call_wins(
         Named::Object(number) => factory_wins(alloc, masked, scope, added, number, types),
         Named::Enumeration(number) => Ok(number == added && takes_number(types)),
         Named::Unknown => {
-            let wanted = Wanted::Function(Text::new(name));
+            let wanted = Wanted::Function(BorrowedText::new(name));
             let lineage = scope.lineage();
             wins(
                 alloc,
@@ -375,7 +375,7 @@ pub fn adds(
             )
         }
         Asks::Property(number) => {
-            let wanted = WantedProperty::Member(*number, Text::new(name));
+            let wanted = WantedProperty::Member(*number, BorrowedText::new(name));
             Ok(property_wins(masked, added, &wanted, beside.property))
         }
         Asks::Method(number, _, _) => {

@@ -6,8 +6,8 @@ use Rattle.ang_typed.specs.declared.expression.Operator.TheVariants as op
 use Rattle.ang_typed.specs.declared.expression.Comparison.TheVariants as cmp
 use Rattle.ang_check_operators.specs.declared.forms.Form.{Form}
 use Rattle.ang_check_operators.specs.declared.forms.Form.TheVariants.{Works, Order, Equality, And, Or, Xor, Same, Differ}
-use Rattle.ang_check_operators.specs.declared.forms.Work.{Work}
-use Rattle.ang_check_operators.specs.declared.forms.Work.TheVariants.{Arithmetic, Shift}
+use Rattle.ang_check_operators.specs.declared.forms.IntegerOperator.{IntegerOperator}
+use Rattle.ang_check_operators.specs.declared.forms.IntegerOperator.TheVariants.{Arithmetic, Shift}
 
 -- the binary operators
 abbrev pub binary_form : TokenKind → Option Form
@@ -36,7 +36,7 @@ binary_form k.Or = Some Or
 binary_form _ = None
 
 -- the operators of compound assignments
-abbrev pub compound_work : TokenKind → Option Work
+abbrev pub compound_work : TokenKind → Option IntegerOperator
 compound_work k.PlusAssign = Some (Arithmetic op.Add)
 compound_work k.MinusAssign = Some (Arithmetic op.Subtract)
 compound_work k.StarAssign = Some (Arithmetic op.Multiply)

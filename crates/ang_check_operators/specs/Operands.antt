@@ -10,8 +10,8 @@ use Rattle.ang_types.specs.declared.arg_type.ArgType.TheVariants as type
 use Rattle.ang_types.specs.Integers.{is_integer}
 use Rattle.ang_types.specs.Ranks.{Ancestors, rank_of}
 use Rattle.ang_typed.specs.Typed as t
-use Rattle.ang_check_operators.specs.declared.operand.Seat.{Seat}
-use Rattle.ang_check_operators.specs.declared.operand.Target.{Target}
+use Rattle.ang_check_operators.specs.declared.operand.HandleSite.{HandleSite}
+use Rattle.ang_check_operators.specs.declared.operand.SiteUse.{SiteUse}
 use Rattle.ang_check_operators.specs.Refusals.{Typing, ◌>>=◌, fault, refused}
 
 -- An expression that was typed: the place of its first token, its type, its resolved tree, how the site that its tree reads may be used,
@@ -20,15 +20,15 @@ pub record Operand : Type 0 where
   pub place : Place
   pub ty : ArgType
   pub tree : t.Expr
-  pub target : Option Target
-  pub seat : Option Seat
+  pub target : Option SiteUse
+  pub seat : Option HandleSite
 
 -- an expression that is no site
 abbrev pub operand : Place → ArgType → t.Expr → Operand
 operand place ty e = record { place = place; ty = ty; tree = e; target = None; seat = None }
 
 -- an expression that reads a site
-abbrev pub reading : Place → t.Site → ArgType → Target → Operand
+abbrev pub reading : Place → t.Site → ArgType → SiteUse → Operand
 reading place site ty x = record { place = place; ty = ty; tree = t.read site ty; target = Some x; seat = None }
 
 -- ---- conversions
@@ -108,7 +108,7 @@ abbrev pub site_or : Place → Option t.Site → Typing t.Site
 site_or place None = Err (fault kind.BadConversion place)
 site_or place (Some x) = Ok x
 
-abbrev pub target_by : Place → Option Target → t.Expr → Typing t.Site
+abbrev pub target_by : Place → Option SiteUse → t.Expr → Typing t.Site
 target_by place None e = Err (fault kind.BadConversion place)
 target_by place (Some x) e = if x.read_only then Err (refused kind.Const x.name) else site_or place (site_in e)
 
@@ -117,7 +117,7 @@ target_by place (Some x) e = if x.read_only then Err (refused kind.Const x.name)
 unfoldable pub target : Operand → Typing t.Site
 target a = target_by a.place a.target a.tree
 
-abbrev pub seat_by : Place → Option Seat → t.Expr → Typing t.Site
+abbrev pub seat_by : Place → Option HandleSite → t.Expr → Typing t.Site
 seat_by place None e = Err (fault kind.BadConversion place)
 seat_by place (Some s) e = if s.is_object then Err (refused kind.Const s.target.name) else target_by place (Some s.target) e
 

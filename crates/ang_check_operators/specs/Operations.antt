@@ -20,12 +20,12 @@ use Rattle.ang_typed.specs.declared.expression.Comparison.TheVariants as cmp
 use Rattle.ang_typed.specs.declared.expression.StepKind.{StepKind}
 use Rattle.ang_typed.specs.declared.expression.StepKind.TheVariants as step
 use Rattle.ang_typed.specs.Typed as t
-use Rattle.ang_check_operators.specs.declared.operand.Seat.{Seat}
-use Rattle.ang_check_operators.specs.declared.operand.Target.{Target}
+use Rattle.ang_check_operators.specs.declared.operand.HandleSite.{HandleSite}
+use Rattle.ang_check_operators.specs.declared.operand.SiteUse.{SiteUse}
 use Rattle.ang_check_operators.specs.declared.forms.Form.{Form}
 use Rattle.ang_check_operators.specs.declared.forms.Form.TheVariants as form
-use Rattle.ang_check_operators.specs.declared.forms.Work.{Work}
-use Rattle.ang_check_operators.specs.declared.forms.Work.TheVariants as work
+use Rattle.ang_check_operators.specs.declared.forms.IntegerOperator.{IntegerOperator}
+use Rattle.ang_check_operators.specs.declared.forms.IntegerOperator.TheVariants as work
 use Rattle.ang_check_operators.specs.Refusals.{Typing, ◌>>=◌, fault}
 use Rattle.ang_check_operators.specs.Operands.{Operand, operand, fit, integer, number, truth, identity, object_of, target, seat}
 use Rattle.ang_check_operators.specs.Forms.{binary_form, compound_work}
@@ -181,7 +181,7 @@ opposite place a = do
   x ← truth a
   Ok (operand place (type.Plain p.Bool) (t.not x))
 
-abbrev pub seat_of : Bool → Option Target → Option Seat
+abbrev pub seat_of : Bool → Option SiteUse → Option HandleSite
 seat_of is_object None = None
 seat_of is_object (Some x) = Some (record { target = x; is_object = is_object })
 
@@ -238,7 +238,7 @@ unfoldable pub convert_typing : Ancestors → Token → Operand → Typing Opera
 convert_typing ancestors word a = converted_by ancestors word word.kind a
 
 -- In parentheses a name is still a target, but no bare name, and `@` names no site.
-abbrev pub inside : Option Target → Option Target
+abbrev pub inside : Option SiteUse → Option SiteUse
 inside None = None
 inside (Some x) = Some (record x { bare = false })
 
@@ -323,7 +323,7 @@ reseated ancestors a b = do
   y ← fit ancestors a.ty b
   Ok (operand a.place a.ty (t.assign x a.ty y))
 
-abbrev pub assigned_by : Ancestors → Place → Operand → Operand → Option Seat → Typing Operand
+abbrev pub assigned_by : Ancestors → Place → Operand → Operand → Option HandleSite → Typing Operand
 assigned_by ancestors at a b None = assigned ancestors at a b
 assigned_by ancestors at a b (Some s) = reseated ancestors a b
 
@@ -347,7 +347,7 @@ compound_shift ancestors op a b = do
   r ← integer b
   compound_in ancestors op a.place x q (raised_type q) b
 
-abbrev pub assignment_by : Ancestors → Place → Option Work → Operand → Operand → Typing Operand
+abbrev pub assignment_by : Ancestors → Place → Option IntegerOperator → Operand → Operand → Typing Operand
 assignment_by ancestors at None a b = assigned_by ancestors at a b a.seat
 assignment_by ancestors at (Some (work.Arithmetic op)) a b = compound_arithmetic ancestors op a b
 assignment_by ancestors at (Some (work.Shift op)) a b = compound_shift ancestors op a b

@@ -5,12 +5,12 @@ ghost use Rattle.ang_check_operators.specs.View.{view_operand};
 ghost use Rattle.ang_check_operators.specs.Operations as spec;
 ghost use Rattle.ang_typed.specs.View.{view_site};
 
-use crate::forms::{Work, compound_work};
+use crate::forms::{IntegerOperator, compound_work};
 use crate::trees::{assign, compound};
-use crate::{Operand, Seat, Stop, fault, fit, integer, number, plain_operand, seat, target};
+use crate::{Operand, HandleSite, TypingError, fault, fit, integer, number, plain_operand, seat, target};
 use ang_kinds::{ErrorKind, Place, Prim};
 use ang_lex::Token;
-use ang_typed::{Operator, Site};
+use ang_typed::{Operator, TypedSite};
 use ang_types::{ArgType, Lineage, common};
 use std::alloc::Global;
 
@@ -20,10 +20,10 @@ fn assign_in(
     lineage: &Lineage,
     at: Place,
     place: Place,
-    site: Site,
+    site: TypedSite,
     value: Operand,
     ty: ArgType,
-) -> Result<Operand, Stop>
+) -> Result<Operand, TypingError>
     ensures exact { Gives view_operand result
         (spec.assign_in lineage.now at place (view_site site) (view_operand value) ty) }
 {
@@ -49,7 +49,7 @@ fn assigned(
     at: Place,
     written: Operand,
     value: Operand,
-) -> Result<Operand, Stop>
+) -> Result<Operand, TypingError>
     ensures exact { Gives view_operand result
         (spec.assigned lineage.now at (view_operand written) (view_operand value)) }
 {
@@ -65,7 +65,7 @@ fn reseated(
     lineage: &Lineage,
     written: Operand,
     value: Operand,
-) -> Result<Operand, Stop>
+) -> Result<Operand, TypingError>
     ensures exact { Gives view_operand result
         (spec.reseated lineage.now (view_operand written) (view_operand value)) }
 {
@@ -82,8 +82,8 @@ fn assigned_by(
     at: Place,
     written: Operand,
     value: Operand,
-    seat: Option<Seat>,
-) -> Result<Operand, Stop>
+    seat: Option<HandleSite>,
+) -> Result<Operand, TypingError>
     ensures exact { Gives view_operand result
         (spec.assigned_by lineage.now at (view_operand written) (view_operand value) seat) }
 {
@@ -99,11 +99,11 @@ fn compound_in(
     lineage: &Lineage,
     operator: Operator,
     place: Place,
-    site: Site,
+    site: TypedSite,
     ty: Prim,
     operating: Prim,
     value: Operand,
-) -> Result<Operand, Stop>
+) -> Result<Operand, TypingError>
     ensures exact { Gives view_operand result (spec.compound_in lineage.now operator place
         (view_site site) ty operating (view_operand value)) }
 {
@@ -119,7 +119,7 @@ fn compound_arithmetic(
     operator: Operator,
     written: Operand,
     value: Operand,
-) -> Result<Operand, Stop>
+) -> Result<Operand, TypingError>
     ensures exact { Gives view_operand result (spec.compound_arithmetic lineage.now operator
         (view_operand written) (view_operand value)) }
 {
@@ -139,7 +139,7 @@ fn compound_shift(
     operator: Operator,
     written: Operand,
     value: Operand,
-) -> Result<Operand, Stop>
+) -> Result<Operand, TypingError>
     ensures exact { Gives view_operand result (spec.compound_shift lineage.now operator
         (view_operand written) (view_operand value)) }
 {
@@ -156,10 +156,10 @@ fn assignment_by(
     alloc: Global,
     lineage: &Lineage,
     at: Place,
-    work: Option<Work>,
+    work: Option<IntegerOperator>,
     written: Operand,
     value: Operand,
-) -> Result<Operand, Stop>
+) -> Result<Operand, TypingError>
     ensures exact { Gives view_operand result
         (spec.assignment_by lineage.now at work (view_operand written) (view_operand value)) }
 {
@@ -168,10 +168,10 @@ fn assignment_by(
             let seat = written.seat;
             assigned_by(alloc, lineage, at, written, value, seat)
         }
-        Some(Work::Arithmetic(operator)) => {
+        Some(IntegerOperator::Arithmetic(operator)) => {
             compound_arithmetic(alloc, lineage, operator, written, value)
         }
-        Some(Work::Shift(operator)) => compound_shift(alloc, lineage, operator, written, value),
+        Some(IntegerOperator::Shift(operator)) => compound_shift(alloc, lineage, operator, written, value),
     }
 }
 
@@ -190,7 +190,7 @@ pub fn assignment(
     written: Operand,
     operator: &Token,
     value: Operand,
-) -> Result<Operand, Stop>
+) -> Result<Operand, TypingError>
     ensures exact { Gives view_operand result (spec.assignment_typing lineage.now
         (view_operand written) operator.now (view_operand value)) }
 {

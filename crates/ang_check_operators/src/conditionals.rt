@@ -6,9 +6,9 @@ ghost use Rattle.ang_check_operators.specs.Operations as spec;
 ghost use Rattle.ang_typed.specs.View.{view_tree};
 
 use crate::trees::choose;
-use crate::{Operand, Stop, fault, fit, integer, object_of, plain_operand, truth};
+use crate::{Operand, TypingError, fault, fit, integer, object_of, plain_operand, truth};
 use ang_kinds::{ErrorKind, Place, Prim};
-use ang_typed::Expression;
+use ang_typed::TypedExpression;
 use ang_types::{ArgType, Lineage, common, rank};
 use std::alloc::Global;
 
@@ -18,10 +18,10 @@ fn choice_as(
     lineage: &Lineage,
     ty: ArgType,
     place: Place,
-    condition: Box<Expression>,
+    condition: Box<TypedExpression>,
     chosen: Operand,
     otherwise: Operand,
-) -> Result<Operand, Stop>
+) -> Result<Operand, TypingError>
     ensures exact { Gives view_operand result (spec.choice_as lineage.now ty place
         (view_tree condition) (view_operand chosen) (view_operand otherwise)) }
 {
@@ -35,10 +35,10 @@ fn choice_of_integers(
     alloc: Global,
     lineage: &Lineage,
     place: Place,
-    condition: Box<Expression>,
+    condition: Box<TypedExpression>,
     chosen: Operand,
     otherwise: Operand,
-) -> Result<Operand, Stop>
+) -> Result<Operand, TypingError>
     ensures exact { Gives view_operand result (spec.choice_of_integers lineage.now place
         (view_tree condition) (view_operand chosen) (view_operand otherwise)) }
 {
@@ -63,10 +63,10 @@ fn choice_of(
     alloc: Global,
     lineage: &Lineage,
     place: Place,
-    condition: Box<Expression>,
+    condition: Box<TypedExpression>,
     chosen: Operand,
     otherwise: Operand,
-) -> Result<Operand, Stop>
+) -> Result<Operand, TypingError>
     ensures exact { Gives view_operand result (spec.choice_of lineage.now place
         (view_tree condition) (view_operand chosen) (view_operand otherwise)) }
 {
@@ -84,11 +84,11 @@ fn choice_of_objects(
     alloc: Global,
     lineage: &Lineage,
     place: Place,
-    condition: Box<Expression>,
+    condition: Box<TypedExpression>,
     chosen: Operand,
     otherwise: Operand,
     object: Option<(u32, bool)>,
-) -> Result<Operand, Stop>
+) -> Result<Operand, TypingError>
     ensures exact { Gives view_operand result (spec.choice_of_objects lineage.now place
         (view_tree condition) (view_operand chosen) (view_operand otherwise) object) }
 {
@@ -103,12 +103,12 @@ fn choice_of_enumerations(
     alloc: Global,
     lineage: &Lineage,
     place: Place,
-    condition: Box<Expression>,
+    condition: Box<TypedExpression>,
     chosen: Operand,
     otherwise: Operand,
     number: u32,
     other: ArgType,
-) -> Result<Operand, Stop>
+) -> Result<Operand, TypingError>
     ensures exact { Gives view_operand result (spec.choice_of_enumerations lineage.now place
         (view_tree condition) (view_operand chosen) (view_operand otherwise) number other) }
 {
@@ -126,10 +126,10 @@ fn choice(
     alloc: Global,
     lineage: &Lineage,
     place: Place,
-    condition: Box<Expression>,
+    condition: Box<TypedExpression>,
     chosen: Operand,
     otherwise: Operand,
-) -> Result<Operand, Stop>
+) -> Result<Operand, TypingError>
     ensures exact { Gives view_operand result (spec.choice lineage.now place
         (view_tree condition) (view_operand chosen) (view_operand otherwise)) }
 {
@@ -166,7 +166,7 @@ pub fn conditional(
     condition: Operand,
     chosen: Operand,
     otherwise: Operand,
-) -> Result<Operand, Stop>
+) -> Result<Operand, TypingError>
     ensures exact { Gives view_operand result (spec.conditional_typing lineage.now
         (view_operand condition) (view_operand chosen) (view_operand otherwise)) }
 {

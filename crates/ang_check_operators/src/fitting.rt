@@ -7,10 +7,10 @@ ghost use Rattle.ang_check_operators.specs.Refusals.{Gives};
 ghost use Rattle.ang_typed.specs.View.{view_site, view_tree};
 ghost use Rattle.ang_check_operators.specs.View.{view_operand};
 
-use crate::operand::{Operand, Seat, Target, boxed};
-use crate::refusal::{Stop, fault, refused};
+use crate::operand::{Operand, HandleSite, SiteUse, boxed};
+use crate::refusal::{TypingError, fault, refused};
 use ang_kinds::{ErrorKind, Place, Prim};
-use ang_typed::{Expression, Site};
+use ang_typed::{TypedExpression, TypedSite};
 use ang_types::{ArgType, Lineage, rank};
 use std::alloc::{AllocError, Global};
 
@@ -19,15 +19,15 @@ fn conversion(
     alloc: Global,
     from: ArgType,
     to: ArgType,
-    tree: Box<Expression>,
-) -> Result<Box<Expression>, AllocError>
+    tree: Box<TypedExpression>,
+) -> Result<Box<TypedExpression>, AllocError>
     ensures exact { IfOk result (λ e. view_tree e ≡ spec.conversion from to (view_tree tree)) }
 {
     match (from, to) {
         (ArgType::Plain(from), ArgType::Plain(to)) => {
             boxed(
                 alloc,
-                Expression::Convert {
+                TypedExpression::Convert {
                     from,
                     to,
                     operand: tree,
@@ -37,7 +37,7 @@ fn conversion(
         (ArgType::Enumeration { .. }, ArgType::Plain(to)) => {
             boxed(
                 alloc,
-                Expression::Convert {
+                TypedExpression::Convert {
                     from: Prim::I32,
                     to,
                     operand: tree,
@@ -60,7 +60,7 @@ pub fn fit(
     lineage: &Lineage,
     ty: ArgType,
     operand: Operand,
-) -> Result<Box<Expression>, Stop>
+) -> Result<Box<TypedExpression>, TypingError>
     ensures exact { Gives view_tree result (spec.fit lineage.now ty (view_operand operand)) }
 {
     match rank(lineage, operand.ty, ty) {
@@ -76,7 +76,7 @@ pub fn fit(
 ///
 /// `BadConversion` at its first token where it has none. It takes no memory.
 #[tactic(auto, unfolding(crate::specs::Operands::integer))]
-pub fn integer(operand: &Operand) -> Result<Prim, Stop>
+pub fn integer(operand: &Operand) -> Result<Prim, TypingError>
     ensures exact { Gives (λ p. p) result (spec.integer (view_operand operand.now)) }
     ensures kind { IfOk result (λ p. IsInteger p) }
 {
@@ -97,7 +97,7 @@ pub fn integer(operand: &Operand) -> Result<Prim, Stop>
 ///
 /// `BadConversion` at its first token where it has none. It takes no memory.
 #[tactic(auto, unfolding(crate::specs::Operands::number))]
-pub fn number(operand: &Operand) -> Result<Prim, Stop>
+pub fn number(operand: &Operand) -> Result<Prim, TypingError>
     ensures exact { Gives (λ p. p) result (spec.number (view_operand operand.now)) }
     ensures kind { IfOk result (λ p. IsInteger p) }
 {
@@ -118,7 +118,7 @@ pub fn number(operand: &Operand) -> Result<Prim, Stop>
 ///
 /// `NotBool` at its first token where it is none. It takes no memory.
 #[tactic(auto, unfolding(crate::specs::Operands::truth))]
-pub fn truth(operand: Operand) -> Result<Box<Expression>, Stop>
+pub fn truth(operand: Operand) -> Result<Box<TypedExpression>, TypingError>
     ensures exact { Gives view_tree result (spec.truth (view_operand operand)) }
 {
     match operand.ty {
@@ -145,7 +145,7 @@ pub fn object_of(ty: ArgType) -> Option<(u32, bool)>
 ///
 /// `BadConversion` at its first token where it is none. It takes no memory.
 #[tactic(auto, unfolding(crate::specs::Operands::identity))]
-pub fn identity(operand: Operand) -> Result<Box<Expression>, Stop>
+pub fn identity(operand: Operand) -> Result<Box<TypedExpression>, TypingError>
     ensures exact { Gives view_tree result (spec.identity (view_operand operand)) }
 {
     match operand.ty {
@@ -157,16 +157,16 @@ pub fn identity(operand: Operand) -> Result<Box<Expression>, Stop>
 }
 
 /// The site that a tree reads. It takes no memory.
-pub fn site_in(tree: Box<Expression>) -> Option<Site>
+pub fn site_in(tree: Box<TypedExpression>) -> Option<TypedSite>
     ensures exact { option_map view_site result ≡ spec.site_in (view_tree tree) }
 {
     match Box::into_inner(tree) {
-        Expression::Read { site, .. } => Some(site),
+        TypedExpression::Read { site, .. } => Some(site),
         _ => None,
     }
 }
 
-fn site_or(place: Place, site: Option<Site>) -> Result<Site, Stop>
+fn site_or(place: Place, site: Option<TypedSite>) -> Result<TypedSite, TypingError>
     ensures exact { Gives view_site result (spec.site_or place (option_map view_site site)) }
 {
     match site {
@@ -175,7 +175,7 @@ fn site_or(place: Place, site: Option<Site>) -> Result<Site, Stop>
     }
 }
 
-fn target_by(place: Place, target: Option<Target>, tree: Box<Expression>) -> Result<Site, Stop>
+fn target_by(place: Place, target: Option<SiteUse>, tree: Box<TypedExpression>) -> Result<TypedSite, TypingError>
     ensures exact { Gives view_site result (spec.target_by place target (view_tree tree)) }
 {
     match target {
@@ -192,13 +192,13 @@ fn target_by(place: Place, target: Option<Target>, tree: Box<Expression>) -> Res
 /// `Const` at the name of one that can't be, and `BadConversion` at the first token of any other expression. It
 /// takes no memory.
 #[tactic(auto, unfolding(crate::specs::Operands::target))]
-pub fn target(written: Operand) -> Result<Site, Stop>
+pub fn target(written: Operand) -> Result<TypedSite, TypingError>
     ensures exact { Gives view_site result (spec.target (view_operand written)) }
 {
     target_by(written.place, written.target, written.tree)
 }
 
-fn seat_by(place: Place, seat: Option<Seat>, tree: Box<Expression>) -> Result<Site, Stop>
+fn seat_by(place: Place, seat: Option<HandleSite>, tree: Box<TypedExpression>) -> Result<TypedSite, TypingError>
     ensures exact { Gives view_site result (spec.seat_by place seat (view_tree tree)) }
 {
     match seat {
@@ -214,7 +214,7 @@ fn seat_by(place: Place, seat: Option<Seat>, tree: Box<Expression>) -> Result<Si
 ///
 /// As of `target`, and `Const` also at the name of a variable that is an object. It takes no memory.
 #[tactic(auto, unfolding(crate::specs::Operands::seat))]
-pub fn seat(written: Operand) -> Result<Site, Stop>
+pub fn seat(written: Operand) -> Result<TypedSite, TypingError>
     ensures exact { Gives view_site result (spec.seat (view_operand written)) }
 {
     seat_by(written.place, written.seat, written.tree)

@@ -7,7 +7,7 @@ use ang_typed::{Comparison, Operator};
 
 /// What an operator with a result of the operands' kind does.
 #[derive(Clone, Copy)]
-pub enum Work {
+pub enum IntegerOperator {
     /// Works on two integers in their common type.
     Arithmetic(Operator),
     /// Works on two integers in the left one's type, raised.
@@ -18,7 +18,7 @@ pub enum Work {
 #[derive(Clone, Copy)]
 pub enum Form {
     /// Works on two integers.
-    Works(Work),
+    Works(IntegerOperator),
     /// Compares two integers.
     Order(Comparison),
     /// Compares two integers or two truth values.
@@ -40,17 +40,17 @@ pub fn binary_form(operator: TokenKind) -> Option<Form>
     ensures exact { result ≡ spec.binary_form operator }
 {
     let form = match operator {
-        TokenKind::Star => Form::Works(Work::Arithmetic(Operator::Multiply)),
-        TokenKind::Slash => Form::Works(Work::Arithmetic(Operator::Divide)),
-        TokenKind::Percent => Form::Works(Work::Arithmetic(Operator::Remainder)),
-        TokenKind::Plus => Form::Works(Work::Arithmetic(Operator::Add)),
-        TokenKind::Minus => Form::Works(Work::Arithmetic(Operator::Subtract)),
-        TokenKind::Ampersand => Form::Works(Work::Arithmetic(Operator::BitAnd)),
-        TokenKind::Caret => Form::Works(Work::Arithmetic(Operator::BitXor)),
-        TokenKind::Pipe => Form::Works(Work::Arithmetic(Operator::BitOr)),
-        TokenKind::ShiftLeft => Form::Works(Work::Shift(Operator::ShiftLeft)),
-        TokenKind::ShiftRight => Form::Works(Work::Shift(Operator::ShiftRight)),
-        TokenKind::ShiftRightArithmetic => Form::Works(Work::Shift(Operator::ShiftRightArithmetic)),
+        TokenKind::Star => Form::Works(IntegerOperator::Arithmetic(Operator::Multiply)),
+        TokenKind::Slash => Form::Works(IntegerOperator::Arithmetic(Operator::Divide)),
+        TokenKind::Percent => Form::Works(IntegerOperator::Arithmetic(Operator::Remainder)),
+        TokenKind::Plus => Form::Works(IntegerOperator::Arithmetic(Operator::Add)),
+        TokenKind::Minus => Form::Works(IntegerOperator::Arithmetic(Operator::Subtract)),
+        TokenKind::Ampersand => Form::Works(IntegerOperator::Arithmetic(Operator::BitAnd)),
+        TokenKind::Caret => Form::Works(IntegerOperator::Arithmetic(Operator::BitXor)),
+        TokenKind::Pipe => Form::Works(IntegerOperator::Arithmetic(Operator::BitOr)),
+        TokenKind::ShiftLeft => Form::Works(IntegerOperator::Shift(Operator::ShiftLeft)),
+        TokenKind::ShiftRight => Form::Works(IntegerOperator::Shift(Operator::ShiftRight)),
+        TokenKind::ShiftRightArithmetic => Form::Works(IntegerOperator::Shift(Operator::ShiftRightArithmetic)),
         TokenKind::Less => Form::Order(Comparison::Less),
         TokenKind::LessEqual => Form::Order(Comparison::LessEqual),
         TokenKind::Greater => Form::Order(Comparison::Greater),
@@ -68,21 +68,21 @@ pub fn binary_form(operator: TokenKind) -> Option<Form>
 }
 
 /// What the operator of a compound assignment does; nothing for `=` and what is none.
-pub fn compound_work(operator: TokenKind) -> Option<Work>
+pub fn compound_work(operator: TokenKind) -> Option<IntegerOperator>
     ensures exact { result ≡ spec.compound_work operator }
 {
     let work = match operator {
-        TokenKind::PlusAssign => Work::Arithmetic(Operator::Add),
-        TokenKind::MinusAssign => Work::Arithmetic(Operator::Subtract),
-        TokenKind::StarAssign => Work::Arithmetic(Operator::Multiply),
-        TokenKind::SlashAssign => Work::Arithmetic(Operator::Divide),
-        TokenKind::PercentAssign => Work::Arithmetic(Operator::Remainder),
-        TokenKind::AmpersandAssign => Work::Arithmetic(Operator::BitAnd),
-        TokenKind::PipeAssign => Work::Arithmetic(Operator::BitOr),
-        TokenKind::CaretAssign => Work::Arithmetic(Operator::BitXor),
-        TokenKind::ShiftLeftAssign => Work::Shift(Operator::ShiftLeft),
-        TokenKind::ShiftRightAssign => Work::Shift(Operator::ShiftRight),
-        TokenKind::ShiftRightArithmeticAssign => Work::Shift(Operator::ShiftRightArithmetic),
+        TokenKind::PlusAssign => IntegerOperator::Arithmetic(Operator::Add),
+        TokenKind::MinusAssign => IntegerOperator::Arithmetic(Operator::Subtract),
+        TokenKind::StarAssign => IntegerOperator::Arithmetic(Operator::Multiply),
+        TokenKind::SlashAssign => IntegerOperator::Arithmetic(Operator::Divide),
+        TokenKind::PercentAssign => IntegerOperator::Arithmetic(Operator::Remainder),
+        TokenKind::AmpersandAssign => IntegerOperator::Arithmetic(Operator::BitAnd),
+        TokenKind::PipeAssign => IntegerOperator::Arithmetic(Operator::BitOr),
+        TokenKind::CaretAssign => IntegerOperator::Arithmetic(Operator::BitXor),
+        TokenKind::ShiftLeftAssign => IntegerOperator::Shift(Operator::ShiftLeft),
+        TokenKind::ShiftRightAssign => IntegerOperator::Shift(Operator::ShiftRight),
+        TokenKind::ShiftRightArithmeticAssign => IntegerOperator::Shift(Operator::ShiftRightArithmetic),
         _ => return None,
     };
     Some(work)

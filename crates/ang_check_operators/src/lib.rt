@@ -23,6 +23,6 @@ pub use conditionals::conditional;
 pub use fitting::{fit, identity, integer, number, object_of, seat, site_in, target, truth};
 pub use literals::literal;
 pub use one_operand::{convert, group, postfix, prefix};
-pub use operand::{Operand, Seat, Target, boxed, plain_operand, reading};
-pub use refusal::{Refusal, Stop, fault, refused, refused_for, use_refused};
+pub use operand::{Operand, HandleSite, SiteUse, boxed, plain_operand, reading};
+pub use refusal::{TypingRefusal, TypingError, fault, refused, refused_for, use_refused};
 pub use two_operands::binary;

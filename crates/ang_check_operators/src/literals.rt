@@ -7,7 +7,7 @@ ghost use Rattle.ang_check_operators.specs.Operations as spec;
 ghost use Rattle.ang_typed.specs.Typed as tree;
 
 use crate::trees::{null_tree, number_tree, truth_tree};
-use crate::{Operand, Stop, fault, plain_operand};
+use crate::{Operand, TypingError, fault, plain_operand};
 use ang_kinds::{ErrorKind, Place, Prim};
 use ang_lex::{Token, TokenKind, number};
 use ang_types::ArgType;
@@ -19,7 +19,7 @@ use std::alloc::{AllocError, Global};
 ///
 /// `BadConversion` at any other token, which no grammar puts here. `Memory` where a growth was refused.
 #[tactic(auto, unfolding(crate::specs::Operations::literal_typing))]
-pub fn literal(alloc: Global, token: &Token, text: &[u8]) -> Result<Operand, Stop>
+pub fn literal(alloc: Global, token: &Token, text: &[u8]) -> Result<Operand, TypingError>
     ensures exact { Gives view_operand result (spec.literal_typing token.now text.now) }
 {
     match token.kind {

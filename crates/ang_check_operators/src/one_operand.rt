@@ -6,7 +6,7 @@ ghost use Rattle.ang_check_operators.specs.Operations as spec;
 
 use crate::trees::{complement, negate, not, step_of};
 use crate::{
-    Operand, Seat, Stop, Target, fault, fit, integer, number, plain_operand, target, truth,
+    Operand, HandleSite, TypingError, SiteUse, fault, fit, integer, number, plain_operand, target, truth,
 };
 use ang_kinds::{ErrorKind, Place, Prim};
 use ang_lex::{Token, TokenKind};
@@ -20,7 +20,7 @@ fn negated(
     lineage: &Lineage,
     place: Place,
     operand: Operand,
-) -> Result<Operand, Stop>
+) -> Result<Operand, TypingError>
     ensures exact { Gives view_operand result
         (spec.negated lineage.now place (view_operand operand)) }
 {
@@ -37,7 +37,7 @@ fn complemented(
     lineage: &Lineage,
     place: Place,
     operand: Operand,
-) -> Result<Operand, Stop>
+) -> Result<Operand, TypingError>
     ensures exact { Gives view_operand result
         (spec.complemented lineage.now place (view_operand operand)) }
 {
@@ -54,7 +54,7 @@ fn raised_operand(
     lineage: &Lineage,
     place: Place,
     operand: Operand,
-) -> Result<Operand, Stop>
+) -> Result<Operand, TypingError>
     ensures exact { Gives view_operand result
         (spec.raised_operand lineage.now place (view_operand operand)) }
 {
@@ -65,7 +65,7 @@ fn raised_operand(
 }
 
 #[tactic(auto, unfolding(crate::specs::Operations::opposite))]
-fn opposite(alloc: Global, place: Place, operand: Operand) -> Result<Operand, Stop>
+fn opposite(alloc: Global, place: Place, operand: Operand) -> Result<Operand, TypingError>
     ensures exact { Gives view_operand result (spec.opposite place (view_operand operand)) }
 {
     let value = truth(operand)?;
@@ -73,18 +73,18 @@ fn opposite(alloc: Global, place: Place, operand: Operand) -> Result<Operand, St
     Ok(plain_operand(place, ArgType::Plain(Prim::Bool), tree))
 }
 
-fn seat_of(is_object: bool, target: Option<Target>) -> Option<Seat>
+fn seat_of(is_object: bool, target: Option<SiteUse>) -> Option<HandleSite>
     ensures exact { result ≡ spec.seat_of is_object target }
 {
     match target {
         None => None,
-        Some(target) => Some(Seat { target, is_object }),
+        Some(target) => Some(HandleSite { target, is_object }),
     }
 }
 
 /// `@` in front of an operand.
 #[tactic(auto, unfolding(crate::specs::Operations::handle_typing))]
-fn handle_of(place: Place, operand: Operand) -> Result<Operand, Stop>
+fn handle_of(place: Place, operand: Operand) -> Result<Operand, TypingError>
     ensures exact { Gives view_operand result (spec.handle_typing place (view_operand operand)) }
 {
     match operand.ty {
@@ -114,7 +114,7 @@ fn handle_of(place: Place, operand: Operand) -> Result<Operand, Stop>
 }
 
 #[tactic(auto, unfolding(crate::specs::Operations::stepped))]
-fn stepped(alloc: Global, step: StepKind, place: Place, operand: Operand) -> Result<Operand, Stop>
+fn stepped(alloc: Global, step: StepKind, place: Place, operand: Operand) -> Result<Operand, TypingError>
     ensures exact { Gives view_operand result (spec.stepped step place (view_operand operand)) }
 {
     let own = number(&operand);
@@ -136,7 +136,7 @@ pub fn prefix(
     lineage: &Lineage,
     operator: &Token,
     operand: Operand,
-) -> Result<Operand, Stop>
+) -> Result<Operand, TypingError>
     ensures exact { Gives view_operand result
         (spec.prefix_typing lineage.now operator.now (view_operand operand)) }
 {
@@ -158,7 +158,7 @@ pub fn prefix(
 ///
 /// The refusals that `prefix` has for `++` and `--`. `Memory` where a growth was refused.
 #[tactic(auto, unfolding(crate::specs::Operations::postfix_typing))]
-pub fn postfix(alloc: Global, operand: Operand, operator: TokenKind) -> Result<Operand, Stop>
+pub fn postfix(alloc: Global, operand: Operand, operator: TokenKind) -> Result<Operand, TypingError>
     ensures exact { Gives view_operand result
         (spec.postfix_typing (view_operand operand) operator) }
 {
@@ -181,7 +181,7 @@ pub fn convert(
     lineage: &Lineage,
     word: &Token,
     operand: Operand,
-) -> Result<Operand, Stop>
+) -> Result<Operand, TypingError>
     ensures exact { Gives view_operand result
         (spec.convert_typing lineage.now word.now (view_operand operand)) }
 {
@@ -194,7 +194,7 @@ pub fn convert(
     }
 }
 
-fn inside(target: Option<Target>) -> Option<Target>
+fn inside(target: Option<SiteUse>) -> Option<SiteUse>
     ensures exact { result ≡ spec.inside target }
 {
     let mut target = target?;

@@ -6,13 +6,13 @@ ghost use Rattle.ang_typed.specs.View.{view_expr, view_site, view_tree};
 
 use ang_kinds::Place;
 use ang_lex::Token;
-use ang_typed::{Expression, Site};
+use ang_typed::{TypedExpression, TypedSite};
 use ang_types::ArgType;
 use std::alloc::{AllocError, Global};
 
 /// How the site that an expression reads may be used.
 #[derive(Clone, Copy, Drop)]
-pub struct Target {
+pub struct SiteUse {
     /// Whether it can't be assigned.
     pub read_only: bool,
     /// Whether it is a name that stands alone, without parentheses.
@@ -23,9 +23,9 @@ pub struct Target {
 
 /// What `@` stands in front of, where that is a site.
 #[derive(Clone, Copy, Drop)]
-pub struct Seat {
+pub struct HandleSite {
     /// The site.
-    pub target: Target,
+    pub target: SiteUse,
     /// Whether it is a variable that is an object, which can't be another one.
     pub is_object: bool,
 }
@@ -38,11 +38,11 @@ pub struct Operand {
     /// Its type.
     pub ty: ArgType,
     /// Its resolved tree.
-    pub tree: Box<Expression>,
+    pub tree: Box<TypedExpression>,
     /// How the site that its tree reads may be used, where it reads one.
-    pub target: Option<Target>,
+    pub target: Option<SiteUse>,
     /// The site that `@` in front of it names, where it does.
-    pub seat: Option<Seat>,
+    pub seat: Option<HandleSite>,
 }
 
 /// A tree in a box, into which it is put as soon as it is made.
@@ -50,7 +50,7 @@ pub struct Operand {
 /// # Errors
 ///
 /// Want of memory alone.
-pub fn boxed(alloc: Global, tree: Expression) -> Result<Box<Expression>, AllocError>
+pub fn boxed(alloc: Global, tree: TypedExpression) -> Result<Box<TypedExpression>, AllocError>
     ensures exact { IfOk result (λ b. view_tree b ≡ view_expr tree) }
 {
     let tree = Box::new(alloc, tree)?;
@@ -58,7 +58,7 @@ pub fn boxed(alloc: Global, tree: Expression) -> Result<Box<Expression>, AllocEr
 }
 
 /// An expression that is no site.
-pub fn plain_operand(place: Place, ty: ArgType, tree: Box<Expression>) -> Operand
+pub fn plain_operand(place: Place, ty: ArgType, tree: Box<TypedExpression>) -> Operand
     ensures exact { view_operand result ≡ spec.operand place ty (view_tree tree) }
 {
     Operand {
@@ -78,14 +78,14 @@ pub fn plain_operand(place: Place, ty: ArgType, tree: Box<Expression>) -> Operan
 pub fn reading(
     alloc: Global,
     place: Place,
-    site: Site,
+    site: TypedSite,
     ty: ArgType,
-    target: Target,
+    target: SiteUse,
 ) -> Result<Operand, AllocError>
     ensures exact { IfOk result
         (λ a. view_operand a ≡ spec.reading place (view_site site) ty target) }
 {
-    let tree = boxed(alloc, Expression::Read { site, ty })?;
+    let tree = boxed(alloc, TypedExpression::Read { site, ty })?;
     Ok(Operand {
         place,
         ty,

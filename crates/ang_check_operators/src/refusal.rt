@@ -1,7 +1,7 @@
 //! Why an expression has no meaning.
 ghost use Rattle.std.specs.Prelude.{◌≡◌};
 ghost use Rattle.ang_check_operators.specs.Refusals as spec;
-ghost use Rattle.ang_check_operators.specs.declared.refusal.Stop.TheVariants.{Memory};
+ghost use Rattle.ang_check_operators.specs.declared.refusal.TypingError.TheVariants.{Memory};
 
 use ang_kinds::{ErrorKind, Place};
 use ang_lex::Token;
@@ -10,7 +10,7 @@ use std::alloc::{AllocError, AllocFailed};
 
 /// The first refusal of an expression in reading order.
 #[derive(Drop)]
-pub struct Refusal {
+pub struct TypingRefusal {
     /// What is wrong.
     pub kind: ErrorKind,
     /// Where.
@@ -25,34 +25,34 @@ pub struct Refusal {
 
 /// Why nothing is given.
 #[derive(Drop)]
-pub enum Stop {
+pub enum TypingError {
     /// The expression is refused.
-    Refused(Refusal),
+    Refused(TypingRefusal),
     /// A growth of memory was refused.
     Memory,
 }
 
-impl From<AllocError> for Stop {
+impl From<AllocError> for TypingError {
     ghost from_gives = { λ _ e. e ≡ Memory };
 
     fn from(_e: AllocError) -> Self {
-        Stop::Memory
+        TypingError::Memory
     }
 }
 
-impl<T: Drop> From<AllocFailed<T>> for Stop {
+impl<T: Drop> From<AllocFailed<T>> for TypingError {
     ghost from_gives = { λ _ e. e ≡ Memory };
 
     fn from(_e: AllocFailed<T>) -> Self {
-        Stop::Memory
+        TypingError::Memory
     }
 }
 
 /// A refusal without a name.
-pub fn fault(kind: ErrorKind, place: Place) -> Stop
-    ensures exact { result ≡ Stop.Refused (spec.fault kind place) }
+pub fn fault(kind: ErrorKind, place: Place) -> TypingError
+    ensures exact { result ≡ TypingError.Refused (spec.fault kind place) }
 {
-    Stop::Refused(Refusal {
+    TypingError::Refused(TypingRefusal {
         kind,
         place,
         name: None,
@@ -62,10 +62,10 @@ pub fn fault(kind: ErrorKind, place: Place) -> Stop
 }
 
 /// A refusal about `name`, at another place.
-pub fn refused_for(kind: ErrorKind, place: Place, name: &Token) -> Stop
-    ensures exact { result ≡ Stop.Refused (spec.refused_for kind place name.now) }
+pub fn refused_for(kind: ErrorKind, place: Place, name: &Token) -> TypingError
+    ensures exact { result ≡ TypingError.Refused (spec.refused_for kind place name.now) }
 {
-    Stop::Refused(Refusal {
+    TypingError::Refused(TypingRefusal {
         kind,
         place,
         name: Some(*name),
@@ -75,18 +75,18 @@ pub fn refused_for(kind: ErrorKind, place: Place, name: &Token) -> Stop
 }
 
 /// A refusal at the place of `name`, which it is about. No entry of the host could help there.
-pub fn refused(kind: ErrorKind, name: &Token) -> Stop
-    ensures exact { result ≡ Stop.Refused (spec.refused kind name.now) }
+pub fn refused(kind: ErrorKind, name: &Token) -> TypingError
+    ensures exact { result ≡ TypingError.Refused (spec.refused kind name.now) }
 {
     refused_for(kind, name.place, name)
 }
 
 /// The refusal of a use of `name`, at its place, with what was asked of the name, and whether a local or a member has it
 /// there.
-pub fn use_refused(kind: ErrorKind, name: &Token, asks: Asks, is_there: bool) -> Stop
-    ensures exact { result ≡ Stop.Refused (spec.use_refused kind name.now asks is_there) }
+pub fn use_refused(kind: ErrorKind, name: &Token, asks: Asks, is_there: bool) -> TypingError
+    ensures exact { result ≡ TypingError.Refused (spec.use_refused kind name.now asks is_there) }
 {
-    Stop::Refused(Refusal {
+    TypingError::Refused(TypingRefusal {
         kind,
         place: name.place,
         name: Some(*name),

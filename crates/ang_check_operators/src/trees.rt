@@ -5,7 +5,7 @@ ghost use Rattle.ang_typed.specs.View.{view_site, view_tree};
 
 use crate::boxed;
 use ang_kinds::Prim;
-use ang_typed::{Comparison, Expression, Operator, Site, StepKind};
+use ang_typed::{Comparison, TypedExpression, Operator, TypedSite, StepKind};
 use ang_types::ArgType;
 use std::alloc::{AllocError, Global};
 
@@ -14,36 +14,36 @@ pub(crate) fn number_tree(
     alloc: Global,
     ty: Prim,
     value: u64,
-) -> Result<Box<Expression>, AllocError>
+) -> Result<Box<TypedExpression>, AllocError>
     ensures exact { IfOk result (λ e. view_tree e ≡ tree.number ty value) }
 {
-    boxed(alloc, Expression::Number { ty, value })
+    boxed(alloc, TypedExpression::Number { ty, value })
 }
 
 /// The word `true` or `false`, by its truth value.
-pub(crate) fn truth_tree(alloc: Global, value: bool) -> Result<Box<Expression>, AllocError>
+pub(crate) fn truth_tree(alloc: Global, value: bool) -> Result<Box<TypedExpression>, AllocError>
     ensures exact { IfOk result (λ e. view_tree e ≡ tree.truth value) }
 {
-    boxed(alloc, Expression::Truth(value))
+    boxed(alloc, TypedExpression::Truth(value))
 }
 
 /// `null`
-pub(crate) fn null_tree(alloc: Global) -> Result<Box<Expression>, AllocError>
+pub(crate) fn null_tree(alloc: Global) -> Result<Box<TypedExpression>, AllocError>
     ensures exact { IfOk result (λ e. view_tree e ≡ tree.null) }
 {
-    boxed(alloc, Expression::Null)
+    boxed(alloc, TypedExpression::Null)
 }
 
 /// `++` or `--` of what stands at a site of the integer type `ty`.
 pub(crate) fn step_of(
     alloc: Global,
-    site: Site,
+    site: TypedSite,
     ty: Prim,
     step: StepKind,
-) -> Result<Box<Expression>, AllocError>
+) -> Result<Box<TypedExpression>, AllocError>
     ensures exact { IfOk result (λ e. view_tree e ≡ tree.step (view_site site) ty step) }
 {
-    boxed(alloc, Expression::Step { site, ty, step })
+    boxed(alloc, TypedExpression::Step { site, ty, step })
 }
 
 /// An operator on two integers of type `ty`, which is the type of its result too.
@@ -51,15 +51,15 @@ pub(crate) fn operate(
     alloc: Global,
     operator: Operator,
     ty: Prim,
-    left: Box<Expression>,
-    right: Box<Expression>,
-) -> Result<Box<Expression>, AllocError>
+    left: Box<TypedExpression>,
+    right: Box<TypedExpression>,
+) -> Result<Box<TypedExpression>, AllocError>
     ensures exact { IfOk result
         (λ e. view_tree e ≡ tree.operate operator ty (view_tree left) (view_tree right)) }
 {
     boxed(
         alloc,
-        Expression::Operate {
+        TypedExpression::Operate {
             operator,
             ty,
             left,
@@ -73,15 +73,15 @@ pub(crate) fn compare(
     alloc: Global,
     comparison: Comparison,
     ty: Prim,
-    left: Box<Expression>,
-    right: Box<Expression>,
-) -> Result<Box<Expression>, AllocError>
+    left: Box<TypedExpression>,
+    right: Box<TypedExpression>,
+) -> Result<Box<TypedExpression>, AllocError>
     ensures exact { IfOk result
         (λ e. view_tree e ≡ tree.compare comparison ty (view_tree left) (view_tree right)) }
 {
     boxed(
         alloc,
-        Expression::Compare {
+        TypedExpression::Compare {
             comparison,
             ty,
             left,
@@ -93,49 +93,49 @@ pub(crate) fn compare(
 /// `&&` of two truth values.
 pub(crate) fn and(
     alloc: Global,
-    left: Box<Expression>,
-    right: Box<Expression>,
-) -> Result<Box<Expression>, AllocError>
+    left: Box<TypedExpression>,
+    right: Box<TypedExpression>,
+) -> Result<Box<TypedExpression>, AllocError>
     ensures exact { IfOk result (λ e. view_tree e ≡ tree.and (view_tree left) (view_tree right)) }
 {
-    boxed(alloc, Expression::And { left, right })
+    boxed(alloc, TypedExpression::And { left, right })
 }
 
 /// `||` of two truth values.
 pub(crate) fn or(
     alloc: Global,
-    left: Box<Expression>,
-    right: Box<Expression>,
-) -> Result<Box<Expression>, AllocError>
+    left: Box<TypedExpression>,
+    right: Box<TypedExpression>,
+) -> Result<Box<TypedExpression>, AllocError>
     ensures exact { IfOk result (λ e. view_tree e ≡ tree.or (view_tree left) (view_tree right)) }
 {
-    boxed(alloc, Expression::Or { left, right })
+    boxed(alloc, TypedExpression::Or { left, right })
 }
 
 /// `is` of two objects or handles.
 pub(crate) fn same(
     alloc: Global,
-    left: Box<Expression>,
-    right: Box<Expression>,
-) -> Result<Box<Expression>, AllocError>
+    left: Box<TypedExpression>,
+    right: Box<TypedExpression>,
+) -> Result<Box<TypedExpression>, AllocError>
     ensures exact { IfOk result (λ e. view_tree e ≡ tree.same (view_tree left) (view_tree right)) }
 {
-    boxed(alloc, Expression::Same { left, right })
+    boxed(alloc, TypedExpression::Same { left, right })
 }
 
 /// `?:`: of two values of one type the first where the condition is true, else the second.
 pub(crate) fn choose(
     alloc: Global,
-    condition: Box<Expression>,
-    then: Box<Expression>,
-    otherwise: Box<Expression>,
-) -> Result<Box<Expression>, AllocError>
+    condition: Box<TypedExpression>,
+    then: Box<TypedExpression>,
+    otherwise: Box<TypedExpression>,
+) -> Result<Box<TypedExpression>, AllocError>
     ensures exact { IfOk result (λ e. view_tree e ≡
         tree.choose (view_tree condition) (view_tree «then») (view_tree otherwise)) }
 {
     boxed(
         alloc,
-        Expression::Choose {
+        TypedExpression::Choose {
             condition,
             then,
             otherwise,
@@ -147,60 +147,60 @@ pub(crate) fn choose(
 pub(crate) fn negate(
     alloc: Global,
     ty: Prim,
-    operand: Box<Expression>,
-) -> Result<Box<Expression>, AllocError>
+    operand: Box<TypedExpression>,
+) -> Result<Box<TypedExpression>, AllocError>
     ensures exact { IfOk result (λ e. view_tree e ≡ tree.negate ty (view_tree operand)) }
 {
-    boxed(alloc, Expression::Negate { ty, operand })
+    boxed(alloc, TypedExpression::Negate { ty, operand })
 }
 
 /// `~` of an integer of type `ty`, which is the type of its result too.
 pub(crate) fn complement(
     alloc: Global,
     ty: Prim,
-    operand: Box<Expression>,
-) -> Result<Box<Expression>, AllocError>
+    operand: Box<TypedExpression>,
+) -> Result<Box<TypedExpression>, AllocError>
     ensures exact { IfOk result (λ e. view_tree e ≡ tree.complement ty (view_tree operand)) }
 {
-    boxed(alloc, Expression::Complement { ty, operand })
+    boxed(alloc, TypedExpression::Complement { ty, operand })
 }
 
 /// `!` of a truth value.
-pub(crate) fn not(alloc: Global, operand: Box<Expression>) -> Result<Box<Expression>, AllocError>
+pub(crate) fn not(alloc: Global, operand: Box<TypedExpression>) -> Result<Box<TypedExpression>, AllocError>
     ensures exact { IfOk result (λ e. view_tree e ≡ tree.not (view_tree operand)) }
 {
-    boxed(alloc, Expression::Not { operand })
+    boxed(alloc, TypedExpression::Not { operand })
 }
 
 /// `=`: a value of type `ty` stored at a site of that type.
 pub(crate) fn assign(
     alloc: Global,
-    site: Site,
+    site: TypedSite,
     ty: ArgType,
-    value: Box<Expression>,
-) -> Result<Box<Expression>, AllocError>
+    value: Box<TypedExpression>,
+) -> Result<Box<TypedExpression>, AllocError>
     ensures exact { IfOk result
         (λ e. view_tree e ≡ tree.assign (view_site site) ty (view_tree value)) }
 {
-    boxed(alloc, Expression::Assign { site, ty, value })
+    boxed(alloc, TypedExpression::Assign { site, ty, value })
 }
 
 /// A compound assignment to a site of the integer type `ty`, such as `+=`. The operator works in the type
 /// `operating`, of which the value is.
 pub(crate) fn compound(
     alloc: Global,
-    site: Site,
+    site: TypedSite,
     ty: Prim,
     operator: Operator,
     operating: Prim,
-    value: Box<Expression>,
-) -> Result<Box<Expression>, AllocError>
+    value: Box<TypedExpression>,
+) -> Result<Box<TypedExpression>, AllocError>
     ensures exact { IfOk result (λ e. view_tree e ≡
         tree.compound (view_site site) ty operator operating (view_tree value)) }
 {
     boxed(
         alloc,
-        Expression::Compound {
+        TypedExpression::Compound {
             site,
             ty,
             operator,

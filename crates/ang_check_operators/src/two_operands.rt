@@ -4,9 +4,9 @@ ghost use Rattle.ang_check_operators.specs.Refusals.{Gives};
 ghost use Rattle.ang_check_operators.specs.View.{view_operand};
 ghost use Rattle.ang_check_operators.specs.Operations as spec;
 
-use crate::forms::{Form, Work, binary_form};
+use crate::forms::{Form, IntegerOperator, binary_form};
 use crate::trees::{and, compare, not, operate, or, same};
-use crate::{Operand, Stop, fault, fit, identity, integer, plain_operand, truth};
+use crate::{Operand, TypingError, fault, fit, identity, integer, plain_operand, truth};
 use ang_kinds::{ErrorKind, Prim};
 use ang_lex::TokenKind;
 use ang_typed::{Comparison, Operator};
@@ -21,7 +21,7 @@ fn worked_in(
     operator: Operator,
     left: Operand,
     right: Operand,
-) -> Result<Operand, Stop>
+) -> Result<Operand, TypingError>
     ensures exact { Gives view_operand result
         (spec.worked_in lineage.now ty operator (view_operand left) (view_operand right)) }
 {
@@ -39,7 +39,7 @@ fn arithmetic(
     operator: Operator,
     left: Operand,
     right: Operand,
-) -> Result<Operand, Stop>
+) -> Result<Operand, TypingError>
     ensures exact { Gives view_operand result
         (spec.arithmetic lineage.now operator (view_operand left) (view_operand right)) }
 {
@@ -55,7 +55,7 @@ fn shift(
     operator: Operator,
     left: Operand,
     right: Operand,
-) -> Result<Operand, Stop>
+) -> Result<Operand, TypingError>
     ensures exact { Gives view_operand result
         (spec.shift lineage.now operator (view_operand left) (view_operand right)) }
 {
@@ -72,7 +72,7 @@ fn compared_in(
     comparison: Comparison,
     left: Operand,
     right: Operand,
-) -> Result<Operand, Stop>
+) -> Result<Operand, TypingError>
     ensures exact { Gives view_operand result
         (spec.compared_in lineage.now ty comparison (view_operand left) (view_operand right)) }
 {
@@ -90,7 +90,7 @@ fn order(
     comparison: Comparison,
     left: Operand,
     right: Operand,
-) -> Result<Operand, Stop>
+) -> Result<Operand, TypingError>
     ensures exact { Gives view_operand result
         (spec.order lineage.now comparison (view_operand left) (view_operand right)) }
 {
@@ -106,7 +106,7 @@ fn equality(
     comparison: Comparison,
     left: Operand,
     right: Operand,
-) -> Result<Operand, Stop>
+) -> Result<Operand, TypingError>
     ensures exact { Gives view_operand result
         (spec.equality lineage.now comparison (view_operand left) (view_operand right)) }
 {
@@ -119,7 +119,7 @@ fn equality(
 }
 
 #[tactic(auto, unfolding(crate::specs::Operations::conjunction))]
-fn conjunction(alloc: Global, left: Operand, right: Operand) -> Result<Operand, Stop>
+fn conjunction(alloc: Global, left: Operand, right: Operand) -> Result<Operand, TypingError>
     ensures exact { Gives view_operand result
         (spec.conjunction (view_operand left) (view_operand right)) }
 {
@@ -131,7 +131,7 @@ fn conjunction(alloc: Global, left: Operand, right: Operand) -> Result<Operand, 
 }
 
 #[tactic(auto, unfolding(crate::specs::Operations::disjunction))]
-fn disjunction(alloc: Global, left: Operand, right: Operand) -> Result<Operand, Stop>
+fn disjunction(alloc: Global, left: Operand, right: Operand) -> Result<Operand, TypingError>
     ensures exact { Gives view_operand result
         (spec.disjunction (view_operand left) (view_operand right)) }
 {
@@ -143,7 +143,7 @@ fn disjunction(alloc: Global, left: Operand, right: Operand) -> Result<Operand, 
 }
 
 #[tactic(auto, unfolding(crate::specs::Operations::exclusion))]
-fn exclusion(alloc: Global, left: Operand, right: Operand) -> Result<Operand, Stop>
+fn exclusion(alloc: Global, left: Operand, right: Operand) -> Result<Operand, TypingError>
     ensures exact { Gives view_operand result
         (spec.exclusion (view_operand left) (view_operand right)) }
 {
@@ -155,7 +155,7 @@ fn exclusion(alloc: Global, left: Operand, right: Operand) -> Result<Operand, St
 }
 
 #[tactic(auto, unfolding(crate::specs::Operations::sameness))]
-fn sameness(alloc: Global, left: Operand, right: Operand) -> Result<Operand, Stop>
+fn sameness(alloc: Global, left: Operand, right: Operand) -> Result<Operand, TypingError>
     ensures exact { Gives view_operand result
         (spec.sameness (view_operand left) (view_operand right)) }
 {
@@ -167,7 +167,7 @@ fn sameness(alloc: Global, left: Operand, right: Operand) -> Result<Operand, Sto
 }
 
 #[tactic(auto, unfolding(crate::specs::Operations::difference))]
-fn difference(alloc: Global, left: Operand, right: Operand) -> Result<Operand, Stop>
+fn difference(alloc: Global, left: Operand, right: Operand) -> Result<Operand, TypingError>
     ensures exact { Gives view_operand result
         (spec.difference (view_operand left) (view_operand right)) }
 {
@@ -185,16 +185,16 @@ fn formed(
     form: Option<Form>,
     left: Operand,
     right: Operand,
-) -> Result<Operand, Stop>
+) -> Result<Operand, TypingError>
     ensures exact { Gives view_operand result
         (spec.formed lineage.now form (view_operand left) (view_operand right)) }
 {
     match form {
         None => Err(fault(ErrorKind::BadConversion, left.place)),
-        Some(Form::Works(Work::Arithmetic(operator))) => {
+        Some(Form::Works(IntegerOperator::Arithmetic(operator))) => {
             arithmetic(alloc, lineage, operator, left, right)
         }
-        Some(Form::Works(Work::Shift(operator))) => shift(alloc, lineage, operator, left, right),
+        Some(Form::Works(IntegerOperator::Shift(operator))) => shift(alloc, lineage, operator, left, right),
         Some(Form::Order(comparison)) => order(alloc, lineage, comparison, left, right),
         Some(Form::Equality(comparison)) => equality(alloc, lineage, comparison, left, right),
         Some(Form::And) => conjunction(alloc, left, right),
@@ -218,7 +218,7 @@ pub fn binary(
     left: Operand,
     operator: TokenKind,
     right: Operand,
-) -> Result<Operand, Stop>
+) -> Result<Operand, TypingError>
     ensures exact { Gives view_operand result
         (spec.binary_typing lineage.now (view_operand left) operator (view_operand right)) }
 {

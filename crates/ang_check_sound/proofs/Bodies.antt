@@ -11,7 +11,7 @@ use Rattle.ang_tree.specs.Declarations.{SuperTree}
 use Rattle.ang_tree.specs.Stmt.{Init, Body, Stmts, Every}
 use Rattle.ang_types.specs.declared.arg_type.ArgType.{ArgType}
 use Rattle.ang_types.specs.Overloads.{Params}
-use Rattle.ang_typed.specs.declared.program.Parameter.{Parameter}
+use Rattle.ang_typed.specs.declared.program.TypedParameter.{TypedParameter}
 use Rattle.ang_typed.specs.Typed as t
 use Rattle.ang_names_known.specs.declared.names.Default.{Default}
 use Rattle.ang_names_known.specs.declared.names.Default.TheVariants as default
@@ -49,7 +49,7 @@ use Rattle.ang_check_sound.proofs.Statements.{CanReturn, initializer_sound, bloc
 -- ---- what was declared
 
 -- a function's parameters and result are these
-pub record IsOf (ps : List Parameter) (ty : ArgType) (g : t.Function) : Type 0 where
+pub record IsOf (ps : List TypedParameter) (ty : ArgType) (g : t.TypedFunction) : Type 0 where
   pub parameters : g.parameters ≡ ps
   pub result : g.result ≡ ty
 
@@ -57,7 +57,7 @@ pub record IsOf (ps : List Parameter) (ty : ArgType) (g : t.Function) : Type 0 w
 abbrev pub IsGlobal : ScriptGlobal → t.Global → Type 0
 IsGlobal g x = x.ty ≡ g.written.ty
 
-ending_declared : (ty : ArgType) (x : Token) (ends : Bool) (ps : List Parameter) (ss : t.Stmts) → IfOk (ending ty x ends ps ss) (IsOf ps ty)
+ending_declared : (ty : ArgType) (x : Token) (ends : Bool) (ps : List TypedParameter) (ss : t.Stmts) → IfOk (ending ty x ends ps ss) (IsOf ps ty)
 ending_declared ty x ends ps ss = either_holds (IsOf ps ty) (ends || is_void ty) _ _ (record { parameters = refl; result = refl }) tt
 
 pub function_declared : (s : BodyContext) (f : ScriptFunction) (x : Token) (b : Body)
@@ -81,8 +81,8 @@ pub constructor_declared : (s : BodyContext) (w : Within) (f : ScriptFunction) (
 unfolding constructor_typing
 constructor_declared s w f x base b u ss =
     let ps = this_local w ∷ map parameter_local f.params in
-    holds (λ (first : Base). Unit {0}) (λ (g : t.Function). g.parameters ≡ with_this w f) (base_typing s ps x base b u) _ (any _)
-    (λ first h. holds (λ (xs : t.Stmts). Unit {0}) (λ (g : t.Function). g.parameters ≡ with_this w f)
+    holds (λ (first : Base). Unit {0}) (λ (g : t.TypedFunction). g.parameters ≡ with_this w f) (base_typing s ps x base b u) _ (any _)
+    (λ first h. holds (λ (xs : t.Stmts). Unit {0}) (λ (g : t.TypedFunction). g.parameters ≡ with_this w f)
     (stmts_typing (maker_frame s w ps) false (length ps) ps ss) _ (any _) (λ xs k. refl))
 
 pub global_declared : (s : BodyContext) (g : ScriptGlobal) (y : TypeName) (i : Init) → IfOk (global_typing s g y i) (IsGlobal g)
@@ -92,7 +92,7 @@ global_declared s g y i =
 
 -- ---- soundness
 
-ending_sound : (M : Module) (ty : ArgType) (x : Token) (ends : Bool) (ps : List Parameter) (ss : t.Stmts) → SoundStatements M false (length ps) ss
+ending_sound : (M : Module) (ty : ArgType) (x : Token) (ends : Bool) (ps : List TypedParameter) (ss : t.Stmts) → SoundStatements M false (length ps) ss
     → IfOk (ending ty x ends ps ss) (SoundFunction M)
 ending_sound M ty x ends ps ss h = either_holds (SoundFunction M) (ends || is_void ty) _ _ h tt
 
@@ -125,7 +125,7 @@ module _ (s : BodyContext) (built : IsBuiltContext s) (outside : s.within ≡ No
 
 module _ (s : BodyContext) (built : IsBuiltContext s) where
   abbrev IsBase : ℕ → Base → Type 0
-  IsBase n b = IfSome b.0 (λ k. (own : Parameter) × (qs : List Parameter) × (slice_get (Here s).parameters k ≡ Some (own ∷ qs))
+  IsBase n b = IfSome b.0 (λ k. (own : TypedParameter) × (qs : List TypedParameter) × (slice_get (Here s).parameters k ≡ Some (own ∷ qs))
       × (own.pass ≢ pass.RefOut) × SoundArguments (Here s) n qs (t.args b.1))
 
   called_base : (n : ℕ) (c : Called) (ps : Params) (xs : List t.Arg) → IsCallee s c ps → Fit (Here s) n ps xs → IsBase n (body_called c, xs)

@@ -4,7 +4,7 @@ use Rattle.std.proofs.Common.{ap}
 use Rattle.ang_view.specs.Registration.{RegistrationList}
 use Rattle.ang_view.specs.Values.{TakesValues}
 use Rattle.ang_names_known.specs.declared.names.Family.{Family}
-use Rattle.ang_names_known.specs.declared.names.Method.{Method}
+use Rattle.ang_names_known.specs.declared.names.ScriptMethod.{ScriptMethod}
 use Rattle.ang_names_known.specs.declared.names.Names.{Names}
 use Rattle.ang_names_known.specs.Spaces.{first_family}
 use Rattle.ang_names_listed.specs.Sources.{Source}
@@ -18,7 +18,7 @@ use Rattle.ang_check_sound.proofs.Slots.{has_slot}
 use Rattle.ang_check_sound.proofs.Standing.{has_bodies_in}
 
 module _ (V : RegistrationList) (names : Names) (sources : List Source) (same : names ≡ names_of V (declarations_of sources)) where
-  method_built : (c : ℕ) (f : Family) → slice_get names.families c ≡ Some f → (m : ℕ) (y : Method) → slice_get f.methods m ≡ Some y
+  method_built : (c : ℕ) (f : Family) → slice_get names.families c ≡ Some f → (m : ℕ) (y : ScriptMethod) → slice_get f.methods m ≡ Some y
       → IsMethodIn (module_in V names) c y
   method_built c f there m y at =
       let slot = has_slot V names sources same c f there m y at in

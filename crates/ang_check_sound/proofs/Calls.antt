@@ -15,9 +15,9 @@ use Rattle.ang_types.specs.declared.arg_type.ArgType.TheVariants as type
 use Rattle.ang_types.specs.declared.asks.Asks.{Asks}
 use Rattle.ang_types.specs.declared.asks.Asks.TheVariants as asks
 use Rattle.ang_types.specs.Ranks.{Ancestors}
-use Rattle.ang_typed.specs.declared.expression.Variable.{Variable}
-use Rattle.ang_typed.specs.declared.expression.Variable.TheVariants as variable
-use Rattle.ang_typed.specs.declared.program.Parameter.{Parameter}
+use Rattle.ang_typed.specs.declared.expression.TypedVariable.{TypedVariable}
+use Rattle.ang_typed.specs.declared.expression.TypedVariable.TheVariants as variable
+use Rattle.ang_typed.specs.declared.program.TypedParameter.{TypedParameter}
 use Rattle.ang_typed.specs.Typed as t
 use Rattle.ang_names_known.specs.declared.names.Family.{Family}
 use Rattle.ang_names_known.specs.declared.names.FoundField.{FoundField}
@@ -25,7 +25,7 @@ use Rattle.ang_names_known.specs.Items.{is_empty}
 use Rattle.ang_names_known.specs.Lookup.{FoundMethod, field_named, methods_named, parameters_of, is_under, may_use}
 use Rattle.ang_names_known.specs.Spaces.{family_type}
 use Rattle.ang_names_listed.specs.Sources.{text_of}
-use Rattle.ang_check_operators.specs.declared.operand.Target.{Target}
+use Rattle.ang_check_operators.specs.declared.operand.SiteUse.{SiteUse}
 use Rattle.ang_check_operators.specs.Refusals.{Typing, fault}
 use Rattle.ang_check_operators.specs.Operands.{Operand, fit, integer, site_in}
 use Rattle.ang_check_context.specs.declared.scope.LocalVariable.{LocalVariable}
@@ -61,7 +61,7 @@ use Rattle.ang_check_sound.proofs.Uses.{Here, IsMeant, global_sound, IsCallee, I
 
 module _ (M : Module) (n : ℕ) where
   -- a variable that is no host property
-  target_variable : (x : Variable) → IsStored M n x → IfSome (if is_out_variable x then Some x else None) (IsTarget M n)
+  target_variable : (x : TypedVariable) → IsStored M n x → IfSome (if is_out_variable x then Some x else None) (IsTarget M n)
   target_variable (variable.Local i) s = s
   target_variable (variable.Global g) s = s
   target_variable (variable.Property h) s = tt
@@ -72,11 +72,11 @@ module _ (M : Module) (n : ℕ) where
   target_at (Some (t.named x)) s = target_variable x s
   target_at (Some (t.member_of o a)) s = tt
 
-  target_there : (place : Place) (x : Option Variable) → IfSome x (IsTarget M n) → IfOk (out_or place x) (IsTarget M n)
+  target_there : (place : Place) (x : Option TypedVariable) → IfSome x (IsTarget M n) → IfOk (out_or place x) (IsTarget M n)
   target_there place None s = tt
   target_there place (Some x) s = s
 
-  out_there : (a : Operand) (x : Option Target) (b : Bool) → is_out a x ≡ b → IsTargeted M n x a.tree
+  out_there : (a : Operand) (x : Option SiteUse) (b : Bool) → is_out a x ≡ b → IsTargeted M n x a.tree
       → IfOk (if b then out_or a.place (variable_in (site_in a.tree)) else Err (fault kind.BadOut a.place)) (IsTarget M n)
   out_there a x false e s = tt
   out_there a None true e s = cc
@@ -125,11 +125,11 @@ module _ (M : Module) (n : ℕ) where
       (λ xs sxs. (sx, sxs)))
 
   -- a parameter that takes its argument alike
-  argument_alike : (p : ArgType × Pass) (q : Parameter) (x : t.Arg) → takes p ≡ passing_of q → SoundArgument M n p.1 x → SoundArgument M n q.pass x
+  argument_alike : (p : ArgType × Pass) (q : TypedParameter) (x : t.Arg) → takes p ≡ passing_of q → SoundArgument M n p.1 x → SoundArgument M n q.pass x
   argument_alike p q (t.by_value ty e) same s = (λ out. s.0 (only_out p.1 p.0 (same ∙ ap (λ way. passing_by way q.ty) out)), s.1)
   argument_alike p q (t.out x from to) same s = (only_out q.pass q.ty (sym same ∙ ap (λ way. passing_by way p.0) s.0), s.1)
 
-  pub script_arguments : (ps : List (ArgType × Pass)) (qs : List Parameter) (xs : List t.Arg) → TakeAlike ps qs → Fit ps xs → SoundArguments M n qs (t.args xs)
+  pub script_arguments : (ps : List (ArgType × Pass)) (qs : List TypedParameter) (xs : List t.Arg) → TakeAlike ps qs → Fit ps xs → SoundArguments M n qs (t.args xs)
   script_arguments [] [] [] same f = tt
   script_arguments [] [] (x ∷ xs) same f = absurd f
   script_arguments [] (q ∷ qs) xs same f = cc

@@ -6,14 +6,14 @@ use Rattle.std.proofs.lemmas.Bool.{eqb-true}
 use Rattle.ang_tree.specs.Stmt.{Every}
 use Rattle.ang_view.specs.Registration.{RegistrationList}
 use Rattle.ang_names_known.specs.declared.names.Family.{Family}
-use Rattle.ang_names_known.specs.declared.names.Method.{Method}
+use Rattle.ang_names_known.specs.declared.names.ScriptMethod.{ScriptMethod}
 use Rattle.ang_names_known.specs.declared.names.Names.{Names}
 use Rattle.ang_names_known.specs.declared.names.ScriptFunction.{ScriptFunction}
 use Rattle.ang_names_known.specs.Items.{each_after}
 use Rattle.ang_names_known.specs.Spaces.{Space}
 use Rattle.ang_names_listed.specs.Sources.{Source}
 use Rattle.ang_names_graph.specs.Graphs.{leads, numbers_below, above}
-use Rattle.ang_names_listed.specs.declared.listed.Declared.{Declared}
+use Rattle.ang_names_listed.specs.declared.listed.ListedDeclaration.{ListedDeclaration}
 use Rattle.ang_names_listed.specs.Declarations.{Declaring, declarations_of, families_of}
 use Rattle.ang_names_classes.specs.Resolved.{space_of_declared}
 use Rattle.ang_names_classes.specs.Headings.{signatures_of}
@@ -89,7 +89,7 @@ module _ (E : Space) (families : List Declaring) (all : List (ScriptFunction × 
   families_counted front [] = refl
   families_counted front (d ∷ ds) = ap suc (families_counted (front ++ d ∷ []) ds)
 
-declared_below : (V : RegistrationList) (ds : List Declared) → Every (IsBelow (length (names_of V ds).families)) (names_of V ds).families
+declared_below : (V : RegistrationList) (ds : List ListedDeclaration) → Every (IsBelow (length (names_of V ds).families)) (names_of V ds).families
 unfolding names_of families_in
 declared_below V ds =
     let E = space_of_declared V ds in
@@ -106,7 +106,7 @@ all_below V names sources e = subst (λ (n : Names). Every (IsBelow (length n.fa
 -- ---- classes
 
 module _ (M : Module) where
-  chosen_body : (c : ℕ) (y : Method) (k : ℕ) → IsMethodIn M c y → y.body ≡ Some k → IsChosen M y.slot k
+  chosen_body : (c : ℕ) (y : ScriptMethod) (k : ℕ) → IsMethodIn M c y → y.body ≡ Some k → IsChosen M y.slot k
   chosen_body c y k h e = record {
     heading = h.heading;
     slot_is = h.slot_is;
@@ -115,12 +115,12 @@ module _ (M : Module) where
     alike = sym h.alike;
   }
 
-  one_chosen : (c : ℕ) (y : Method) (o : Option ℕ) (rest : List (ℕ × ℕ)) → y.body ≡ o → IsMethodIn M c y → AreChosen M rest
+  one_chosen : (c : ℕ) (y : ScriptMethod) (o : Option ℕ) (rest : List (ℕ × ℕ)) → y.body ≡ o → IsMethodIn M c y → AreChosen M rest
       → AreChosen M (cons_option (option_map (λ k. (y.slot, k)) o) rest)
   one_chosen c y None rest e h r = r
   one_chosen c y (Some k) rest e h r = (chosen_body c y k h e, r)
 
-  all_chosen : (c : ℕ) (ms : List Method) → ((m : ℕ) (y : Method) → slice_get ms m ≡ Some y → IsMethodIn M c y) → AreChosen M (filter_map slot_and_body ms)
+  all_chosen : (c : ℕ) (ms : List ScriptMethod) → ((m : ℕ) (y : ScriptMethod) → slice_get ms m ≡ Some y → IsMethodIn M c y) → AreChosen M (filter_map slot_and_body ms)
   all_chosen c [] h = tt
   all_chosen c (y ∷ ms) h = one_chosen c y y.body (filter_map slot_and_body ms) refl (h 0 y refl) (all_chosen c ms (λ m x e. h (suc m) x e))
 

@@ -3,17 +3,17 @@ use Rattle.std.specs.Prelude.{◌≡◌, ℕ, ◌+◌, List, [], ◌∷◌, ◌+
 use Rattle.std.proofs.Common.{refl, append_assoc}
 use Rattle.ang_tree.specs.Declarations.{Decl}
 use Rattle.ang_names_listed.specs.Sources.{Source}
-use Rattle.ang_names_listed.specs.declared.listed.Declared.{Declared}
+use Rattle.ang_names_listed.specs.declared.listed.ListedDeclaration.{ListedDeclaration}
 use Rattle.ang_names_listed.specs.Declarations.{declared_at, declared_from, declarations_from, declarations_of}
 use Rattle.ang_check.specs.Bodies.{InSection, in_sections}
 
 -- these declarations declare these, wherever they stand
-abbrev pub Declare : List InSection → List Declared → Type 0
+abbrev pub Declare : List InSection → List ListedDeclaration → Type 0
 Declare [] ds = ds ≡ []
 Declare (x ∷ xs) ds =
-    (script : ℕ) × (n : ℕ) × (rest : List Declared) × (ds ≡ declared_at script x.0 n x.1 ++ rest) × Declare xs rest
+    (script : ℕ) × (n : ℕ) × (rest : List ListedDeclaration) × (ds ≡ declared_at script x.0 n x.1 ++ rest) × Declare xs rest
 
-section_declared : (script : ℕ) (text : List ℕ) (n : ℕ) (xs : List Decl) (others : List InSection) (ds : List Declared) → Declare others ds
+section_declared : (script : ℕ) (text : List ℕ) (n : ℕ) (xs : List Decl) (others : List InSection) (ds : List ListedDeclaration) → Declare others ds
     → Declare (map (λ d. (text, d)) xs ++ others) (declared_from script text n xs ++ ds)
 section_declared script text n [] others ds h = h
 section_declared script text n (d ∷ xs) others ds h = (

@@ -3,11 +3,11 @@ use Rattle.std.specs.Prelude.{◌≡◌, ℕ, suc, Bool, true, false, if◌then�
 use Rattle.std.specs.List.{list_any, flat_map}
 use Rattle.std.proofs.Common.{refl}
 use Rattle.ang_tree.specs.Stmt.{Every}
-use Rattle.ang_names_known.specs.declared.names.Constructor.{Constructor}
+use Rattle.ang_names_known.specs.declared.names.ScriptConstructor.{ScriptConstructor}
 use Rattle.ang_names_known.specs.declared.names.Default.{Default}
 use Rattle.ang_names_known.specs.declared.names.Default.TheVariants as default
 use Rattle.ang_names_known.specs.declared.names.Family.{Family}
-use Rattle.ang_names_known.specs.declared.names.Method.{Method}
+use Rattle.ang_names_known.specs.declared.names.ScriptMethod.{ScriptMethod}
 use Rattle.ang_names_known.specs.Items.{is_empty, each_after}
 use Rattle.ang_names_known.specs.Lookup.{Numbered, with_family, families_at, kin_in, kin_of, FoundMethod, methods_in, methods_of, stands_in, is_named, if_nearest, methods_named, takes_nothing, default_among, own_default, written_default, has_constructors, nearest_default, constructors_in, default_of}
 use Rattle.ang_check_sound.proofs.Items.{every_joined, every_mapped, every_placed, every_filter}
@@ -38,13 +38,13 @@ module _ (fs : List Family) where
 
 -- What holds of each method of each family holds of those that are found.
 module _ (fs : List Family) (P : FoundMethod → Type 0)
-    (each : (c : ℕ) (f : Family) → slice_get fs c ≡ Some f → (m : ℕ) (y : Method) → slice_get f.methods m ≡ Some y → P (record { owner = c; method = y })) where
-  abbrev Q : ℕ → Method → Type 0
+    (each : (c : ℕ) (f : Family) → slice_get fs c ≡ Some f → (m : ℕ) (y : ScriptMethod) → slice_get f.methods m ≡ Some y → P (record { owner = c; method = y })) where
+  abbrev Q : ℕ → ScriptMethod → Type 0
   Q c y = P (record { owner = c; method = y })
 
   methods_hold : (f : Numbered) → slice_get fs f.0 ≡ Some f.1 → Every P (methods_in f)
   methods_hold f there =
-      every_mapped (Q f.0) P (λ (y : Method). record { owner = f.0; method = y }) f.1.methods (λ y h. h)
+      every_mapped (Q f.0) P (λ (y : ScriptMethod). record { owner = f.0; method = y }) f.1.methods (λ y h. h)
       (every_placed (Q f.0) f.1.methods (each f.0 f.1 there))
 
   kin_hold : (kin : List Numbered) → Every (IsNumbered fs) kin → Every P (flat_map methods_in kin)
@@ -80,13 +80,13 @@ IfWritten Q (default.Written k) = Q k
 
 -- What holds of the body of each holds of that which makes an object without arguments.
 module _ (fs : List Family) (Q : ℕ → Type 0)
-    (each : (c : ℕ) (f : Family) → slice_get fs c ≡ Some f → (m : ℕ) (k : Constructor) → slice_get f.constructors m ≡ Some k → takes_nothing k ≡ true → Q k.body) where
-  first_among : (k : Constructor) (ks : List Constructor) (b : Bool) → takes_nothing k ≡ b → (takes_nothing k ≡ true → Q k.body) → IfSome (default_among ks) Q
-      → IfSome (option_map (λ (x : Constructor). x.body) (cond b (Some k) (find takes_nothing ks))) Q
+    (each : (c : ℕ) (f : Family) → slice_get fs c ≡ Some f → (m : ℕ) (k : ScriptConstructor) → slice_get f.constructors m ≡ Some k → takes_nothing k ≡ true → Q k.body) where
+  first_among : (k : ScriptConstructor) (ks : List ScriptConstructor) (b : Bool) → takes_nothing k ≡ b → (takes_nothing k ≡ true → Q k.body) → IfSome (default_among ks) Q
+      → IfSome (option_map (λ (x : ScriptConstructor). x.body) (cond b (Some k) (find takes_nothing ks))) Q
   first_among k ks true e h rest = h e
   first_among k ks false e h rest = rest
 
-  among : (ks : List Constructor) → ((m : ℕ) (k : Constructor) → slice_get ks m ≡ Some k → takes_nothing k ≡ true → Q k.body) → IfSome (default_among ks) Q
+  among : (ks : List ScriptConstructor) → ((m : ℕ) (k : ScriptConstructor) → slice_get ks m ≡ Some k → takes_nothing k ≡ true → Q k.body) → IfSome (default_among ks) Q
   among [] h = tt
   among (k ∷ ks) h = first_among k ks (takes_nothing k) refl (h 0 k refl) (among ks (λ m x at nothing. h (suc m) x at nothing))
 

@@ -12,8 +12,8 @@ use Rattle.ang_view.specs.Registration.{RegistrationList, entry_at, is_function,
 use Rattle.ang_view.specs.Values.{AreValues, EntryTakesValues, TakesValues}
 use Rattle.ang_types.specs.declared.arg_type.ArgType.{ArgType}
 use Rattle.ang_typed.specs.declared.expression.HostEntity.{HostEntity}
-use Rattle.ang_names_known.specs.declared.host.HostFunction.{HostFunction}
-use Rattle.ang_names_known.specs.declared.host.HostProperty.{HostProperty}
+use Rattle.ang_names_known.specs.declared.host.SeenFunction.{SeenFunction}
+use Rattle.ang_names_known.specs.declared.host.SeenProperty.{SeenProperty}
 use Rattle.ang_names_known.specs.declared.host.Wanted.{Wanted}
 use Rattle.ang_names_known.specs.declared.host.Wanted.TheVariants as wanted
 use Rattle.ang_names_known.specs.declared.host.WantedProperty.{WantedProperty}
@@ -29,21 +29,21 @@ Values [] = Unit {0}
 Values (p ∷ ps) = (p.1 ≢ RefOut) × Values ps
 
 -- what a tree calls
-abbrev pub entity_of : HostFunction → HostEntity
+abbrev pub entity_of : SeenFunction → HostEntity
 entity_of f = record { entity = f.entity; driver = f.driver; f = f.f }
 
 -- what a tree reads and writes
-abbrev pub property_of : HostProperty → HostEntity
+abbrev pub property_of : SeenProperty → HostEntity
 property_of g = record { entity = g.entity; driver = g.driver; f = g.f }
 
 -- a function, a factory or a method of the view, with as many parameters, of which none is `&out`
-pub record IsHost (V : RegistrationList) (kind : EntryKind) (f : HostFunction) : Type 0 where
+pub record IsHost (V : RegistrationList) (kind : EntryKind) (f : SeenFunction) : Type 0 where
   pub entity : IsEntity V kind (entity_of f)
   pub count : length entity.entry.signature.params ≡ length f.params
   pub values : Values f.params
 
 -- a property of the view, which may be written where it is not `const`
-pub record IsHostProperty (V : RegistrationList) (kind : EntryKind) (g : HostProperty) : Type 0 where
+pub record IsHostProperty (V : RegistrationList) (kind : EntryKind) (g : SeenProperty) : Type 0 where
   pub entity : IsEntity V kind (property_of g)
   pub writable : g.read_only ≡ false → IsWritable V kind (property_of g)
 
@@ -152,7 +152,7 @@ all_rest V i j e = let same : i ≡ j = omega arith in ap (entry_at V) same
 -- ---- functions, factories and methods
 
 module _ (V : RegistrationList) (w : Wanted) where
-  abbrev Found : HostFunction → Type 0
+  abbrev Found : SeenFunction → Type 0
   Found f = IsHost V (kind_wanted w) f
 
   function_host : (n : ℕ) (x : Entry) (o : Option ArgType) (qs : Option (List (ArgType × Pass))) → entry_at V n ≡ Some x → x.kind ≡ kind_wanted w
@@ -186,7 +186,7 @@ module _ (V : RegistrationList) (w : Wanted) where
 -- ---- properties
 
 module _ (V : RegistrationList) (w : WantedProperty) where
-  abbrev FoundProperty : HostProperty → Type 0
+  abbrev FoundProperty : SeenProperty → Type 0
   FoundProperty g = IsHostProperty V (kind_of_property w) g
 
   property_host : (n : ℕ) (x : Entry) (o : Option ArgType) → entry_at V n ≡ Some x → x.kind ≡ kind_of_property w → IfSome (property_with n x o) FoundProperty
@@ -202,7 +202,7 @@ module _ (V : RegistrationList) (w : WantedProperty) where
       tested FoundProperty (is_wanted_property w x) (property_with n x (host_type V x.signature.result))
       (λ e. property_host n x (host_type V x.signature.result) (sym at) (property_has_kind w x e))
 
-  either_property : (here rest : Option HostProperty) → IfSome here FoundProperty → IfSome rest FoundProperty → IfSome (option_or here rest) FoundProperty
+  either_property : (here rest : Option SeenProperty) → IfSome here FoundProperty → IfSome rest FoundProperty → IfSome (option_or here rest) FoundProperty
   either_property (Some g) rest h k = h
   either_property None rest h k = k
 

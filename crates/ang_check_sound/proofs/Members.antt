@@ -11,16 +11,16 @@ use Rattle.ang_tree.specs.Declarations.{MemberTree, fields, method, constructor,
 use Rattle.ang_tree.specs.Stmt.{Body, Stmts}
 use Rattle.ang_names_known.specs.declared.names.Access.{Access}
 use Rattle.ang_names_known.specs.declared.names.Access.TheVariants as access
-use Rattle.ang_names_known.specs.declared.names.Constructor.{Constructor}
+use Rattle.ang_names_known.specs.declared.names.ScriptConstructor.{ScriptConstructor}
 use Rattle.ang_names_known.specs.declared.names.Family.{Family}
-use Rattle.ang_names_known.specs.declared.names.Method.{Method}
+use Rattle.ang_names_known.specs.declared.names.ScriptMethod.{ScriptMethod}
 use Rattle.ang_names_known.specs.declared.names.Names.{Names}
 use Rattle.ang_names_known.specs.declared.names.Origin.{Origin}
 use Rattle.ang_names_known.specs.declared.names.ScriptFunction.{ScriptFunction}
 use Rattle.ang_names_known.specs.Items.{each_after}
 use Rattle.ang_names_known.specs.Spaces.{Space}
 use Rattle.ang_names_listed.specs.Sources.{text_of}
-use Rattle.ang_names_listed.specs.declared.listed.Member.{Member}
+use Rattle.ang_names_listed.specs.declared.listed.ListedMember.{ListedMember}
 use Rattle.ang_names_listed.specs.declared.listed.MemberKind.TheVariants as member
 use Rattle.ang_names_listed.specs.Declarations.{Declaring, access_of, attributes_of, field_as, members_by, member_of, class_shape, interface_shape}
 use Rattle.ang_names_classes.specs.Resolved.{has_body, with_bodies, methods_after, constructors_after}
@@ -38,14 +38,14 @@ module _ (V : RegistrationList) (names : Names) where
   number_of j = length names.functions + j
 
   pub record IsMethod (j c m : ℕ) (text : List ℕ) (x : Token) : Type 0 where
-    pub method : Method
+    pub method : ScriptMethod
     pub there : method_at V names c m ≡ Some method
     pub name : method.function.name ≡ text_of text x
     pub place : method.function.place ≡ x.place
     pub body : method.body ≡ Some (number_of j)
 
   pub record IsConstructor (j c m : ℕ) (text : List ℕ) (x : Token) : Type 0 where
-    pub constructor : Constructor
+    pub constructor : ScriptConstructor
     pub there : constructor_at V names c m ≡ Some constructor
     pub name : constructor.function.name ≡ text_of text x
     pub place : constructor.function.place ≡ x.place
@@ -67,7 +67,7 @@ module _ (V : RegistrationList) (names : Names) (total : ℕ) where
 -- In the space of a build, whose methods are these, of a family before whose bodies stand `first` others:
 module _ (E : Space) (all : List (ScriptFunction × Bool)) (d : Declaring) (first : ℕ) where
   -- fields are no methods and no constructors
-  methods_of_fields : (a : Access) (y : TypeName) (names : List FieldName) (before rest : List Member)
+  methods_of_fields : (a : Access) (y : TypeName) (names : List FieldName) (before rest : List ListedMember)
       → each_after (methods_after E all d first) before (map (field_as a y) names ++ rest)
       ≡ each_after (methods_after E all d first) (before ++ map (field_as a y) names) rest
   methods_of_fields a y [] before rest = ap (λ xs. each_after (methods_after E all d first) xs rest) (sym (append-nil before))
@@ -75,7 +75,7 @@ module _ (E : Space) (all : List (ScriptFunction × Bool)) (d : Declaring) (firs
       methods_of_fields a y names (before ++ field_as a y f ∷ []) rest
       ∙ ap (λ xs. each_after (methods_after E all d first) xs rest) (append_assoc before (field_as a y f ∷ []) (map (field_as a y) names))
 
-  constructors_of_fields : (a : Access) (y : TypeName) (names : List FieldName) (before rest : List Member)
+  constructors_of_fields : (a : Access) (y : TypeName) (names : List FieldName) (before rest : List ListedMember)
       → each_after (constructors_after E d first) before (map (field_as a y) names ++ rest)
       ≡ each_after (constructors_after E d first) (before ++ map (field_as a y) names) rest
   constructors_of_fields a y [] before rest = ap (λ xs. each_after (constructors_after E d first) xs rest) (sym (append-nil before))
@@ -84,13 +84,13 @@ module _ (E : Space) (all : List (ScriptFunction × Bool)) (d : Declaring) (firs
       ∙ ap (λ xs. each_after (constructors_after E d first) xs rest) (append_assoc before (field_as a y f ∷ []) (map (field_as a y) names))
 
 -- and have no bodies
-no_bodies : (is_class : Bool) (a : Access) (y : TypeName) (names : List FieldName) (before : List Member)
+no_bodies : (is_class : Bool) (a : Access) (y : TypeName) (names : List FieldName) (before : List ListedMember)
     → length (with_bodies is_class (before ++ map (field_as a y) names)) ≡ length (with_bodies is_class before)
 no_bodies is_class a y [] before = ap (λ xs. length (with_bodies is_class xs)) (append-nil before)
 no_bodies is_class a y (f ∷ names) before =
     ap (λ xs. length (with_bodies is_class xs)) (sym (append_assoc before (field_as a y f ∷ []) (map (field_as a y) names)))
     ∙ no_bodies is_class a y names (before ++ field_as a y f ∷ [])
-    ∙ sym (not_counted (λ (m : Member). has_body is_class m.kind) before (field_as a y f) refl)
+    ∙ sym (not_counted (λ (m : ListedMember). has_body is_class m.kind) before (field_as a y f) refl)
 
 -- ---- each method and each constructor has its part
 
@@ -102,7 +102,7 @@ module _ (parts : List Part) (c : ℕ) where
     pub tree : Body
     pub written : Contains parts (a_method c m text name tree)
 
-  abbrev pub IsMethodWritten : ℕ → Method → Type 0
+  abbrev pub IsMethodWritten : ℕ → ScriptMethod → Type 0
   IsMethodWritten m y = (k : ℕ) → y.body ≡ Some k → MethodPart m
 
   pub record ConstructorPart (m : ℕ) : Type 0 where
@@ -114,7 +114,7 @@ module _ (parts : List Part) (c : ℕ) where
     pub tree : Stmts
     pub written : Contains parts (a_constructor c m text name own bases super tree)
 
-  abbrev pub IsConstructorWritten : ℕ → Constructor → Type 0
+  abbrev pub IsConstructorWritten : ℕ → ScriptConstructor → Type 0
   IsConstructorWritten m y = ConstructorPart m
 
 -- ---- a class
@@ -129,22 +129,22 @@ module _ (V : RegistrationList) (names : Names) (E : Space) (all : List (ScriptF
   abbrev first : ℕ
   first = length names.functions + j
 
-  abbrev methods_from : List Member → List Member → List Method
+  abbrev methods_from : List ListedMember → List ListedMember → List ScriptMethod
   methods_from before ms = each_after (methods_after E all class_of first) before ms
 
-  abbrev constructors_from : List Member → List Member → List Constructor
+  abbrev constructors_from : List ListedMember → List ListedMember → List ScriptConstructor
   constructors_from before ms = each_after (constructors_after E class_of first) before ms
 
-  method_there : (m : ℕ) (y : Method) → slice_get f.methods m ≡ Some y → method_at V names c m ≡ Some y
+  method_there : (m : ℕ) (y : ScriptMethod) → slice_get f.methods m ≡ Some y → method_at V names c m ≡ Some y
   method_there m y e = ap (option_and_then (λ (g : Family). slice_get g.methods m)) there ∙ e
 
-  constructor_there : (m : ℕ) (k : Constructor) → slice_get f.constructors m ≡ Some k → constructor_at V names c m ≡ Some k
+  constructor_there : (m : ℕ) (k : ScriptConstructor) → slice_get f.constructors m ≡ Some k → constructor_at V names c m ≡ Some k
   constructor_there m k e = ap (option_and_then (λ (g : Family). slice_get g.constructors m)) there ∙ e
 
   -- These members come next, where those before them are listed so.
-  members_numbered : (before rest : List MemberTree) (listed : List Member) (ps : List Part)
-      → Behind Method (length (filter is_method_tree before)) f.methods (methods_from listed (flat_map members_by rest))
-      → Behind Constructor (length (filter is_constructor_tree before)) f.constructors (constructors_from listed (flat_map members_by rest))
+  members_numbered : (before rest : List MemberTree) (listed : List ListedMember) (ps : List Part)
+      → Behind ScriptMethod (length (filter is_method_tree before)) f.methods (methods_from listed (flat_map members_by rest))
+      → Behind ScriptConstructor (length (filter is_constructor_tree before)) f.constructors (constructors_from listed (flat_map members_by rest))
       → AreNumbered V names total i g (j + length (with_bodies true (listed ++ flat_map members_by rest))) ps
       → AreNumbered V names total i g (j + length (with_bodies true listed)) (each_after (member_parts c text x bases) before rest ++ ps)
   members_numbered before [] listed ps ms ks h =
@@ -156,15 +156,15 @@ module _ (V : RegistrationList) (names : Names) (E : Space) (all : List (ScriptF
       subst (λ n. AreNumbered V names total i g (j + n) (each_after (member_parts c text x bases) (before ++ tree ∷ []) rest ++ ps))
       (no_bodies true (access_of a) y ns listed)
       (members_numbered (before ++ tree ∷ []) rest (listed ++ more) ps
-      (subst (λ n. Behind Method n f.methods (methods_from (listed ++ more) after)) (not_counted is_method_tree before tree refl)
-      (subst (Behind Method (length (filter is_method_tree before)) f.methods) (methods_of_fields E all class_of first (access_of a) y ns listed after) ms))
-      (subst (λ n. Behind Constructor n f.constructors (constructors_from (listed ++ more) after)) (not_counted is_constructor_tree before tree refl)
-      (subst (Behind Constructor (length (filter is_constructor_tree before)) f.constructors)
+      (subst (λ n. Behind ScriptMethod n f.methods (methods_from (listed ++ more) after)) (not_counted is_method_tree before tree refl)
+      (subst (Behind ScriptMethod (length (filter is_method_tree before)) f.methods) (methods_of_fields E all class_of first (access_of a) y ns listed after) ms))
+      (subst (λ n. Behind ScriptConstructor n f.constructors (constructors_from (listed ++ more) after)) (not_counted is_constructor_tree before tree refl)
+      (subst (Behind ScriptConstructor (length (filter is_constructor_tree before)) f.constructors)
       (constructors_of_fields E all class_of first (access_of a) y ns listed after) ks))
       (subst (λ xs. AreNumbered V names total i g (j + length (with_bodies true xs)) ps) (sym (append_assoc listed more after)) h))
   members_numbered before (method a y z params constant attributes b ∷ rest) listed ps ms ks h =
       let tree = method a y z params constant attributes b in
-      let new : Member = record { name = z; access = access_of a; kind = member.Method y params.items (attributes_of constant attributes) } in
+      let new : ListedMember = record { name = z; access = access_of a; kind = member.Method y params.items (attributes_of constant attributes) } in
       let after = flat_map members_by rest in
       let n = length (filter is_method_tree before) in
       let k = length (with_bodies true listed) in (
@@ -176,18 +176,18 @@ module _ (V : RegistrationList) (names : Names) (E : Space) (all : List (ScriptF
           body = let same : length names.functions + j + k ≡ length names.functions + (j + k) = omega arith in ap Some same;
         },
         subst (λ q. AreNumbered V names total i g q (each_after (member_parts c text x bases) (before ++ tree ∷ []) rest ++ ps))
-            (let one : k + 1 ≡ length (with_bodies true (listed ++ new ∷ [])) = counted (λ (m : Member). has_body true m.kind) listed new refl in
+            (let one : k + 1 ≡ length (with_bodies true (listed ++ new ∷ [])) = counted (λ (m : ListedMember). has_body true m.kind) listed new refl in
             let same : j + length (with_bodies true (listed ++ new ∷ [])) ≡ j + k + 1 = omega arith in same)
             (members_numbered (before ++ tree ∷ []) rest (listed ++ new ∷ []) ps
-            (subst (λ q. Behind Method q f.methods (methods_from (listed ++ new ∷ []) after)) (counted is_method_tree before tree refl)
+            (subst (λ q. Behind ScriptMethod q f.methods (methods_from (listed ++ new ∷ []) after)) (counted is_method_tree before tree refl)
             (next_left n f.methods _ (methods_from (listed ++ new ∷ []) after) ms))
-            (subst (λ q. Behind Constructor q f.constructors (constructors_from (listed ++ new ∷ []) after))
+            (subst (λ q. Behind ScriptConstructor q f.constructors (constructors_from (listed ++ new ∷ []) after))
             (not_counted is_constructor_tree before tree refl) ks)
             (subst (λ xs. AreNumbered V names total i g (j + length (with_bodies true xs)) ps) (sym (append_assoc listed (new ∷ []) after)) h)),
       )
   members_numbered before (constructor z params left u ss right ∷ rest) listed ps ms ks h =
       let tree = constructor z params left u ss right in
-      let new : Member = record { name = z; access = access.Public; kind = member.Constructor params.items } in
+      let new : ListedMember = record { name = z; access = access.Public; kind = member.Constructor params.items } in
       let after = flat_map members_by rest in
       let n = length (filter is_constructor_tree before) in
       let k = length (with_bodies true listed) in (
@@ -199,17 +199,17 @@ module _ (V : RegistrationList) (names : Names) (E : Space) (all : List (ScriptF
           body = let same : length names.functions + j + k ≡ length names.functions + (j + k) = omega arith in same;
         },
         subst (λ q. AreNumbered V names total i g q (each_after (member_parts c text x bases) (before ++ tree ∷ []) rest ++ ps))
-            (let one : k + 1 ≡ length (with_bodies true (listed ++ new ∷ [])) = counted (λ (m : Member). has_body true m.kind) listed new refl in
+            (let one : k + 1 ≡ length (with_bodies true (listed ++ new ∷ [])) = counted (λ (m : ListedMember). has_body true m.kind) listed new refl in
             let same : j + length (with_bodies true (listed ++ new ∷ [])) ≡ j + k + 1 = omega arith in same)
             (members_numbered (before ++ tree ∷ []) rest (listed ++ new ∷ []) ps
-            (subst (λ q. Behind Method q f.methods (methods_from (listed ++ new ∷ []) after)) (not_counted is_method_tree before tree refl) ms)
-            (subst (λ q. Behind Constructor q f.constructors (constructors_from (listed ++ new ∷ []) after)) (counted is_constructor_tree before tree refl)
+            (subst (λ q. Behind ScriptMethod q f.methods (methods_from (listed ++ new ∷ []) after)) (not_counted is_method_tree before tree refl) ms)
+            (subst (λ q. Behind ScriptConstructor q f.constructors (constructors_from (listed ++ new ∷ []) after)) (counted is_constructor_tree before tree refl)
             (next_left n f.constructors _ (constructors_from (listed ++ new ∷ []) after) ks))
             (subst (λ xs. AreNumbered V names total i g (j + length (with_bodies true xs)) ps) (sym (append_assoc listed (new ∷ []) after)) h)),
       )
 
   -- a class without a constructor has none
-  no_constructors : (trees : List MemberTree) (listed : List Member) → list_any is_constructor_tree trees ≡ false
+  no_constructors : (trees : List MemberTree) (listed : List ListedMember) → list_any is_constructor_tree trees ≡ false
       → constructors_from listed (flat_map members_by trees) ≡ []
   no_constructors [] listed e = refl
   no_constructors (fields a y ns semicolon ∷ rest) listed e =
@@ -221,7 +221,7 @@ module _ (V : RegistrationList) (names : Names) (E : Space) (all : List (ScriptF
   no_constructors (constructor z params left u ss right ∷ rest) listed e = cc
 
   -- All these parts are among others.
-  methods_written : (parts : List Part) (before rest : List MemberTree) (listed : List Member)
+  methods_written : (parts : List Part) (before rest : List MemberTree) (listed : List ListedMember)
       → IsIn Part (each_after (member_parts c text x bases) before rest) parts
       → EachFrom (IsMethodWritten parts c) (length (filter is_method_tree before)) (methods_from listed (flat_map members_by rest))
   methods_written parts before [] listed inside = tt
@@ -234,7 +234,7 @@ module _ (V : RegistrationList) (names : Names) (E : Space) (all : List (ScriptF
       (methods_written parts (before ++ fields a y ns semicolon ∷ []) rest (listed ++ more) inside))
   methods_written parts before (method a y z params constant attributes b ∷ rest) listed inside =
       let tree = method a y z params constant attributes b in
-      let new : Member = record { name = z; access = access_of a; kind = member.Method y params.items (attributes_of constant attributes) } in (
+      let new : ListedMember = record { name = z; access = access_of a; kind = member.Method y params.items (attributes_of constant attributes) } in (
         λ k e. record { text = text; name = z; tree = b; written = inside _ (has_first _ _) },
         subst (λ n. EachFrom (IsMethodWritten parts c) n (methods_from (listed ++ new ∷ []) (flat_map members_by rest)))
             (sym (counted is_method_tree before tree refl))
@@ -242,12 +242,12 @@ module _ (V : RegistrationList) (names : Names) (E : Space) (all : List (ScriptF
       )
   methods_written parts before (constructor z params left u ss right ∷ rest) listed inside =
       let tree = constructor z params left u ss right in
-      let new : Member = record { name = z; access = access.Public; kind = member.Constructor params.items } in
+      let new : ListedMember = record { name = z; access = access.Public; kind = member.Constructor params.items } in
       subst (λ n. EachFrom (IsMethodWritten parts c) n (methods_from (listed ++ new ∷ []) (flat_map members_by rest)))
       (sym (not_counted is_method_tree before tree refl))
       (methods_written parts (before ++ tree ∷ []) rest (listed ++ new ∷ []) (λ p h. inside p (has_later _ _ p h)))
 
-  constructors_written : (parts : List Part) (before rest : List MemberTree) (listed : List Member)
+  constructors_written : (parts : List Part) (before rest : List MemberTree) (listed : List ListedMember)
       → IsIn Part (each_after (member_parts c text x bases) before rest) parts
       → EachFrom (IsConstructorWritten parts c) (length (filter is_constructor_tree before)) (constructors_from listed (flat_map members_by rest))
   constructors_written parts before [] listed inside = tt
@@ -260,13 +260,13 @@ module _ (V : RegistrationList) (names : Names) (E : Space) (all : List (ScriptF
       (constructors_written parts (before ++ fields a y ns semicolon ∷ []) rest (listed ++ more) inside))
   constructors_written parts before (method a y z params constant attributes b ∷ rest) listed inside =
       let tree = method a y z params constant attributes b in
-      let new : Member = record { name = z; access = access_of a; kind = member.Method y params.items (attributes_of constant attributes) } in
+      let new : ListedMember = record { name = z; access = access_of a; kind = member.Method y params.items (attributes_of constant attributes) } in
       subst (λ n. EachFrom (IsConstructorWritten parts c) n (constructors_from (listed ++ new ∷ []) (flat_map members_by rest)))
       (sym (not_counted is_constructor_tree before tree refl))
       (constructors_written parts (before ++ tree ∷ []) rest (listed ++ new ∷ []) (λ p h. inside p (has_later _ _ p h)))
   constructors_written parts before (constructor z params left u ss right ∷ rest) listed inside =
       let tree = constructor z params left u ss right in
-      let new : Member = record { name = z; access = access.Public; kind = member.Constructor params.items } in (
+      let new : ListedMember = record { name = z; access = access.Public; kind = member.Constructor params.items } in (
         record { text = text; name = z; own = x; bases = bases; super = u; tree = ss; written = inside _ (has_first _ _) },
         subst (λ n. EachFrom (IsConstructorWritten parts c) n (constructors_from (listed ++ new ∷ []) (flat_map members_by rest)))
             (sym (counted is_constructor_tree before tree refl))
@@ -288,8 +288,8 @@ module _ (V : RegistrationList) (names : Names) (E : Space) (all : List (ScriptF
       let none : j + length (with_bodies true []) ≡ j = omega arith in
       let inner : AreNumbered V names total i g j (each_after (member_parts c text x bases) [] members ++ ps) =
       subst (λ n. AreNumbered V names total i g n (each_after (member_parts c text x bases) [] members ++ ps)) none
-      (members_numbered [] members [] ps (subst (Behind Method 0 f.methods) methods (all_left f.methods))
-      (subst (Behind Constructor 0 f.constructors) made (all_left f.constructors)) h) in
+      (members_numbered [] members [] ps (subst (Behind ScriptMethod 0 f.methods) methods (all_left f.methods))
+      (subst (Behind ScriptConstructor 0 f.constructors) made (all_left f.constructors)) h) in
       subst (AreNumbered V names total i g j) (sym (append_assoc (default_parts c text x bases members) (each_after (member_parts c text x bases) [] members) ps))
       (default_numbered (list_any is_constructor_tree members) _ refl is_class made place inner)
 
@@ -308,12 +308,12 @@ module _ (E : Space) (all : List (ScriptFunction × Bool)) (origin : Origin) (te
   abbrev pub interface_of : Declaring
   interface_of = record { origin = origin; text = text; name = x; shape = interface_shape bases methods }
 
-  pub interface_methods : (parts : List Part) (c n : ℕ) (listed : List Member) (trees : List MethodTree)
+  pub interface_methods : (parts : List Part) (c n : ℕ) (listed : List ListedMember) (trees : List MethodTree)
       → EachFrom (IsMethodWritten parts c) n (each_after (methods_after E all interface_of first) listed (map member_of trees))
   interface_methods parts c n listed [] = tt
   interface_methods parts c n listed (m ∷ trees) = (λ k e. cc, interface_methods parts c (n + 1) (listed ++ member_of m ∷ []) trees)
 
-  pub interface_constructors : (listed : List Member) (trees : List MethodTree)
+  pub interface_constructors : (listed : List ListedMember) (trees : List MethodTree)
       → each_after (constructors_after E interface_of first) listed (map member_of trees) ≡ []
   interface_constructors listed [] = refl
   interface_constructors listed (m ∷ trees) = interface_constructors (listed ++ member_of m ∷ []) trees

@@ -7,14 +7,14 @@ use Rattle.std.proofs.lemmas.List.Folds.{list_any-append}
 use Rattle.std.proofs.lemmas.Bool.{eq-eqb}
 use Rattle.std.proofs.lemmas.Option.{same_Some}
 use Rattle.ang_tree.specs.Stmt.{Every}
-use Rattle.ang_names_known.specs.declared.names.Constructor.{Constructor}
+use Rattle.ang_names_known.specs.declared.names.ScriptConstructor.{ScriptConstructor}
 use Rattle.ang_names_known.specs.declared.names.Family.{Family}
-use Rattle.ang_names_known.specs.declared.names.Method.{Method}
+use Rattle.ang_names_known.specs.declared.names.ScriptMethod.{ScriptMethod}
 use Rattle.ang_names_known.specs.declared.names.Names.{Names}
 use Rattle.ang_names_known.specs.declared.names.ScriptFunction.{ScriptFunction}
 use Rattle.ang_names_known.specs.Items.{each_after}
 use Rattle.ang_names_known.specs.Spaces.{Space}
-use Rattle.ang_names_listed.specs.declared.listed.Member.{Member}
+use Rattle.ang_names_listed.specs.declared.listed.ListedMember.{ListedMember}
 use Rattle.ang_names_listed.specs.declared.listed.MemberKind.{MemberKind}
 use Rattle.ang_names_listed.specs.declared.listed.MemberKind.TheVariants as member
 use Rattle.ang_names_listed.specs.Declarations.{Declaring}
@@ -24,16 +24,16 @@ use Rattle.ang_check_sound.specs.Checked.{NumberedBody, with_this, method_bodies
 use Rattle.ang_check_sound.proofs.Items.{every_joined}
 
 -- the body of a method, where it has one
-abbrev pub method_body : ℕ → Method → Option NumberedBody
+abbrev pub method_body : ℕ → ScriptMethod → Option NumberedBody
 method_body c m = option_map (λ k. (k, with_this (record { family = c; read_only = m.read_only }) m.function)) m.body
 
-abbrev pub constructor_body : ℕ → Constructor → NumberedBody
+abbrev pub constructor_body : ℕ → ScriptConstructor → NumberedBody
 constructor_body c k = (k.body, with_this (record { family = c; read_only = false }) k.function)
 
 -- ---- how many there are
 
 module _ (E : Space) (all : List (ScriptFunction × Bool)) (d : Declaring) (first c : ℕ) where
-  by_class : (b : Bool) (m : Member) (y : Method) (n : ℕ) (ms : List Method) (ks : List Constructor) (others : List Member) → y.body ≡ body_number b n
+  by_class : (b : Bool) (m : ListedMember) (y : ScriptMethod) (n : ℕ) (ms : List ScriptMethod) (ks : List ScriptConstructor) (others : List ListedMember) → y.body ≡ body_number b n
       → length (filter_map (method_body c) ms) + length ks ≡ length others
       → length (filter_map (method_body c) (y ∷ ms)) + length ks ≡ length (cond b (m ∷ others) others)
   by_class true m y n ms ks others e h =
@@ -47,7 +47,7 @@ module _ (E : Space) (all : List (ScriptFunction × Bool)) (d : Declaring) (firs
       (filter_map (method_body c) ms))) e in
       let goal : length (filter_map (method_body c) (y ∷ ms)) + length ks ≡ length others = omega (arith, none, h) in goal
 
-  by_kind : (kind : MemberKind) (m : Member) (n : ℕ) (ms : List Method) (ks : List Constructor) (others : List Member)
+  by_kind : (kind : MemberKind) (m : ListedMember) (n : ℕ) (ms : List ScriptMethod) (ks : List ScriptConstructor) (others : List ListedMember)
       → length (filter_map (method_body c) ms) + length ks ≡ length others
       → length (filter_map (method_body c) (methods_by E all d m n kind ++ ms)) + length (constructors_by E d m n kind ++ ks)
       ≡ length (cond (has_body d.shape.is_class kind) (m ∷ others) others)
@@ -55,7 +55,7 @@ module _ (E : Space) (all : List (ScriptFunction × Bool)) (d : Declaring) (firs
   by_kind (member.Method y ps a) m n ms ks others h = by_class d.shape.is_class m (method_with all d m n (heading_of E d.origin d.text m.name y ps) a) n ms ks others refl h
   by_kind (member.Constructor ps) m n ms ks others h = let goal : length (filter_map (method_body c) ms) + suc (length ks) ≡ suc (length others) = omega (arith, h) in goal
 
-  members_counted : (before ms : List Member)
+  members_counted : (before ms : List ListedMember)
       → length (filter_map (method_body c) (each_after (methods_after E all d first) before ms))
       + length (each_after (constructors_after E d first) before ms)
       ≡ length (with_bodies d.shape.is_class ms)
@@ -106,7 +106,7 @@ module _ (k : ℕ) where
   in_last : (xs ys : List NumberedBody) → list_any (has_number k) ys ≡ true → list_any (has_number k) (xs ++ ys) ≡ true
   in_last xs ys e = list_any-append (has_number k) xs ys ∙ or_right (list_any (has_number k) xs) (list_any (has_number k) ys) e
 
-  first_method : (c : ℕ) (y : Method) (rest : List NumberedBody) → y.body ≡ Some k → list_any (has_number k) (cons_option (method_body c y) rest) ≡ true
+  first_method : (c : ℕ) (y : ScriptMethod) (rest : List NumberedBody) → y.body ≡ Some k → list_any (has_number k) (cons_option (method_body c y) rest) ≡ true
   first_method c y rest e =
       ap (λ (o : Option ℕ). list_any (has_number k) (cons_option (option_map (λ n. (n, with_this (record { family = c; read_only = y.read_only }) y.function)) o) rest)) e
       ∙ or_left (k == k) (list_any (has_number k) rest) (same_number k)
@@ -115,19 +115,19 @@ module _ (k : ℕ) where
   later_method None rest e = e
   later_method (Some b) rest e = or_right (has_number k b) (list_any (has_number k) rest) e
 
-  method_listed : (c : ℕ) (ys : List Method) (m : ℕ) (y : Method) → slice_get ys m ≡ Some y → y.body ≡ Some k
+  method_listed : (c : ℕ) (ys : List ScriptMethod) (m : ℕ) (y : ScriptMethod) → slice_get ys m ≡ Some y → y.body ≡ Some k
       → list_any (has_number k) (filter_map (method_body c) ys) ≡ true
   method_listed c [] m y at e = cc
   method_listed c (z ∷ ys) zero y at e =
-      first_method c z (filter_map (method_body c) ys) (ap (λ (w : Method). w.body) (same_Some z y at) ∙ e)
+      first_method c z (filter_map (method_body c) ys) (ap (λ (w : ScriptMethod). w.body) (same_Some z y at) ∙ e)
   method_listed c (z ∷ ys) (suc m) y at e = later_method (method_body c z) (filter_map (method_body c) ys) (method_listed c ys m y at e)
 
-  constructor_listed : (c : ℕ) (ys : List Constructor) (m : ℕ) (y : Constructor) → slice_get ys m ≡ Some y → y.body ≡ k
+  constructor_listed : (c : ℕ) (ys : List ScriptConstructor) (m : ℕ) (y : ScriptConstructor) → slice_get ys m ≡ Some y → y.body ≡ k
       → list_any (has_number k) (map (constructor_body c) ys) ≡ true
   constructor_listed c [] m y at e = cc
   constructor_listed c (z ∷ ys) zero y at e =
       or_left (z.body == k) (list_any (has_number k) (map (constructor_body c) ys))
-      (ap (λ n. n == k) (ap (λ (w : Constructor). w.body) (same_Some z y at) ∙ e) ∙ same_number k)
+      (ap (λ n. n == k) (ap (λ (w : ScriptConstructor). w.body) (same_Some z y at) ∙ e) ∙ same_number k)
   constructor_listed c (z ∷ ys) (suc m) y at e =
       or_right (z.body == k) (list_any (has_number k) (map (constructor_body c) ys)) (constructor_listed c ys m y at e)
 
@@ -143,13 +143,13 @@ module _ (k : ℕ) where
       let there : c ≡ length (before ++ g ∷ []) + i = omega (arith, is, length-append before (g ∷ [])) in
       in_last (bodies_in before g) (each_after bodies_in (before ++ g ∷ []) fs) (family_listed (before ++ g ∷ []) fs i c f at there e)
 
-pub method_numbered : (names : Names) (k c m : ℕ) (f : Family) (y : Method) → slice_get names.families c ≡ Some f → slice_get f.methods m ≡ Some y
+pub method_numbered : (names : Names) (k c m : ℕ) (f : Family) (y : ScriptMethod) → slice_get names.families c ≡ Some f → slice_get f.methods m ≡ Some y
     → y.body ≡ Some k → list_any (has_number k) (bodies_of names) ≡ true
 method_numbered names k c m f y family method e =
     family_listed k [] names.families c c f family (let same : c ≡ 0 + c = omega arith in same)
     (in_first k (method_bodies c f) (constructor_bodies c f) (method_listed k c f.methods m y method e))
 
-pub constructor_numbered : (names : Names) (k c m : ℕ) (f : Family) (y : Constructor) → slice_get names.families c ≡ Some f
+pub constructor_numbered : (names : Names) (k c m : ℕ) (f : Family) (y : ScriptConstructor) → slice_get names.families c ≡ Some f
     → slice_get f.constructors m ≡ Some y → y.body ≡ k → list_any (has_number k) (bodies_of names) ≡ true
 constructor_numbered names k c m f y family made e =
     family_listed k [] names.families c c f family (let same : c ≡ 0 + c = omega arith in same)
@@ -158,28 +158,28 @@ constructor_numbered names k c m f y family made e =
 -- ---- what holds of each
 
 module _ (Q : NumberedBody → Type 0) where
-  one_method : (c : ℕ) (y : Method) (o : Option ℕ) (rest : List NumberedBody)
+  one_method : (c : ℕ) (y : ScriptMethod) (o : Option ℕ) (rest : List NumberedBody)
       → ((k : ℕ) → o ≡ Some k → Q (k, with_this (record { family = c; read_only = y.read_only }) y.function)) → Every Q rest
       → Every Q (cons_option (option_map (λ n. (n, with_this (record { family = c; read_only = y.read_only }) y.function)) o) rest)
   one_method c y None rest h r = r
   one_method c y (Some k) rest h r = (h k refl, r)
 
-  each_method : (c : ℕ) (ys : List Method)
-      → ((m : ℕ) (y : Method) → slice_get ys m ≡ Some y → (k : ℕ) → y.body ≡ Some k → Q (k, with_this (record { family = c; read_only = y.read_only }) y.function))
+  each_method : (c : ℕ) (ys : List ScriptMethod)
+      → ((m : ℕ) (y : ScriptMethod) → slice_get ys m ≡ Some y → (k : ℕ) → y.body ≡ Some k → Q (k, with_this (record { family = c; read_only = y.read_only }) y.function))
       → Every Q (filter_map (method_body c) ys)
   each_method c [] h = tt
   each_method c (y ∷ ys) h =
       one_method c y y.body (filter_map (method_body c) ys) (λ k e. h 0 y refl k e) (each_method c ys (λ m z e. h (suc m) z e))
 
-  each_constructor : (c : ℕ) (ys : List Constructor) → ((m : ℕ) (y : Constructor) → slice_get ys m ≡ Some y → Q (constructor_body c y))
+  each_constructor : (c : ℕ) (ys : List ScriptConstructor) → ((m : ℕ) (y : ScriptConstructor) → slice_get ys m ≡ Some y → Q (constructor_body c y))
       → Every Q (map (constructor_body c) ys)
   each_constructor c [] h = tt
   each_constructor c (y ∷ ys) h = (h 0 y refl, each_constructor c ys (λ m z e. h (suc m) z e))
 
   pub record HoldsIn (c : ℕ) (f : Family) : Type 0 where
-    pub methods : (m : ℕ) (y : Method) → slice_get f.methods m ≡ Some y → (k : ℕ) → y.body ≡ Some k
+    pub methods : (m : ℕ) (y : ScriptMethod) → slice_get f.methods m ≡ Some y → (k : ℕ) → y.body ≡ Some k
         → Q (k, with_this (record { family = c; read_only = y.read_only }) y.function)
-    pub constructors : (m : ℕ) (y : Constructor) → slice_get f.constructors m ≡ Some y → Q (constructor_body c y)
+    pub constructors : (m : ℕ) (y : ScriptConstructor) → slice_get f.constructors m ≡ Some y → Q (constructor_body c y)
 
   each_family : (before fs : List Family) → ((i : ℕ) (f : Family) → slice_get fs i ≡ Some f → HoldsIn (length before + i) f)
       → Every Q (each_after bodies_in before fs)

@@ -10,12 +10,12 @@ use Rattle.ang_tree.specs.Stmt.{Every}
 use Rattle.ang_types.specs.declared.arg_type.ArgType.{ArgType}
 use Rattle.ang_types.specs.declared.arg_type.ArgType.TheVariants as type
 use Rattle.ang_types.specs.declared.asks.Asks.TheVariants as asks
-use Rattle.ang_typed.specs.declared.expression.Member.TheVariants as member
+use Rattle.ang_typed.specs.declared.expression.TypedMember.TheVariants as member
 use Rattle.ang_names_known.specs.declared.names.Family.{Family}
 use Rattle.ang_names_known.specs.declared.names.FoundField.{FoundField}
 use Rattle.ang_names_known.specs.Lookup.{field_named, may_use}
 use Rattle.ang_names_known.specs.Spaces.{family_of_type}
-use Rattle.ang_names_listed.specs.declared.role.Role.TheVariants as role
+use Rattle.ang_names_listed.specs.declared.role.TypePosition.TheVariants as role
 use Rattle.ang_names_listed.specs.Sources.{text_of}
 use Rattle.ang_names_listed.specs.Types.{TypeOrError, is_unknown_type, type_in}
 use Rattle.ang_check_operators.specs.Operands.{Operand, object_of}

@@ -12,20 +12,20 @@ use Rattle.ang_types.specs.declared.arg_type.ArgType.{ArgType}
 use Rattle.ang_types.specs.declared.arg_type.ArgType.TheVariants as type
 use Rattle.ang_types.specs.Integers.{common_type}
 use Rattle.ang_types.specs.Ranks.{Ancestors, rank_of}
-use Rattle.ang_typed.specs.declared.expression.Member.{Member}
+use Rattle.ang_typed.specs.declared.expression.TypedMember.{TypedMember}
 use Rattle.ang_typed.specs.declared.expression.Operator.{Operator}
 use Rattle.ang_typed.specs.declared.expression.Comparison.{Comparison}
 use Rattle.ang_typed.specs.declared.expression.Comparison.TheVariants as cmp
 use Rattle.ang_typed.specs.declared.expression.StepKind.{StepKind}
 use Rattle.ang_typed.specs.declared.expression.StepKind.TheVariants as step
-use Rattle.ang_typed.specs.declared.expression.Variable.{Variable}
+use Rattle.ang_typed.specs.declared.expression.TypedVariable.{TypedVariable}
 use Rattle.ang_typed.specs.Typed as t
-use Rattle.ang_check_operators.specs.declared.operand.Seat.{Seat}
-use Rattle.ang_check_operators.specs.declared.operand.Target.{Target}
+use Rattle.ang_check_operators.specs.declared.operand.HandleSite.{HandleSite}
+use Rattle.ang_check_operators.specs.declared.operand.SiteUse.{SiteUse}
 use Rattle.ang_check_operators.specs.declared.forms.Form.{Form}
 use Rattle.ang_check_operators.specs.declared.forms.Form.TheVariants as form
-use Rattle.ang_check_operators.specs.declared.forms.Work.{Work}
-use Rattle.ang_check_operators.specs.declared.forms.Work.TheVariants as work
+use Rattle.ang_check_operators.specs.declared.forms.IntegerOperator.{IntegerOperator}
+use Rattle.ang_check_operators.specs.declared.forms.IntegerOperator.TheVariants as work
 use Rattle.ang_check_operators.specs.Operands.{Operand, operand, reading, conversion, fit_by, fit, integer, number, truth_in, truth, identity_in, identity, object_of, site_in, site_or, target_by, target, seat_by, seat}
 use Rattle.ang_check_operators.specs.Refusals.{Typing, ◌>>=◌, refused}
 use Rattle.ang_check_operators.specs.Forms.{binary_form, compound_work}
@@ -41,12 +41,12 @@ module _ (M : Module) (n : ℕ) where
   IsStoredSite (t.member_of o a) = IsStoredMember M a × Sound M n o
 
   -- The site that a tree reads may be stored into where it is not `const`.
-  abbrev pub IsTargeted : Option Target → t.Expr → Type 0
+  abbrev pub IsTargeted : Option SiteUse → t.Expr → Type 0
   IsTargeted None e = Unit {0}
   IsTargeted (Some x) e = x.read_only ≡ false → IfSome (site_in e) IsStoredSite
 
   -- The same of the site after `@`.
-  abbrev pub IsSeated : Option Seat → t.Expr → Type 0
+  abbrev pub IsSeated : Option HandleSite → t.Expr → Type 0
   IsSeated None e = Unit {0}
   IsSeated (Some s) e = IsTargeted (Some s.target) e
 
@@ -60,12 +60,12 @@ module _ (M : Module) (n : ℕ) where
   no_site place ty e s = record { tree = s; target = tt; seat = tt }
 
   -- a variable by its bare name
-  pub read_sound : (place : Place) (x : Variable) (ty : ArgType) (how : Target) → IsVariable M n x
+  pub read_sound : (place : Place) (x : TypedVariable) (ty : ArgType) (how : SiteUse) → IsVariable M n x
       → (how.read_only ≡ false → IsStored M n x) → SoundOperand (reading place (t.named x) ty how)
   read_sound place x ty how s stored = record { tree = s; target = stored; seat = tt }
 
   -- a member of a sound object
-  pub member_sound : (place : Place) (o : t.Expr) (m : Member) (ty : ArgType) (how : Target) → Sound M n o → IsMember M m
+  pub member_sound : (place : Place) (o : t.Expr) (m : TypedMember) (ty : ArgType) (how : SiteUse) → Sound M n o → IsMember M m
       → (how.read_only ≡ false → IsStoredMember M m) → SoundOperand (reading place (t.member_of o m) ty how)
   member_sound place o m ty how so sm stored = record { tree = (sm, so); target = λ writable. (stored writable, so); seat = tt }
 
@@ -123,12 +123,12 @@ module _ (M : Module) (n : ℕ) where
   site_sound place None s = tt
   site_sound place (Some x) s = s
 
-  stored_there : (place : Place) (x : Target) (b : Bool) (e : t.Expr) → x.read_only ≡ b → IsTargeted (Some x) e
+  stored_there : (place : Place) (x : SiteUse) (b : Bool) (e : t.Expr) → x.read_only ≡ b → IsTargeted (Some x) e
       → IfOk (if b then Err (refused why.Const x.name) else site_or place (site_in e)) IsStoredSite
   stored_there place x true e is s = tt
   stored_there place x false e is s = site_sound place (site_in e) (s is)
 
-  target_by_sound : (place : Place) (x : Option Target) (e : t.Expr) → IsTargeted x e → IfOk (target_by place x e) IsStoredSite
+  target_by_sound : (place : Place) (x : Option SiteUse) (e : t.Expr) → IsTargeted x e → IfOk (target_by place x e) IsStoredSite
   target_by_sound place None e s = tt
   target_by_sound place (Some x) e s = stored_there place x x.read_only e refl s
 
@@ -136,7 +136,7 @@ module _ (M : Module) (n : ℕ) where
   unfolding target
   target_sound a s = target_by_sound a.place a.target a.tree s.target
 
-  seat_by_sound : (place : Place) (x : Option Seat) (e : t.Expr) → IsSeated x e → IfOk (seat_by place x e) IsStoredSite
+  seat_by_sound : (place : Place) (x : Option HandleSite) (e : t.Expr) → IsSeated x e → IfOk (seat_by place x e) IsStoredSite
   seat_by_sound place None e s = tt
   seat_by_sound place (Some x) e s = either_holds IsStoredSite x.is_object _ _ tt (target_by_sound place (Some x.target) e s)
 
@@ -308,7 +308,7 @@ module _ (M : Module) (n : ℕ) where
       holds IsStoredSite SoundOperand (target a) _ (target_sound a sa)
       (λ x sx. with_number SoundOperand a _ (λ q. no_site _ _ _ (step_sound x q kind sx)))
 
-  seated : (is_object : Bool) (x : Option Target) (e : t.Expr) → IsTargeted x e → IsSeated (seat_of is_object x) e
+  seated : (is_object : Bool) (x : Option SiteUse) (e : t.Expr) → IsTargeted x e → IsSeated (seat_of is_object x) e
   seated is_object None e s = tt
   seated is_object (Some x) e s = s
 
@@ -356,7 +356,7 @@ module _ (M : Module) (n : ℕ) where
   unfolding convert_typing
   converted_sound ancestors word a sa = converted_by_sound ancestors word word.kind a sa
 
-  inside_targeted : (x : Option Target) (e : t.Expr) → IsTargeted x e → IsTargeted (inside x) e
+  inside_targeted : (x : Option SiteUse) (e : t.Expr) → IsTargeted x e → IsTargeted (inside x) e
   inside_targeted None e s = tt
   inside_targeted (Some x) e s = s
 
@@ -432,7 +432,7 @@ module _ (M : Module) (n : ℕ) where
       holds IsStoredSite SoundOperand (seat a) _ (seat_sound a sa)
       (λ x sx. fit_one ancestors a.ty b _ sb (λ y sy. no_site _ _ _ (assign_sound x a.ty y sx sy)))
 
-  assigned_by_sound : (ancestors : Ancestors) (at : Place) (a b : Operand) (s : Option Seat) → SoundOperand a → SoundOperand b
+  assigned_by_sound : (ancestors : Ancestors) (at : Place) (a b : Operand) (s : Option HandleSite) → SoundOperand a → SoundOperand b
       → IfOk (assigned_by ancestors at a b s) SoundOperand
   assigned_by_sound ancestors at a b None sa sb = assigned_sound ancestors at a b sa sb
   assigned_by_sound ancestors at a b (Some s) sa sb = reseated_sound ancestors a b sa sb
@@ -456,7 +456,7 @@ module _ (M : Module) (n : ℕ) where
       holds IsStoredSite SoundOperand (target a) _ (target_sound a sa)
       (λ x sx. with_number SoundOperand a _ (λ q. with_integer SoundOperand b _ (λ r. compound_sound ancestors op a.place x q (raised_type q) b sx sb)))
 
-  assignment_by_sound : (ancestors : Ancestors) (at : Place) (w : Option Work) (a b : Operand) → SoundOperand a → SoundOperand b
+  assignment_by_sound : (ancestors : Ancestors) (at : Place) (w : Option IntegerOperator) (a b : Operand) → SoundOperand a → SoundOperand b
       → IfOk (assignment_by ancestors at w a b) SoundOperand
   assignment_by_sound ancestors at None a b sa sb = assigned_by_sound ancestors at a b a.seat sa sb
   assignment_by_sound ancestors at (Some (work.Arithmetic op)) a b sa sb = compound_arithmetic_sound ancestors op a b sa sb

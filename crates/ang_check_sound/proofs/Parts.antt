@@ -8,19 +8,19 @@ use Rattle.ang_view.specs.Registration.{RegistrationList}
 use Rattle.ang_tree.specs.declared.type_name.TypeName.{TypeName}
 use Rattle.ang_tree.specs.Stmt.{Var, Every}
 use Rattle.ang_tree.specs.Declarations.{Decl, class, interface, import, function, globals, empty}
-use Rattle.ang_names_known.specs.declared.names.Constructor.{Constructor}
+use Rattle.ang_names_known.specs.declared.names.ScriptConstructor.{ScriptConstructor}
 use Rattle.ang_names_known.specs.declared.names.Family.{Family}
-use Rattle.ang_names_known.specs.declared.names.Method.{Method}
+use Rattle.ang_names_known.specs.declared.names.ScriptMethod.{ScriptMethod}
 use Rattle.ang_names_known.specs.declared.names.Names.{Names}
 use Rattle.ang_names_known.specs.declared.names.ScriptFunction.{ScriptFunction}
 use Rattle.ang_names_known.specs.declared.names.ScriptGlobal.{ScriptGlobal}
 use Rattle.ang_names_known.specs.Items.{each_after}
 use Rattle.ang_names_known.specs.Spaces.{Space, space_of_names}
 use Rattle.ang_names_known.specs.declared.names.Written.{Written}
-use Rattle.ang_names_listed.specs.declared.role.Role.TheVariants as role
+use Rattle.ang_names_listed.specs.declared.role.TypePosition.TheVariants as role
 use Rattle.ang_names_listed.specs.Types.{written_in}
 use Rattle.ang_names_listed.specs.Sources.{Source}
-use Rattle.ang_names_listed.specs.declared.listed.Declared.{Declared}
+use Rattle.ang_names_listed.specs.declared.listed.ListedDeclaration.{ListedDeclaration}
 use Rattle.ang_names_listed.specs.Declarations.{Declaring, stands_at, class_shape, interface_shape, globals_from, declared_at, declarations_of, declaring_of, families_of, family_name}
 use Rattle.ang_names_classes.specs.Headings.{signatures_of}
 use Rattle.ang_names_classes.specs.Resolved.{function_of, global_of, body_members, families_after, family_with, functions_in, families_in, names_of, space_of_declared}
@@ -43,7 +43,7 @@ bodies_more before d n e =
 
 -- ---- globals of one declaration
 
-module _ (E : Space) (script : ℕ) (text : List ℕ) (n : ℕ) (y : TypeName) (rest : List Declared) where
+module _ (E : Space) (script : ℕ) (text : List ℕ) (n : ℕ) (y : TypeName) (rest : List ListedDeclaration) where
   no_functions : (i : ℕ) (vs : List Var) → filter_map (function_of E) (globals_from script text n y i vs ++ rest) ≡ filter_map (function_of E) rest
   unfolding function_of
   no_functions i [] = refl
@@ -82,7 +82,7 @@ module _ (V : RegistrationList) (names : Names) (declared : List (List ℕ)) (fs
   families_from before ds = each_after (families_after E fs (signatures_of E fs) (length names.functions)) before ds
 
   -- What the names have for these declarations, where others stand in front, with i functions, g globals and these families.
-  record Left (before : List InSection) (i g : ℕ) (front : List Declaring) (ds : List Declared) : Type 0 where
+  record Left (before : List InSection) (i g : ℕ) (front : List Declaring) (ds : List ListedDeclaration) : Type 0 where
     functions : Behind ScriptFunction i names.functions (filter_map (function_of E) ds)
     globals : Behind ScriptGlobal g names.globals (filter_map (global_of E) ds)
     families : Behind Family (length front) names.families (families_from front (filter_map declaring_of ds))
@@ -99,7 +99,7 @@ module _ (V : RegistrationList) (names : Names) (declared : List (List ℕ)) (fs
   written_at : List (List ℕ) → List ℕ → TypeName → Written
   written_at f text y = written_in (record { view = V; families = f }) role.Variable text y
 
-  globals_numbered : (i g j first : ℕ) (script : ℕ) (text : List ℕ) (n : ℕ) (y : TypeName) (rest : List Declared) (before vs : List Var) (k : ℕ) (ps : List Part)
+  globals_numbered : (i g j first : ℕ) (script : ℕ) (text : List ℕ) (n : ℕ) (y : TypeName) (rest : List ListedDeclaration) (before vs : List Var) (k : ℕ) (ps : List Part)
       → g ≡ first + length before → Behind ScriptGlobal g names.globals (filter_map (global_of E) (globals_from script text n y k vs ++ rest))
       → AreNumbered V names total i (g + length vs) j ps → AreNumbered V names total i g j (each_after (initializer_parts first text y) before vs ++ ps)
   unfolding global_of written_at
@@ -116,10 +116,10 @@ module _ (V : RegistrationList) (names : Names) (declared : List (List ℕ)) (fs
       )
 
   -- what follows after the declaration
-  abbrev Then : List InSection → ℕ → ℕ → List Declaring → List Declared → List Part → Type 0
+  abbrev Then : List InSection → ℕ → ℕ → List Declaring → List ListedDeclaration → List Part → Type 0
   Then before i g front rest ps = Left before i g front rest → Follow i g front (filter_map declaring_of rest) ps
 
-  declaration_follows : (before : List InSection) (text : List ℕ) (d : Decl) (script n i g : ℕ) (rest : List Declared) (front : List Declaring) (ps : List Part)
+  declaration_follows : (before : List InSection) (text : List ℕ) (d : Decl) (script n i g : ℕ) (rest : List ListedDeclaration) (front : List Declaring) (ps : List Part)
       → Left before i g front (declared_at script text n d ++ rest)
       → ((i' g' : ℕ) (front' : List Declaring) → Then (before ++ (text, d) ∷ []) i' g' front' rest ps)
       → Follow i g front (filter_map declaring_of (declared_at script text n d ++ rest)) (declaration_parts before (text, d) ++ ps)
@@ -254,13 +254,13 @@ module _ (V : RegistrationList) (names : Names) (declared : List (List ℕ)) (fs
     written = λ parts inside. tt;
   }
 
-  all_follow : (before xs : List InSection) (i g : ℕ) (front : List Declaring) (ds : List Declared) → Declare xs ds → Left before i g front ds
+  all_follow : (before xs : List InSection) (i g : ℕ) (front : List Declaring) (ds : List ListedDeclaration) → Declare xs ds → Left before i g front ds
       → Follow i g front (filter_map declaring_of ds) (each_after declaration_parts before xs)
   all_follow before [] i g front ds d l =
-      subst (λ (es : List Declared). Follow i g front (filter_map declaring_of es) []) (sym d)
+      subst (λ (es : List ListedDeclaration). Follow i g front (filter_map declaring_of es) []) (sym d)
       (nothing_follows before i g front (subst (Left before i g front) d l))
   all_follow before (x ∷ xs) i g front ds d l =
-      subst (λ (es : List Declared). Follow i g front (filter_map declaring_of es) (each_after declaration_parts before (x ∷ xs))) (sym d.3)
+      subst (λ (es : List ListedDeclaration). Follow i g front (filter_map declaring_of es) (each_after declaration_parts before (x ∷ xs))) (sym d.3)
       (declaration_follows before x.0 x.1 d.0 d.1 i g d.2 front (each_after declaration_parts (before ++ x ∷ []) xs)
       (subst (Left before i g front) d.3 l)
       (λ i' g' front' l'. all_follow (before ++ x ∷ []) xs i' g' front' d.2 d.4 l'))
@@ -317,9 +317,9 @@ module _ (V : RegistrationList) (names : Names) where
   one_judged : (p : Part) → IsPartOf V names p → length (judged V names p) ≡ 1
   one_judged (a_function n text x b) h = ap (λ (f : Option ScriptFunction). length (judged_function V names text x b f)) h.1
   one_judged (a_global n text y i) h = ap (λ (g : Option ScriptGlobal). length (judged_global V names text y i g)) h.1
-  one_judged (a_method c m text x b) h = ap (λ (y : Option Method). length (judged_method V names c text x b y)) h.1
+  one_judged (a_method c m text x b) h = ap (λ (y : Option ScriptMethod). length (judged_method V names c text x b y)) h.1
   one_judged (a_constructor c m text x own bases u ss) h =
-      ap (λ (k : Option Constructor). length (judged_constructor V names c text x (base_name V names c text own bases) (base_of V names c) u ss k)) h.1
+      ap (λ (k : Option ScriptConstructor). length (judged_constructor V names c text x (base_name V names c text own bases) (base_of V names c) u ss k)) h.1
   one_judged (a_default c text x bases) h = refl
 
   each_judged : (ps : List Part) → Every (IsPartOf V names) ps → length (flat_map (judged V names) ps) ≡ length ps

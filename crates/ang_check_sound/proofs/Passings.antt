@@ -7,7 +7,7 @@ use Rattle.ang_kinds.specs.declared.types.Pass.TheVariants as pass
 use Rattle.ang_types.specs.declared.arg_type.ArgType.{ArgType}
 use Rattle.ang_types.specs.declared.arg_type.ArgType.TheVariants as type
 use Rattle.ang_types.specs.Overloads.{Params}
-use Rattle.ang_typed.specs.declared.program.Parameter.{Parameter}
+use Rattle.ang_typed.specs.declared.program.TypedParameter.{TypedParameter}
 use Rattle.ang_meaning.specs.declared.routine.Passing.{Passing}
 use Rattle.ang_meaning.specs.declared.routine.Passing.TheVariants.{Out}
 use Rattle.ang_source.specs.Meaning.{referred, passing_by, passing_of, passings_of}
@@ -20,7 +20,7 @@ abbrev pub takes : ArgType × Pass → Passing
 takes p = passing_by p.1 p.0
 
 -- These parameters take what those types and passings take, the first one first.
-abbrev pub TakeAlike : Params → List Parameter → Type 0
+abbrev pub TakeAlike : Params → List TypedParameter → Type 0
 TakeAlike ps qs = map takes ps ≡ map passing_of qs
 
 pub params_alike : (ps : List ScriptParameter) → TakeAlike (map type_and_pass ps) (map typed_parameter ps)
@@ -43,6 +43,6 @@ only_out pass.RefOut ty e = refl
 only_out pass.RefInOut ty e = absurd (never_referred ty e)
 
 -- in the order of the parameters
-pub in_order : (ps qs : List Parameter) → passings_of ps ≡ passings_of qs → map (λ (p : Parameter). passing_of p) ps ≡ map (λ (p : Parameter). passing_of p) qs
+pub in_order : (ps qs : List TypedParameter) → passings_of ps ≡ passings_of qs → map (λ (p : TypedParameter). passing_of p) ps ≡ map (λ (p : TypedParameter). passing_of p) qs
 in_order ps qs e =
-    sym (reverse-reverse (map (λ (p : Parameter). passing_of p) ps)) ∙ ap reverse e ∙ reverse-reverse (map (λ (p : Parameter). passing_of p) qs)
+    sym (reverse-reverse (map (λ (p : TypedParameter). passing_of p) ps)) ∙ ap reverse e ∙ reverse-reverse (map (λ (p : TypedParameter). passing_of p) qs)

@@ -12,11 +12,11 @@ use Rattle.ang_tree.specs.Declarations.{SuperTree}
 use Rattle.ang_tree.specs.Stmt.{Init, Body, Stmts, Every}
 use Rattle.ang_types.specs.declared.arg_type.ArgType.{ArgType}
 use Rattle.ang_types.specs.declared.asks.Refused.{Refused}
-use Rattle.ang_typed.specs.declared.program.Parameter.{Parameter}
+use Rattle.ang_typed.specs.declared.program.TypedParameter.{TypedParameter}
 use Rattle.ang_typed.specs.Typed as t
-use Rattle.ang_names_known.specs.declared.names.Constructor.{Constructor}
+use Rattle.ang_names_known.specs.declared.names.ScriptConstructor.{ScriptConstructor}
 use Rattle.ang_names_known.specs.declared.names.Family.{Family}
-use Rattle.ang_names_known.specs.declared.names.Method.{Method}
+use Rattle.ang_names_known.specs.declared.names.ScriptMethod.{ScriptMethod}
 use Rattle.ang_names_known.specs.declared.names.Names.{Names}
 use Rattle.ang_names_known.specs.declared.names.ScriptFunction.{ScriptFunction}
 use Rattle.ang_names_known.specs.declared.names.ScriptGlobal.{ScriptGlobal}
@@ -55,14 +55,14 @@ module _ (V : RegistrationList) (names : Names) where
 
   -- ---- functions and globals
 
-  abbrev IsFunctionAt : ℕ → t.Function → Type 0
+  abbrev IsFunctionAt : ℕ → t.TypedFunction → Type 0
   IsFunctionAt n h = (f : ScriptFunction) × (slice_get names.functions n ≡ Some f) × IsOf (typed_parameters f) f.result.ty h
 
   abbrev IsGlobalAt : ℕ → t.Global → Type 0
   IsGlobalAt n x = (g : ScriptGlobal) × (slice_get names.globals n ≡ Some g) × IsGlobal g x
 
   -- a body of this number is listed
-  abbrev IsListed : ℕ → t.Function → Type 0
+  abbrev IsListed : ℕ → t.TypedFunction → Type 0
   IsListed j h = list_any (has_number (number_of V names j)) (bodies_of names) ≡ true
 
   -- what these judgements give, where i functions, g globals and j bodies of members stand before them
@@ -77,7 +77,7 @@ module _ (V : RegistrationList) (names : Names) where
   abbrev Clean : List Judgement → Type 0
   Clean js = filter_map refusal_in js ≡ []
 
-  function_more : (total i g j : ℕ) (text : List ℕ) (f : ScriptFunction) (x : Typing t.Function) (js : List Judgement)
+  function_more : (total i g j : ℕ) (text : List ℕ) (f : ScriptFunction) (x : Typing t.TypedFunction) (js : List Judgement)
       → slice_get names.functions i ≡ Some f → IfOk x (IsOf (typed_parameters f) f.result.ty) → Clean (of_function text x ∷ js)
       → Given total (i + 1) g j js → Given total i g j (of_function text x ∷ js)
   function_more total i g j text f (Ok h) js at is e r = record {
@@ -105,7 +105,7 @@ module _ (V : RegistrationList) (names : Names) where
   }
   global_more total i g j text f (Err why) js at is e r = cc
 
-  member_more : (total i g j : ℕ) (text : List ℕ) (x : Typing t.Function) (js : List Judgement)
+  member_more : (total i g j : ℕ) (text : List ℕ) (x : Typing t.TypedFunction) (js : List Judgement)
       → list_any (has_number (number_of V names j)) (bodies_of names) ≡ true → Clean (of_member text x ∷ js)
       → Given total i g (j + 1) js → Given total i g j (of_member text x ∷ js)
   member_more total i g j text (Ok h) js listed e r = record {
@@ -148,13 +148,13 @@ module _ (V : RegistrationList) (names : Names) where
       (global_declared (context_in V names text None) h y init) clean r
 
   -- what a number of a family has
-  family_method : (c m : ℕ) (o : Option Family) (y : Method) → slice_get names.families c ≡ o
+  family_method : (c m : ℕ) (o : Option Family) (y : ScriptMethod) → slice_get names.families c ≡ o
       → option_and_then (λ (f : Family). slice_get f.methods m) o ≡ Some y
       → (f : Family) × (slice_get names.families c ≡ Some f) × (slice_get f.methods m ≡ Some y)
   family_method c m None y is e = cc
   family_method c m (Some f) y is e = (f, is, e)
 
-  family_constructor : (c m : ℕ) (o : Option Family) (y : Constructor) → slice_get names.families c ≡ o
+  family_constructor : (c m : ℕ) (o : Option Family) (y : ScriptConstructor) → slice_get names.families c ≡ o
       → option_and_then (λ (f : Family). slice_get f.constructors m) o ≡ Some y
       → (f : Family) × (slice_get names.families c ≡ Some f) × (slice_get f.constructors m ≡ Some y)
   family_constructor c m None y is e = cc
@@ -172,7 +172,7 @@ module _ (V : RegistrationList) (names : Names) where
       let there = family_constructor c m (slice_get names.families c) h.constructor refl h.there in
       constructor_numbered names (number_of V names j) c m there.0 h.constructor there.1 there.2 h.body
 
-  by_method : (total i g j c : ℕ) (text : List ℕ) (x : Token) (b : Body) (o : Option Method) (y : Method) (js : List Judgement) → o ≡ Some y
+  by_method : (total i g j c : ℕ) (text : List ℕ) (x : Token) (b : Body) (o : Option ScriptMethod) (y : ScriptMethod) (js : List Judgement) → o ≡ Some y
       → list_any (has_number (number_of V names j)) (bodies_of names) ≡ true → Clean (judged_method V names c text x b o ++ js)
       → Given total i g (j + 1) js → Given total i g j (judged_method V names c text x b o ++ js)
   by_method total i g j c text x b None y js e listed clean r = cc
@@ -180,7 +180,7 @@ module _ (V : RegistrationList) (names : Names) where
       let w = within_of V names c z.read_only in
       member_more total i g j text (method_body_typing (context_in V names text (Some w)) w z.function x b) js listed clean r
 
-  by_constructor : (total i g j c : ℕ) (text : List ℕ) (x base : Token) (bn : Option ℕ) (u : Option SuperTree) (ss : Stmts) (o : Option Constructor) (y : Constructor)
+  by_constructor : (total i g j c : ℕ) (text : List ℕ) (x base : Token) (bn : Option ℕ) (u : Option SuperTree) (ss : Stmts) (o : Option ScriptConstructor) (y : ScriptConstructor)
       (js : List Judgement) → o ≡ Some y → list_any (has_number (number_of V names j)) (bodies_of names) ≡ true
       → Clean (judged_constructor V names c text x base bn u ss o ++ js)
       → Given total i g (j + 1) js → Given total i g j (judged_constructor V names c text x base bn u ss o ++ js)
@@ -220,27 +220,27 @@ module _ (V : RegistrationList) (names : Names) where
   -- ---- each body of a member at its number
 
   -- of all functions and of the bodies of members
-  module _ (functions members : List t.Function) (functions_first : length functions ≡ length names.functions) where
+  module _ (functions members : List t.TypedFunction) (functions_first : length functions ≡ length names.functions) where
     -- The body of this part was typed, and is at the number that it has.
     abbrev Sits : Part → Type 0
     Sits (a_function n text x b) = Unit {0}
     Sits (a_global n text y i) = Unit {0}
     Sits (a_method c m text x b) =
-        (y : Method) × (h : t.Function) × (k : ℕ) × (method_at V names c m ≡ Some y)
+        (y : ScriptMethod) × (h : t.TypedFunction) × (k : ℕ) × (method_at V names c m ≡ Some y)
         × (method_body_typing (context_in V names text (Some (within_of V names c y.read_only))) (within_of V names c y.read_only) y.function x b ≡ Ok h)
         × (y.body ≡ Some k) × (slice_get (functions ++ members) k ≡ Some h)
     Sits (a_constructor c m text x own bases u ss) =
-        (y : Constructor) × (h : t.Function) × (constructor_at V names c m ≡ Some y)
+        (y : ScriptConstructor) × (h : t.TypedFunction) × (constructor_at V names c m ≡ Some y)
         × (constructor_typing (context_in V names text (Some (within_of V names c false))) (within_of V names c false) y.function x
         (base_name V names c text own bases) (base_of V names c) u ss ≡ Ok h)
         × (slice_get (functions ++ members) y.body ≡ Some h)
     Sits (a_default c text x bases) = Unit {0}
 
     -- the typing of a member that comes next
-    next_member : (j : ℕ) (text : List ℕ) (x : Typing t.Function) (js : List Judgement) → Clean (of_member text x ∷ js)
-        → Behind t.Function j members (filter_map member_given (of_member text x ∷ js))
-        → (h : t.Function) × (x ≡ Ok h) × (slice_get (functions ++ members) (number_of V names j) ≡ Some h)
-        × Behind t.Function (j + 1) members (filter_map member_given js)
+    next_member : (j : ℕ) (text : List ℕ) (x : Typing t.TypedFunction) (js : List Judgement) → Clean (of_member text x ∷ js)
+        → Behind t.TypedFunction j members (filter_map member_given (of_member text x ∷ js))
+        → (h : t.TypedFunction) × (x ≡ Ok h) × (slice_get (functions ++ members) (number_of V names j) ≡ Some h)
+        × Behind t.TypedFunction (j + 1) members (filter_map member_given js)
     next_member j text (Ok h) js clean b = (
       h,
       refl,
@@ -261,26 +261,26 @@ module _ (V : RegistrationList) (names : Names) where
     no_global text y i (Some g) js = refl
 
     all_sit : (total i g j : ℕ) (ps : List Part) → AreNumbered V names total i g j ps → Clean (J ps)
-        → Behind t.Function j members (filter_map member_given (J ps)) → Every Sits ps
+        → Behind t.TypedFunction j members (filter_map member_given (J ps)) → Every Sits ps
     all_sit total i g j [] h clean b = tt
     all_sit total i g j (a_function n text x code ∷ ps) h clean b = (
       tt,
       all_sit total (i + 1) g j ps h.2 (none_behind (judged V names (a_function n text x code)) (J ps) clean)
-          (subst (Behind t.Function j members) (no_function text x code (slice_get names.functions n) (J ps)) b),
+          (subst (Behind t.TypedFunction j members) (no_function text x code (slice_get names.functions n) (J ps)) b),
     )
     all_sit total i g j (a_global n text y init ∷ ps) h clean b = (
       tt,
       all_sit total i (g + 1) j ps h.2 (none_behind (judged V names (a_global n text y init)) (J ps) clean)
-          (subst (Behind t.Function j members) (no_global text y init (slice_get names.globals n) (J ps)) b),
+          (subst (Behind t.TypedFunction j members) (no_global text y init (slice_get names.globals n) (J ps)) b),
     )
     all_sit total i g j (a_method c m text x code ∷ ps) h clean b =
         let y = h.0.method in
         let w = within_of V names c y.read_only in
         let typing = method_body_typing (context_in V names text (Some w)) w y.function x code in
         let js : List Judgement = of_member text typing ∷ J ps in
-        let same : J (a_method c m text x code ∷ ps) ≡ js = ap (λ (o : Option Method). judged_method V names c text x code o ++ J ps) h.0.there in
+        let same : J (a_method c m text x code ∷ ps) ≡ js = ap (λ (o : Option ScriptMethod). judged_method V names c text x code o ++ J ps) h.0.there in
         let next = next_member j text typing (J ps) (subst Clean same clean)
-        (subst (λ (l : List Judgement). Behind t.Function j members (filter_map member_given l)) same b) in (
+        (subst (λ (l : List Judgement). Behind t.TypedFunction j members (filter_map member_given l)) same b) in (
           (y, next.0, number_of V names j, h.0.there, next.1, h.0.body, next.2),
           all_sit total i g (j + 1) ps h.1 (none_behind (judged V names (a_method c m text x code)) (J ps) clean) next.3,
         )
@@ -291,9 +291,9 @@ module _ (V : RegistrationList) (names : Names) where
         let typing = constructor_typing (context_in V names text (Some w)) w y.function x base (base_of V names c) u ss in
         let js : List Judgement = of_member text typing ∷ J ps in
         let same : J (a_constructor c m text x own bases u ss ∷ ps) ≡ js =
-        ap (λ (o : Option Constructor). judged_constructor V names c text x base (base_of V names c) u ss o ++ J ps) h.0.there in
+        ap (λ (o : Option ScriptConstructor). judged_constructor V names c text x base (base_of V names c) u ss o ++ J ps) h.0.there in
         let next = next_member j text typing (J ps) (subst Clean same clean)
-        (subst (λ (l : List Judgement). Behind t.Function j members (filter_map member_given l)) same b) in (
+        (subst (λ (l : List Judgement). Behind t.TypedFunction j members (filter_map member_given l)) same b) in (
           (y, next.0, h.0.there, next.1, subst (λ k. slice_get (functions ++ members) k ≡ Some next.0) (sym h.0.body) next.2),
           all_sit total i g (j + 1) ps h.1 (none_behind (judged V names (a_constructor c m text x own bases u ss)) (J ps) clean) next.3,
         )
@@ -323,12 +323,12 @@ each_at_place : {A : Type 0} (P : ℕ → A → Type 0) (all : List A) (n : ℕ)
 each_at_place P all n [] b go = tt
 each_at_place P all n (x ∷ xs) b go = (go n x (next_item n all x xs b), each_at_place P all (n + 1) xs (next_left n all x xs b) go)
 
-ranged : (B : ℕ → List Parameter) (first j : ℕ) (xs : List t.Function) → EachFrom (λ k (h : t.Function). B (first + k) ≡ h.parameters) j xs
-    → map (λ (h : t.Function). h.parameters) xs ≡ map B (range_with_len (first + j) (length xs))
+ranged : (B : ℕ → List TypedParameter) (first j : ℕ) (xs : List t.TypedFunction) → EachFrom (λ k (h : t.TypedFunction). B (first + k) ≡ h.parameters) j xs
+    → map (λ (h : t.TypedFunction). h.parameters) xs ≡ map B (range_with_len (first + j) (length xs))
 ranged B first j [] h = refl
 ranged B first j (x ∷ xs) h =
     let next : first + (j + 1) ≡ first + j + 1 = omega arith in
-    ap (λ ps. ps ∷ map (λ (h : t.Function). h.parameters) xs) (sym h.0)
+    ap (λ ps. ps ∷ map (λ (h : t.TypedFunction). h.parameters) xs) (sym h.0)
     ∙ ap (λ rest. B (first + j) ∷ rest) (ranged B first (j + 1) xs h.1 ∙ ap (λ k. map B (range_with_len k (length xs))) next)
 
 take_front : {A : Type 0} (xs ys : List A) → take (length xs) (xs ++ ys) ≡ xs
@@ -338,31 +338,31 @@ take_front (x ∷ xs) ys = ap (λ zs. x ∷ zs) (take_front xs ys)
 -- ---- what the names declare
 
 -- Over a view, names and sources, of functions and bodies of members that are given:
-module _ (V : RegistrationList) (names : Names) (sources : List Source) (p : t.Program) (functions members : List t.Function)
+module _ (V : RegistrationList) (names : Names) (sources : List Source) (p : t.Program) (functions members : List t.TypedFunction)
     (tree : p.functions ≡ functions ++ members) (count : length functions ≡ length names.functions) (has : HasParts V names sources)
     (sit : Every (Sits V names functions members count) (parts_of sources)) where
-  at_tree : (k : ℕ) (h : t.Function) → slice_get (functions ++ members) k ≡ Some h → slice_get p.functions k ≡ Some h
+  at_tree : (k : ℕ) (h : t.TypedFunction) → slice_get (functions ++ members) k ≡ Some h → slice_get p.functions k ≡ Some h
   at_tree k h e = ap (λ fs. slice_get fs k) tree ∙ e
 
-  method_is : (c m k : ℕ) (x : Method) → method_at V names c m ≡ Some x → x.body ≡ Some k → HasMethodBody V names sources p c m k x
+  method_is : (c m k : ℕ) (x : ScriptMethod) → method_at V names c m ≡ Some x → x.body ≡ Some k → HasMethodBody V names sources p c m k x
   method_is c m k x e body =
       let family = family_method V names c m (slice_get names.families c) x refl e in
       let written = at_number (IsFamilyWritten (parts_of sources)) c names.families family.0 has.written family.1 in
       let part = at_number (IsMethodWritten (parts_of sources) c) m family.0.methods x written.methods family.2 k body in
       let s = each_has (Sits V names functions members count) (parts_of sources) (a_method c m part.text part.name part.tree) sit part.written in
       let same : s.0 ≡ x = same_Some s.0 x (sym s.3 ∙ e) in
-      let number : s.2 ≡ k = same_Some s.2 k (sym s.5 ∙ ap (λ (y : Method). y.body) same ∙ body) in
+      let number : s.2 ≡ k = same_Some s.2 k (sym s.5 ∙ ap (λ (y : ScriptMethod). y.body) same ∙ body) in
       record {
         text = part.text;
         name = part.name;
         tree = part.tree;
         written = part.written;
-        typed = subst (λ (y : Method). (h : t.Function)
+        typed = subst (λ (y : ScriptMethod). (h : t.TypedFunction)
             × (method_body_typing (context_in V names part.text (Some (within_of V names c y.read_only))) (within_of V names c y.read_only) y.function part.name part.tree ≡ Ok h)
             × (slice_get p.functions k ≡ Some h)) same (s.1, s.4, subst (λ n. slice_get p.functions n ≡ Some s.1) number (at_tree s.2 s.1 s.6));
       }
 
-  constructor_is : (c m : ℕ) (x : Constructor) → constructor_at V names c m ≡ Some x → HasConstructorBody V names sources p c m x
+  constructor_is : (c m : ℕ) (x : ScriptConstructor) → constructor_at V names c m ≡ Some x → HasConstructorBody V names sources p c m x
   constructor_is c m x e =
       let family = family_constructor V names c m (slice_get names.families c) x refl e in
       let written = at_number (IsFamilyWritten (parts_of sources)) c names.families family.0 has.written family.1 in
@@ -378,7 +378,7 @@ module _ (V : RegistrationList) (names : Names) (sources : List Source) (p : t.P
         super = part.super;
         tree = part.tree;
         written = part.written;
-        typed = subst (λ (y : Constructor). (h : t.Function)
+        typed = subst (λ (y : ScriptConstructor). (h : t.TypedFunction)
             × (constructor_typing (context_in V names part.text (Some (within_of V names c false))) (within_of V names c false) y.function part.name
             (base_name V names c part.text part.own part.bases) (base_of V names c) part.super part.tree ≡ Ok h)
             × (slice_get p.functions y.body ≡ Some h)) same (s.1, s.3, at_tree s.0.body s.1 s.4);
@@ -389,16 +389,16 @@ module _ (V : RegistrationList) (names : Names) (sources : List Source) (p : t.P
 
   -- The function of a body's number has its parameters.
   abbrev HasParameters : NumberedBody → Type 0
-  HasParameters b = (h : t.Function) × (slice_get (functions ++ members) b.0 ≡ Some h) × (h.parameters ≡ b.1)
+  HasParameters b = (h : t.TypedFunction) × (slice_get (functions ++ members) b.0 ≡ Some h) × (h.parameters ≡ b.1)
 
-  typed_as : (ps : List Parameter) (x : Typing t.Function) (h : t.Function) → x ≡ Ok h → IfOk x (λ g. g.parameters ≡ ps) → h.parameters ≡ ps
-  typed_as ps x h e is = subst (λ y. IfOk y (λ (g : t.Function). g.parameters ≡ ps)) e is
+  typed_as : (ps : List TypedParameter) (x : Typing t.TypedFunction) (h : t.TypedFunction) → x ≡ Ok h → IfOk x (λ g. g.parameters ≡ ps) → h.parameters ≡ ps
+  typed_as ps x h e is = subst (λ y. IfOk y (λ (g : t.TypedFunction). g.parameters ≡ ps)) e is
 
-  only_parameters : (ps : List Parameter) (ty : ArgType) (x : Typing t.Function) → IfOk x (IsOf ps ty) → IfOk x (λ g. g.parameters ≡ ps)
+  only_parameters : (ps : List TypedParameter) (ty : ArgType) (x : Typing t.TypedFunction) → IfOk x (IsOf ps ty) → IfOk x (λ g. g.parameters ≡ ps)
   only_parameters ps ty (Ok h) is = is.parameters
   only_parameters ps ty (Err why) is = tt
 
-  in_tree : (k : ℕ) (h : t.Function) → slice_get p.functions k ≡ Some h → slice_get (functions ++ members) k ≡ Some h
+  in_tree : (k : ℕ) (h : t.TypedFunction) → slice_get p.functions k ≡ Some h → slice_get (functions ++ members) k ≡ Some h
   in_tree k h e = ap (λ fs. slice_get fs k) (sym tree) ∙ e
 
   family_holds : (c : ℕ) (f : Family) → slice_get names.families c ≡ Some f → HoldsIn HasParameters c f
@@ -424,14 +424,14 @@ module _ (V : RegistrationList) (names : Names) (sources : List Source) (p : t.P
         );
   }
 
-  parameters_at : (k : ℕ) (h : t.Function) → list_any (has_number k) (bodies_of names) ≡ true → slice_get (functions ++ members) k ≡ Some h
+  parameters_at : (k : ℕ) (h : t.TypedFunction) → list_any (has_number k) (bodies_of names) ≡ true → slice_get (functions ++ members) k ≡ Some h
       → body_parameters names k ≡ h.parameters
   parameters_at k h listed e =
       let b = found (has_number k) HasParameters (bodies_of names) listed (every_body HasParameters names family_holds) in
       let number : b.0.0 ≡ k = eqb-true b.0.0 k b.2 in
       let there : slice_get (functions ++ members) k ≡ Some b.3.0 = subst (λ n. slice_get (functions ++ members) n ≡ Some b.3.0) number b.3.1 in
       let same : b.3.0 ≡ h = same_Some b.3.0 h (sym there ∙ e) in
-      ap (λ (o : Option NumberedBody). unwrap_or (option_map (λ (c : NumberedBody). c.1) o) []) b.1 ∙ sym b.3.2 ∙ ap (λ (g : t.Function). g.parameters) same
+      ap (λ (o : Option NumberedBody). unwrap_or (option_map (λ (c : NumberedBody). c.1) o) []) b.1 ∙ sym b.3.2 ∙ ap (λ (g : t.TypedFunction). g.parameters) same
 
 -- how many bodies the names have
 total_is : (V : RegistrationList) (sources : List Source) → length (bodies_of (names_of V (declarations_of sources))) ≡ total_of sources
@@ -458,32 +458,32 @@ has_names V names sources e none =
     let global_count : length globals ≡ length names.globals = let c = given.global_count in omega (arith, c) in
     let member_count : length members ≡ total = let c = given.member_count in omega (arith, c) in
     let sit = all_sit V names functions members count total 0 0 0 parts has.numbered none (all_left members) in
-    let own : map (λ (h : t.Function). h.parameters) functions ≡ map typed_parameters names.functions =
-    same_by_place (λ (h : t.Function). h.parameters) typed_parameters names.functions 0 functions names.functions (all_left names.functions)
+    let own : map (λ (h : t.TypedFunction). h.parameters) functions ≡ map typed_parameters names.functions =
+    same_by_place (λ (h : t.TypedFunction). h.parameters) typed_parameters names.functions 0 functions names.functions (all_left names.functions)
     (each_other (IsFunctionAt V names) (λ k h. (f : ScriptFunction) × (slice_get names.functions k ≡ Some f) × (h.parameters ≡ typed_parameters f)) 0 functions
     (λ k h i. (i.0, i.1, i.2.parameters)) given.functions) count in
-    let bodies : map (λ (h : t.Function). h.parameters) members
+    let bodies : map (λ (h : t.TypedFunction). h.parameters) members
     ≡ map (body_parameters names) (range_with_len (length names.functions) (length (bodies_of names))) =
     let start : length names.functions + 0 ≡ length names.functions = omega arith in
     let many : length members ≡ length (bodies_of names) =
     member_count ∙ sym (total_is V sources) ∙ ap (λ (m : Names). length (bodies_of m)) (sym e) in
     ranged (body_parameters names) (length names.functions) 0 members
-    (each_at_place (λ k (h : t.Function). body_parameters names (length names.functions + k) ≡ h.parameters) members 0 members (all_left members)
+    (each_at_place (λ k (h : t.TypedFunction). body_parameters names (length names.functions + k) ≡ h.parameters) members 0 members (all_left members)
     (λ k h i. parameters_at V names sources p functions members refl count has sit (length names.functions + k) h
     (at_number (IsListed V names) k members h given.members i) (in_second functions members (length names.functions) k h count i)))
     ∙ ap (λ n. map (body_parameters names) (range_with_len n (length members))) start
     ∙ ap (λ n. map (body_parameters names) (range_with_len (length names.functions) n)) many in
-    let results : map (λ (h : t.Function). h.result) functions ≡ map (λ (f : ScriptFunction). f.result.ty) names.functions =
-    same_by_place (λ (h : t.Function). h.result) (λ (f : ScriptFunction). f.result.ty) names.functions 0 functions names.functions (all_left names.functions)
+    let results : map (λ (h : t.TypedFunction). h.result) functions ≡ map (λ (f : ScriptFunction). f.result.ty) names.functions =
+    same_by_place (λ (h : t.TypedFunction). h.result) (λ (f : ScriptFunction). f.result.ty) names.functions 0 functions names.functions (all_left names.functions)
     (each_other (IsFunctionAt V names) (λ k h. (f : ScriptFunction) × (slice_get names.functions k ≡ Some f) × (h.result ≡ f.result.ty)) 0 functions
     (λ k h i. (i.0, i.1, i.2.result)) given.functions) count in
-    let as_many : length names.functions ≡ length (map (λ (h : t.Function). h.result) functions) = sym count ∙ sym (length-map functions (λ (h : t.Function). h.result)) in
+    let as_many : length names.functions ≡ length (map (λ (h : t.TypedFunction). h.result) functions) = sym count ∙ sym (length-map functions (λ (h : t.TypedFunction). h.result)) in
     record {
-      parameters = map-append (λ (h : t.Function). h.parameters) functions members
-          ∙ ap (λ ps. ps ++ map (λ (h : t.Function). h.parameters) members) own ∙ ap (λ ps. map typed_parameters names.functions ++ ps) bodies;
-      results = ap (take (length names.functions)) (map-append (λ (h : t.Function). h.result) functions members)
-          ∙ ap (λ n. take n (map (λ (h : t.Function). h.result) functions ++ map (λ (h : t.Function). h.result) members)) as_many
-          ∙ take_front (map (λ (h : t.Function). h.result) functions) (map (λ (h : t.Function). h.result) members) ∙ results;
+      parameters = map-append (λ (h : t.TypedFunction). h.parameters) functions members
+          ∙ ap (λ ps. ps ++ map (λ (h : t.TypedFunction). h.parameters) members) own ∙ ap (λ ps. map typed_parameters names.functions ++ ps) bodies;
+      results = ap (take (length names.functions)) (map-append (λ (h : t.TypedFunction). h.result) functions members)
+          ∙ ap (λ n. take n (map (λ (h : t.TypedFunction). h.result) functions ++ map (λ (h : t.TypedFunction). h.result) members)) as_many
+          ∙ take_front (map (λ (h : t.TypedFunction). h.result) functions) (map (λ (h : t.TypedFunction). h.result) members) ∙ results;
       types = same_by_place (λ (x : t.Global). x.ty) (λ (g : ScriptGlobal). g.written.ty) names.globals 0 globals names.globals (all_left names.globals)
           given.globals global_count;
       bodies = has_bodies V names sources p functions members refl count has sit;

@@ -13,14 +13,14 @@ use Rattle.ang_tree.specs.Stmt.{Every}
 use Rattle.ang_types.specs.declared.arg_type.ArgType.{ArgType}
 use Rattle.ang_types.specs.declared.arg_type.ArgType.TheVariants as type
 use Rattle.ang_typed.specs.declared.program.Heading.{Heading}
-use Rattle.ang_typed.specs.declared.program.Parameter.{Parameter}
+use Rattle.ang_typed.specs.declared.program.TypedParameter.{TypedParameter}
 use Rattle.ang_view.specs.Registration.{RegistrationList}
 use Rattle.ang_view.specs.Numbers.{primitive_number, pass_number}
 use Rattle.ang_meaning.specs.declared.routine.Passing.{Passing}
 use Rattle.ang_meaning.specs.declared.routine.Passing.TheVariants as passing
 use Rattle.ang_source.specs.Meaning.{referred, passing_by, passing_of}
 use Rattle.ang_names_known.specs.declared.names.Family.{Family}
-use Rattle.ang_names_known.specs.declared.names.Method.{Method}
+use Rattle.ang_names_known.specs.declared.names.ScriptMethod.{ScriptMethod}
 use Rattle.ang_names_known.specs.declared.names.Names.{Names}
 use Rattle.ang_names_known.specs.declared.names.ScriptFunction.{ScriptFunction}
 use Rattle.ang_names_known.specs.declared.names.ScriptParameter.{ScriptParameter}
@@ -28,8 +28,8 @@ use Rattle.ang_names_known.specs.Items.{each_after}
 use Rattle.ang_names_known.specs.Lookup.{same_type, same_written, same_parameter, same_parameters}
 use Rattle.ang_names_known.specs.Spaces.{Space}
 use Rattle.ang_names_listed.specs.Sources.{Source}
-use Rattle.ang_names_listed.specs.declared.listed.Declared.{Declared}
-use Rattle.ang_names_listed.specs.declared.listed.Member.{Member}
+use Rattle.ang_names_listed.specs.declared.listed.ListedDeclaration.{ListedDeclaration}
+use Rattle.ang_names_listed.specs.declared.listed.ListedMember.{ListedMember}
 use Rattle.ang_names_listed.specs.declared.listed.MemberKind.{MemberKind}
 use Rattle.ang_names_listed.specs.declared.listed.MemberKind.TheVariants as member
 use Rattle.ang_names_listed.specs.Declarations.{Declaring, declarations_of, families_of}
@@ -145,7 +145,7 @@ passed_alike pass.RefOut x y e = refl
 passed_alike pass.RefInOut x y e = e
 
 abbrev taken_by : List ScriptParameter → List Passing
-taken_by ps = map (λ (p : Parameter). passing_of p) (map typed_parameter ps)
+taken_by ps = map (λ (p : TypedParameter). passing_of p) (map typed_parameter ps)
 
 one_alike : (p q : ScriptParameter) → same_parameter p q ≡ true → passing_by p.pass p.written.ty ≡ passing_by q.pass q.written.ty
 one_alike p q e =
@@ -205,39 +205,39 @@ at_first k n d h = ap (λ b. unwrap_or (cond b (Some k) None) d) (is_below k n h
 
 -- ---- the methods of the declarations are those of the names
 
-abbrev pub signature : Method → ScriptFunction × Bool
+abbrev pub signature : ScriptMethod → ScriptFunction × Bool
 signature y = (y.function, y.read_only)
 
 abbrev signatures : List Family → List (ScriptFunction × Bool)
 signatures fs = flat_map (λ (f : Family). map signature f.methods) fs
 
 module _ (E : Space) (all : List (ScriptFunction × Bool)) where
-  abbrev IsSlotted : Method → Type 0
+  abbrev IsSlotted : ScriptMethod → Type 0
   IsSlotted y = y.slot ≡ slot_of all (signature y)
 
-  abbrev signed_members : Declaring → List Member → List (ScriptFunction × Bool)
-  signed_members d ms = filter_map (λ (m : Member). signature_by E d m m.kind) ms
+  abbrev signed_members : Declaring → List ListedMember → List (ScriptFunction × Bool)
+  signed_members d ms = filter_map (λ (m : ListedMember). signature_by E d m m.kind) ms
 
-  kind_signed : (d : Declaring) (m : Member) (n : ℕ) (kind : MemberKind) (ms : List Method) (others : List (ScriptFunction × Bool)) → map signature ms ≡ others
+  kind_signed : (d : Declaring) (m : ListedMember) (n : ℕ) (kind : MemberKind) (ms : List ScriptMethod) (others : List (ScriptFunction × Bool)) → map signature ms ≡ others
       → map signature (methods_by E all d m n kind ++ ms) ≡ cons_option (signature_by E d m kind) others
   kind_signed d m n (member.Field y) ms others e = e
   kind_signed d m n (member.Method y ps a) ms others e =
       ap (λ (xs : List (ScriptFunction × Bool)). (written_as E d.origin d.text m.name y ps, a.read_only) ∷ xs) e
   kind_signed d m n (member.Constructor ps) ms others e = e
 
-  members_signed : (d : Declaring) (first : ℕ) (before ms : List Member)
+  members_signed : (d : Declaring) (first : ℕ) (before ms : List ListedMember)
       → map signature (each_after (methods_after E all d first) before ms) ≡ signed_members d ms
   members_signed d first before [] = refl
   members_signed d first before (m ∷ ms) =
       kind_signed d m (first + length (with_bodies d.shape.is_class before)) m.kind (each_after (methods_after E all d first) (before ++ m ∷ []) ms)
       (signed_members d ms) (members_signed d first (before ++ m ∷ []) ms)
 
-  kind_slotted : (d : Declaring) (m : Member) (n : ℕ) (kind : MemberKind) → Every IsSlotted (methods_by E all d m n kind)
+  kind_slotted : (d : Declaring) (m : ListedMember) (n : ℕ) (kind : MemberKind) → Every IsSlotted (methods_by E all d m n kind)
   kind_slotted d m n (member.Field y) = tt
   kind_slotted d m n (member.Method y ps a) = (refl, tt)
   kind_slotted d m n (member.Constructor ps) = tt
 
-  members_slotted : (d : Declaring) (first : ℕ) (before ms : List Member) → Every IsSlotted (each_after (methods_after E all d first) before ms)
+  members_slotted : (d : Declaring) (first : ℕ) (before ms : List ListedMember) → Every IsSlotted (each_after (methods_after E all d first) before ms)
   members_slotted d first before [] = tt
   members_slotted d first before (m ∷ ms) =
       let n = first + length (with_bodies d.shape.is_class before) in
@@ -264,9 +264,9 @@ module _ (E : Space) (all : List (ScriptFunction × Bool)) where
 -- ---- the headings of their methods
 
 abbrev taken_in : Heading → List Passing
-taken_in h = map (λ (p : Parameter). passing_of p) h.parameters
+taken_in h = map (λ (p : TypedParameter). passing_of p) h.parameters
 
-methods_headed : (c : ℕ) (ms : List Method) → map taken_in (map (method_heading c) ms) ≡ map taken (map signature ms)
+methods_headed : (c : ℕ) (ms : List ScriptMethod) → map taken_in (map (method_heading c) ms) ≡ map taken (map signature ms)
 methods_headed c [] = refl
 methods_headed c (y ∷ ms) = ap (λ (xs : List (List Passing)). taken (signature y) ∷ xs) (methods_headed c ms)
 
@@ -285,11 +285,11 @@ all_headed before (f ∷ fs) =
 
 -- ---- each method has a slot
 
-record Stands (fs : List Family) (y : Method) : Type 0 where
+record Stands (fs : List Family) (y : ScriptMethod) : Type 0 where
   number : ℕ
   there : slice_get (signatures fs) number ≡ Some (signature y)
 
-method_stands : (fs : List Family) (c : ℕ) (f : Family) (m : ℕ) (y : Method) → slice_get fs c ≡ Some f → slice_get f.methods m ≡ Some y → Stands fs y
+method_stands : (fs : List Family) (c : ℕ) (f : Family) (m : ℕ) (y : ScriptMethod) → slice_get fs c ≡ Some f → slice_get f.methods m ≡ Some y → Stands fs y
 method_stands [] c f m y e h = cc
 method_stands (g ∷ fs) zero f m y e h =
     let own : slice_get g.methods m ≡ Some y = ap (λ (x : Family). slice_get x.methods m) (same_Some g f e) ∙ h in
@@ -314,12 +314,12 @@ heading_of hs k None ways e h = cc
 heading_of hs k (Some x) ways e h = record { heading = x; there = e; takes = same_Some (taken_in x) ways h }
 
 -- The slot of a method is that of a method which takes what it takes.
-pub record HasSlot (fs : List Family) (y : Method) : Type 0 where
-  pub heading : List Parameter
+pub record HasSlot (fs : List Family) (y : ScriptMethod) : Type 0 where
+  pub heading : List TypedParameter
   pub slot_is : slice_get (map (λ (h : Heading). h.parameters) (method_headings fs)) y.slot ≡ Some heading
-  pub takes : map (λ (p : Parameter). passing_of p) heading ≡ taken (signature y)
+  pub takes : map (λ (p : TypedParameter). passing_of p) heading ≡ taken (signature y)
 
-slot_there : (fs : List Family) (all : List (ScriptFunction × Bool)) (y : Method) → signatures fs ≡ all → y.slot ≡ slot_of all (signature y) → Stands fs y
+slot_there : (fs : List Family) (all : List (ScriptFunction × Bool)) (y : ScriptMethod) → signatures fs ≡ all → y.slot ≡ slot_of all (signature y) → Stands fs y
     → HasSlot fs y
 slot_there fs all y same slotted stands =
     let s = signature y in
@@ -339,7 +339,7 @@ slot_there fs all y same slotted stands =
       takes = h.takes ∙ sym (alike s first.item first.passes);
     }
 
-slots_of : (V : RegistrationList) (ds : List Declared) (c : ℕ) (f : Family) (m : ℕ) (y : Method) → slice_get (names_of V ds).families c ≡ Some f
+slots_of : (V : RegistrationList) (ds : List ListedDeclaration) (c : ℕ) (f : Family) (m : ℕ) (y : ScriptMethod) → slice_get (names_of V ds).families c ≡ Some f
     → slice_get f.methods m ≡ Some y → HasSlot (names_of V ds).families y
 unfolding names_of families_in signatures_of
 slots_of V ds c f m y e h =
@@ -353,7 +353,7 @@ slots_of V ds c f m y e h =
     slot_there fs all y (all_signed E all families count [] families) slotted (method_stands fs c f m y e h)
 
 pub has_slot : (V : RegistrationList) (names : Names) (sources : List Source) → names ≡ names_of V (declarations_of sources) → (c : ℕ) (f : Family)
-    → slice_get names.families c ≡ Some f → (m : ℕ) (y : Method) → slice_get f.methods m ≡ Some y → HasSlot names.families y
+    → slice_get names.families c ≡ Some f → (m : ℕ) (y : ScriptMethod) → slice_get f.methods m ≡ Some y → HasSlot names.families y
 has_slot V names sources same c f e m y h =
     subst (λ (n : Names). HasSlot n.families y) (sym same)
     (slots_of V (declarations_of sources) c f m y (ap (λ (n : Names). slice_get n.families c) (sym same) ∙ e) h)

@@ -10,11 +10,11 @@ use Rattle.ang_tree.specs.declared.type_name.TypeName.{TypeName}
 use Rattle.ang_tree.specs.Declarations.{SuperTree}
 use Rattle.ang_tree.specs.Stmt.{Init, Body, Stmts}
 use Rattle.ang_typed.specs.declared.program.Heading.{Heading}
-use Rattle.ang_typed.specs.declared.program.Parameter.{Parameter}
+use Rattle.ang_typed.specs.declared.program.TypedParameter.{TypedParameter}
 use Rattle.ang_typed.specs.Typed as t
-use Rattle.ang_names_known.specs.declared.names.Constructor.{Constructor}
+use Rattle.ang_names_known.specs.declared.names.ScriptConstructor.{ScriptConstructor}
 use Rattle.ang_names_known.specs.declared.names.Family.{Family}
-use Rattle.ang_names_known.specs.declared.names.Method.{Method}
+use Rattle.ang_names_known.specs.declared.names.ScriptMethod.{ScriptMethod}
 use Rattle.ang_names_known.specs.declared.names.Names.{Names}
 use Rattle.ang_names_known.specs.declared.names.ScriptFunction.{ScriptFunction}
 use Rattle.ang_names_known.specs.declared.names.ScriptGlobal.{ScriptGlobal}
@@ -49,7 +49,7 @@ module _ (V : RegistrationList) (names : Names) (built : (text : List ℕ) (with
     members : SoundFunctions M (filter_map member_given js)
     globals : SoundGlobals M (filter_map global_given js)
 
-  function_then : (text : List ℕ) (x : Typing t.Function) (js : List Judgement) → IfOk x (SoundFunction M) → Clean (of_function text x ∷ js) → AreSound js
+  function_then : (text : List ℕ) (x : Typing t.TypedFunction) (js : List Judgement) → IfOk x (SoundFunction M) → Clean (of_function text x ∷ js) → AreSound js
       → AreSound (of_function text x ∷ js)
   function_then text (Ok h) js s e r = record { functions = (s, r.functions); members = r.members; globals = r.globals }
   function_then text (Err why) js s e r = cc
@@ -59,7 +59,7 @@ module _ (V : RegistrationList) (names : Names) (built : (text : List ℕ) (with
   global_then text (Ok g) js s e r = record { functions = r.functions; members = r.members; globals = (s, r.globals) }
   global_then text (Err why) js s e r = cc
 
-  member_then : (text : List ℕ) (x : Typing t.Function) (js : List Judgement) → IfOk x (SoundFunction M) → Clean (of_member text x ∷ js) → AreSound js
+  member_then : (text : List ℕ) (x : Typing t.TypedFunction) (js : List Judgement) → IfOk x (SoundFunction M) → Clean (of_member text x ∷ js) → AreSound js
       → AreSound (of_member text x ∷ js)
   member_then text (Ok h) js s e r = record { functions = r.functions; members = (s, r.members); globals = r.globals }
   member_then text (Err why) js s e r = cc
@@ -82,7 +82,7 @@ module _ (V : RegistrationList) (names : Names) (built : (text : List ℕ) (with
       let s = context_in V names text None in
       global_then text (global_typing s g y i) js (global_sound s (built text None) refl g y i) e r
 
-  one_method : (c : ℕ) (text : List ℕ) (x : Token) (b : Body) (o : Option Method) (js : List Judgement) → Clean (judged_method V names c text x b o ++ js)
+  one_method : (c : ℕ) (text : List ℕ) (x : Token) (b : Body) (o : Option ScriptMethod) (js : List Judgement) → Clean (judged_method V names c text x b o ++ js)
       → AreSound js → AreSound (judged_method V names c text x b o ++ js)
   one_method c text x b None js e r = r
   one_method c text x b (Some y) js e r =
@@ -90,7 +90,7 @@ module _ (V : RegistrationList) (names : Names) (built : (text : List ℕ) (with
       let s = context_in V names text (Some w) in
       member_then text (method_body_typing s w y.function x b) js (method_sound s (built text (Some w)) w refl y.function x b) e r
 
-  one_constructor : (c : ℕ) (text : List ℕ) (x base : Token) (n : Option ℕ) (u : Option SuperTree) (ss : Stmts) (o : Option Constructor) (js : List Judgement)
+  one_constructor : (c : ℕ) (text : List ℕ) (x base : Token) (n : Option ℕ) (u : Option SuperTree) (ss : Stmts) (o : Option ScriptConstructor) (js : List Judgement)
       → Clean (judged_constructor V names c text x base n u ss o ++ js) → AreSound js → AreSound (judged_constructor V names c text x base n u ss o ++ js)
   one_constructor c text x base n u ss None js e r = r
   one_constructor c text x base n u ss (Some k) js e r =
@@ -112,7 +112,7 @@ module _ (V : RegistrationList) (names : Names) (built : (text : List ℕ) (with
   all_sound (p ∷ ps) e = one_sound p (J V names ps) e (all_sound ps (none_behind (judged V names p) (J V names ps) e))
 
 -- the tree's module is that of its names
-module_with : RegistrationList → List (List Parameter) → List (List Parameter) → List (List Parameter) → ℕ → ℕ → Module
+module_with : RegistrationList → List (List TypedParameter) → List (List TypedParameter) → List (List TypedParameter) → ℕ → ℕ → Module
 module_with V ps ms is gs cs = record { view = V; parameters = ps; methods = ms; imports = is; globals = gs; classes = cs }
 
 imports_same : (fs : List ScriptFunction) → map typed_parameters fs ≡ map (λ (h : Heading). h.parameters) (map import_heading fs)
@@ -133,12 +133,12 @@ same_module V names sources h =
     let methods = map (λ (g : Heading). g.parameters) (method_headings names.families) in
     let imports = map typed_parameters names.imports in
     ap (λ ps. module_with V ps methods imports (length names.globals) (length names.families)) (sym h.parameters)
-    ∙ ap (λ is. module_with V (map (λ (f : t.Function). f.parameters) p.functions) methods is (length names.globals) (length names.families)) (imports_same names.imports)
-    ∙ ap (λ n. module_with V (map (λ (f : t.Function). f.parameters) p.functions) methods (map (λ (g : Heading). g.parameters) p.imports) n (length names.families)) globals
-    ∙ ap (λ n. module_with V (map (λ (f : t.Function). f.parameters) p.functions) methods (map (λ (g : Heading). g.parameters) p.imports) (length p.globals) n)
+    ∙ ap (λ is. module_with V (map (λ (f : t.TypedFunction). f.parameters) p.functions) methods is (length names.globals) (length names.families)) (imports_same names.imports)
+    ∙ ap (λ n. module_with V (map (λ (f : t.TypedFunction). f.parameters) p.functions) methods (map (λ (g : Heading). g.parameters) p.imports) n (length names.families)) globals
+    ∙ ap (λ n. module_with V (map (λ (f : t.TypedFunction). f.parameters) p.functions) methods (map (λ (g : Heading). g.parameters) p.imports) (length p.globals) n)
     (classes_counted names.families [] names.families)
 
-sound_joined : (M : Module) (xs ys : List t.Function) → SoundFunctions M xs → SoundFunctions M ys → SoundFunctions M (xs ++ ys)
+sound_joined : (M : Module) (xs ys : List t.TypedFunction) → SoundFunctions M xs → SoundFunctions M ys → SoundFunctions M (xs ++ ys)
 sound_joined M [] ys h k = k
 sound_joined M (x ∷ xs) ys h k = (h.0, sound_joined M xs ys h.1 k)
 

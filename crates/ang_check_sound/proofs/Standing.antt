@@ -8,17 +8,17 @@ use Rattle.std.proofs.lemmas.List.Elements.{filter-append}
 use Rattle.std.proofs.lemmas.Option.{same_Some, slice_get_within, slice_get-map}
 use Rattle.ang_view.specs.Registration.{RegistrationList}
 use Rattle.ang_tree.specs.Stmt.{Every}
-use Rattle.ang_typed.specs.declared.program.Parameter.{Parameter}
-use Rattle.ang_names_known.specs.declared.names.Constructor.{Constructor}
+use Rattle.ang_typed.specs.declared.program.TypedParameter.{TypedParameter}
+use Rattle.ang_names_known.specs.declared.names.ScriptConstructor.{ScriptConstructor}
 use Rattle.ang_names_known.specs.declared.names.Family.{Family}
-use Rattle.ang_names_known.specs.declared.names.Method.{Method}
+use Rattle.ang_names_known.specs.declared.names.ScriptMethod.{ScriptMethod}
 use Rattle.ang_names_known.specs.declared.names.Names.{Names}
 use Rattle.ang_names_known.specs.declared.names.ScriptFunction.{ScriptFunction}
 use Rattle.ang_names_known.specs.Items.{each_after}
 use Rattle.ang_names_known.specs.Spaces.{Space}
 use Rattle.ang_names_listed.specs.Sources.{Source}
-use Rattle.ang_names_listed.specs.declared.listed.Declared.{Declared}
-use Rattle.ang_names_listed.specs.declared.listed.Member.{Member}
+use Rattle.ang_names_listed.specs.declared.listed.ListedDeclaration.{ListedDeclaration}
+use Rattle.ang_names_listed.specs.declared.listed.ListedMember.{ListedMember}
 use Rattle.ang_names_listed.specs.declared.listed.MemberKind.{MemberKind}
 use Rattle.ang_names_listed.specs.declared.listed.MemberKind.TheVariants as member
 use Rattle.ang_names_listed.specs.Declarations.{Declaring, declarations_of, families_of}
@@ -33,13 +33,13 @@ use Rattle.ang_check_sound.proofs.Parts.{bodies_more}
 use Rattle.ang_check_sound.proofs.Places.{at_seam, EachFrom, at_number, in_second}
 
 -- Among bodies of which the first one has this number, number k is one with these parameters.
-record Stands (first : ℕ) (bodies : List (List Parameter)) (k : ℕ) (ps : List Parameter) : Type 0 where
+record Stands (first : ℕ) (bodies : List (List TypedParameter)) (k : ℕ) (ps : List TypedParameter) : Type 0 where
   place : ℕ
   number : k ≡ first + place
   there : slice_get bodies place ≡ Some ps
 
 -- the same among more bodies
-stands_among : (first own : ℕ) (front bodies rest : List (List Parameter)) (k : ℕ) (ps : List Parameter) → own ≡ first + length front
+stands_among : (first own : ℕ) (front bodies rest : List (List TypedParameter)) (k : ℕ) (ps : List TypedParameter) → own ≡ first + length front
     → Stands own bodies k ps → Stands first (front ++ (bodies ++ rest)) k ps
 stands_among first own front bodies rest k ps e s = record {
   place = length front + s.place;
@@ -48,18 +48,18 @@ stands_among first own front bodies rest k ps e s = record {
 }
 
 -- a method's body, where it has one, and a constructor's, of family c
-abbrev MethodStands : ℕ → List (List Parameter) → ℕ → Method → Type 0
+abbrev MethodStands : ℕ → List (List TypedParameter) → ℕ → ScriptMethod → Type 0
 MethodStands first bodies c y =
     (k : ℕ) → y.body ≡ Some k → Stands first bodies k (with_this (record { family = c; read_only = y.read_only }) y.function)
 
-abbrev ConstructorStands : ℕ → List (List Parameter) → ℕ → Constructor → Type 0
+abbrev ConstructorStands : ℕ → List (List TypedParameter) → ℕ → ScriptConstructor → Type 0
 ConstructorStands first bodies c k = Stands first bodies k.body (with_this (record { family = c; read_only = false }) k.function)
 
-record FamilyStands (first : ℕ) (bodies : List (List Parameter)) (c : ℕ) (f : Family) : Type 0 where
+record FamilyStands (first : ℕ) (bodies : List (List TypedParameter)) (c : ℕ) (f : Family) : Type 0 where
   methods : Every (MethodStands first bodies c) f.methods
   constructors : Every (ConstructorStands first bodies c) f.constructors
 
-body_by : (b : Bool) (first : ℕ) (bodies : List (List Parameter)) (n k : ℕ) (ps : List Parameter) → body_number b n ≡ Some k → (b ≡ true → Stands first bodies n ps)
+body_by : (b : Bool) (first : ℕ) (bodies : List (List TypedParameter)) (n k : ℕ) (ps : List TypedParameter) → body_number b n ≡ Some k → (b ≡ true → Stands first bodies n ps)
     → Stands first bodies k ps
 body_by true first bodies n k ps e h = subst (λ i. Stands first bodies i ps) (same_Some n k e) (h refl)
 body_by false first bodies n k ps e h = cc
@@ -68,50 +68,50 @@ body_by false first bodies n k ps e h = cc
 
 module _ (E : Space) (all : List (ScriptFunction × Bool)) where
   -- the parameters of a member's body
-  abbrev behind_this : ℕ → Declaring → Member → MemberKind → List Parameter
+  abbrev behind_this : ℕ → Declaring → ListedMember → MemberKind → List TypedParameter
   behind_this c d m (member.Field y) = []
   behind_this c d m (member.Method y ps a) =
       with_this (record { family = c; read_only = a.read_only }) (heading_of E d.origin d.text m.name y ps)
   behind_this c d m (member.Constructor ps) = with_this (record { family = c; read_only = false }) (maker_of E d.origin d.text m.name ps)
 
-  abbrev bodies_by : ℕ → Declaring → List Member → List (List Parameter)
-  bodies_by c d ms = map (λ (m : Member). behind_this c d m m.kind) (with_bodies d.shape.is_class ms)
+  abbrev bodies_by : ℕ → Declaring → List ListedMember → List (List TypedParameter)
+  bodies_by c d ms = map (λ (m : ListedMember). behind_this c d m m.kind) (with_bodies d.shape.is_class ms)
 
   module _ (c : ℕ) (d : Declaring) (first : ℕ) where
-    has_first : (m : Member) (rest : List Member) (b : Bool) → has_body d.shape.is_class m.kind ≡ b → b ≡ true
+    has_first : (m : ListedMember) (rest : List ListedMember) (b : Bool) → has_body d.shape.is_class m.kind ≡ b → b ≡ true
         → with_bodies d.shape.is_class (m ∷ rest) ≡ m ∷ with_bodies d.shape.is_class rest
     has_first m rest true e h = ap (λ (q : Bool). cond q (m ∷ with_bodies d.shape.is_class rest) (with_bodies d.shape.is_class rest)) e
     has_first m rest false e h = cc
 
-    member_stands : (before : List Member) (m : Member) (rest : List Member) → has_body d.shape.is_class m.kind ≡ true
+    member_stands : (before : List ListedMember) (m : ListedMember) (rest : List ListedMember) → has_body d.shape.is_class m.kind ≡ true
         → Stands first (bodies_by c d (before ++ m ∷ rest)) (first + length (with_bodies d.shape.is_class before)) (behind_this c d m m.kind)
     member_stands before m rest has =
         let own = with_bodies d.shape.is_class before in
         let later = with_bodies d.shape.is_class rest in
-        let split = filter-append (λ (x : Member). has_body d.shape.is_class x.kind) before (m ∷ rest)
-        ∙ ap (λ (xs : List Member). own ++ xs) (has_first m rest (has_body d.shape.is_class m.kind) refl has) in
+        let split = filter-append (λ (x : ListedMember). has_body d.shape.is_class x.kind) before (m ∷ rest)
+        ∙ ap (λ (xs : List ListedMember). own ++ xs) (has_first m rest (has_body d.shape.is_class m.kind) refl has) in
         record {
           place = length own;
           number = refl;
-          there = slice_get-map (λ (x : Member). behind_this c d x x.kind) (with_bodies d.shape.is_class (before ++ m ∷ rest)) (length own)
-              ∙ ap (option_map (λ (x : Member). behind_this c d x x.kind)) (ap (λ (xs : List Member). slice_get xs (length own)) split ∙ at_seam own m later);
+          there = slice_get-map (λ (x : ListedMember). behind_this c d x x.kind) (with_bodies d.shape.is_class (before ++ m ∷ rest)) (length own)
+              ∙ ap (option_map (λ (x : ListedMember). behind_this c d x x.kind)) (ap (λ (xs : List ListedMember). slice_get xs (length own)) split ∙ at_seam own m later);
         }
 
-    one_method : (bodies : List (List Parameter)) (m : Member) (n : ℕ) (kind : MemberKind)
+    one_method : (bodies : List (List TypedParameter)) (m : ListedMember) (n : ℕ) (kind : MemberKind)
         → (has_body d.shape.is_class kind ≡ true → Stands first bodies n (behind_this c d m kind)) → Every (MethodStands first bodies c) (methods_by E all d m n kind)
     one_method bodies m n (member.Field y) h = tt
     one_method bodies m n (member.Method y ps a) h =
         (λ k e. body_by d.shape.is_class first bodies n k (behind_this c d m (member.Method y ps a)) e h, tt)
     one_method bodies m n (member.Constructor ps) h = tt
 
-    one_constructor : (bodies : List (List Parameter)) (m : Member) (n : ℕ) (kind : MemberKind)
+    one_constructor : (bodies : List (List TypedParameter)) (m : ListedMember) (n : ℕ) (kind : MemberKind)
         → (has_body d.shape.is_class kind ≡ true → Stands first bodies n (behind_this c d m kind))
         → Every (ConstructorStands first bodies c) (constructors_by E d m n kind)
     one_constructor bodies m n (member.Field y) h = tt
     one_constructor bodies m n (member.Method y ps a) h = tt
     one_constructor bodies m n (member.Constructor ps) h = (h refl, tt)
 
-    methods_stand : (before rest : List Member)
+    methods_stand : (before rest : List ListedMember)
         → Every (MethodStands first (bodies_by c d (before ++ rest)) c) (each_after (methods_after E all d first) before rest)
     methods_stand before [] = tt
     methods_stand before (m ∷ rest) =
@@ -119,9 +119,9 @@ module _ (E : Space) (all : List (ScriptFunction × Bool)) where
         let n = first + length (with_bodies d.shape.is_class before) in
         let after = each_after (methods_after E all d first) (before ++ m ∷ []) rest in
         every_joined (MethodStands first bodies c) (methods_by E all d m n m.kind) after (one_method bodies m n m.kind (member_stands before m rest))
-        (subst (λ (ms : List Member). Every (MethodStands first (bodies_by c d ms) c) after) (append_assoc before (m ∷ []) rest) (methods_stand (before ++ m ∷ []) rest))
+        (subst (λ (ms : List ListedMember). Every (MethodStands first (bodies_by c d ms) c) after) (append_assoc before (m ∷ []) rest) (methods_stand (before ++ m ∷ []) rest))
 
-    constructors_stand : (before rest : List Member)
+    constructors_stand : (before rest : List ListedMember)
         → Every (ConstructorStands first (bodies_by c d (before ++ rest)) c) (each_after (constructors_after E d first) before rest)
     constructors_stand before [] = tt
     constructors_stand before (m ∷ rest) =
@@ -129,7 +129,7 @@ module _ (E : Space) (all : List (ScriptFunction × Bool)) where
         let n = first + length (with_bodies d.shape.is_class before) in
         let after = each_after (constructors_after E d first) (before ++ m ∷ []) rest in
         every_joined (ConstructorStands first bodies c) (constructors_by E d m n m.kind) after (one_constructor bodies m n m.kind (member_stands before m rest))
-        (subst (λ (ms : List Member). Every (ConstructorStands first (bodies_by c d ms) c) after) (append_assoc before (m ∷ []) rest)
+        (subst (λ (ms : List ListedMember). Every (ConstructorStands first (bodies_by c d ms) c) after) (append_assoc before (m ∷ []) rest)
         (constructors_stand (before ++ m ∷ []) rest))
 
   -- ---- all of them
@@ -138,10 +138,10 @@ module _ (E : Space) (all : List (ScriptFunction × Bool)) where
     abbrev families_from : List Declaring → List Declaring → List Family
     families_from front ds = each_after (families_after E families all functions) front ds
 
-    abbrev bodies_from : List Declaring → List Declaring → List (List Parameter)
+    abbrev bodies_from : List Declaring → List Declaring → List (List TypedParameter)
     bodies_from front ds = each_after (λ (before : List Declaring) (d : Declaring). bodies_by (length before) d d.shape.members) front ds
 
-    families_stand : (whole done : List (List Parameter)) (front ds : List Declaring) → whole ≡ done ++ bodies_from front ds
+    families_stand : (whole done : List (List TypedParameter)) (front ds : List Declaring) → whole ≡ done ++ bodies_from front ds
         → length done ≡ length (flat_map body_members front) → EachFrom (FamilyStands functions whole) (length front) (families_from front ds)
     families_stand whole done front [] e count = tt
     families_stand whole done front (d ∷ ds) e count =
@@ -150,10 +150,10 @@ module _ (E : Space) (all : List (ScriptFunction × Bool)) where
         let own = bodies_by c d d.shape.members in
         let rest = bodies_from (front ++ d ∷ []) ds in
         let start : first ≡ functions + length done = omega (arith, count) in
-        let moved : (k : ℕ) (ps : List Parameter) → Stands first own k ps → Stands functions whole k ps =
-        λ k ps s. subst (λ (bs : List (List Parameter)). Stands functions bs k ps) (sym e) (stands_among functions first done own rest k ps start s) in
+        let moved : (k : ℕ) (ps : List TypedParameter) → Stands first own k ps → Stands functions whole k ps =
+        λ k ps s. subst (λ (bs : List (List TypedParameter)). Stands functions bs k ps) (sym e) (stands_among functions first done own rest k ps start s) in
         let longer : length front + 1 ≡ length (front ++ d ∷ []) = omega (arith, length-append front (d ∷ [])) in
-        let many : length own ≡ length (body_members d) = length-map (body_members d) (λ (m : Member). behind_this c d m m.kind) in
+        let many : length own ≡ length (body_members d) = length-map (body_members d) (λ (m : ListedMember). behind_this c d m m.kind) in
         let counted : length (done ++ own) ≡ length (flat_map body_members (front ++ d ∷ [])) =
         let more = bodies_more front d (length (body_members d)) refl in omega (arith, length-append done own, count, many, more) in (
           record {
@@ -171,7 +171,7 @@ module _ (E : Space) (all : List (ScriptFunction × Bool)) where
     bodies_number front [] = refl
     bodies_number front (d ∷ ds) =
         let own = bodies_by (length front) d d.shape.members in
-        let many : length own ≡ length (body_members d) = length-map (body_members d) (λ (m : Member). behind_this (length front) d m m.kind) in
+        let many : length own ≡ length (body_members d) = length-map (body_members d) (λ (m : ListedMember). behind_this (length front) d m m.kind) in
         let rest : length (bodies_from (front ++ d ∷ []) ds) ≡ length (flat_map body_members ds) = bodies_number (front ++ d ∷ []) ds in
         let left = length-append own (bodies_from (front ++ d ∷ []) ds) in
         let right = length-append (body_members d) (flat_map body_members ds) in
@@ -179,7 +179,7 @@ module _ (E : Space) (all : List (ScriptFunction × Bool)) where
 
 -- ---- in the module of the names
 
-ranged_at : (g : ℕ → List Parameter) (first n i : ℕ) → i < n → slice_get (map g (range_with_len first n)) i ≡ Some (g (first + i))
+ranged_at : (g : ℕ → List TypedParameter) (first n i : ℕ) → i < n → slice_get (map g (range_with_len first n)) i ≡ Some (g (first + i))
 ranged_at g first zero i h = let no : ⊥ = omega (arith, h) in absurd no
 ranged_at g first (suc n) zero h = let same : first ≡ first + 0 = omega arith in ap (λ k. Some (g k)) same
 ranged_at g first (suc n) (suc i) h =
@@ -187,7 +187,7 @@ ranged_at g first (suc n) (suc i) h =
     let less : i < n = omega (arith, h) in
     ranged_at g (first + 1) n i less ∙ ap (λ k. Some (g k)) same
 
-module _ (V : RegistrationList) (names : Names) (whole : List (List Parameter)) (count : length (bodies_of names) ≡ length whole)
+module _ (V : RegistrationList) (names : Names) (whole : List (List TypedParameter)) (count : length (bodies_of names) ≡ length whole)
     (stand : EachFrom (FamilyStands (length names.functions) whole) 0 names.families) where
   abbrev IsStanding : NumberedBody → Type 0
   IsStanding b = Stands (length names.functions) whole b.0 b.1
@@ -203,7 +203,7 @@ module _ (V : RegistrationList) (names : Names) (whole : List (List Parameter)) 
         constructors = λ m k at. every_at (ConstructorStands (length names.functions) whole c) f.constructors m k (family_standing c f e).constructors at;
       })
 
-  parameters_of_body : (k : ℕ) (ps : List Parameter) → Stands (length names.functions) whole k ps → list_any (has_number k) (bodies_of names) ≡ true
+  parameters_of_body : (k : ℕ) (ps : List TypedParameter) → Stands (length names.functions) whole k ps → list_any (has_number k) (bodies_of names) ≡ true
       → body_parameters names k ≡ ps
   parameters_of_body k ps s listed =
       let b = found (has_number k) IsStanding (bodies_of names) listed all_standing in
@@ -214,7 +214,7 @@ module _ (V : RegistrationList) (names : Names) (whole : List (List Parameter)) 
       let there : slice_get whole s.place ≡ Some b.0.1 = subst (λ n. slice_get whole n ≡ Some b.0.1) place b.3.there in
       ap (λ (o : Option NumberedBody). unwrap_or (option_map (λ (x : NumberedBody). x.1) o) []) b.1 ∙ same_Some b.0.1 ps (sym there ∙ s.there)
 
-  body_in_module : (k : ℕ) (ps : List Parameter) → Stands (length names.functions) whole k ps → list_any (has_number k) (bodies_of names) ≡ true
+  body_in_module : (k : ℕ) (ps : List TypedParameter) → Stands (length names.functions) whole k ps → list_any (has_number k) (bodies_of names) ≡ true
       → slice_get (module_in V names).parameters k ≡ Some ps
   body_in_module k ps s listed =
       let within : s.place < length (bodies_of names) =
@@ -226,14 +226,14 @@ module _ (V : RegistrationList) (names : Names) (whole : List (List Parameter)) 
       subst (λ n. slice_get (module_in V names).parameters n ≡ Some ps) number
       (in_second (map typed_parameters names.functions) _ (length names.functions) s.place ps (length-map names.functions typed_parameters) at)
 
-  method_in : (c m : ℕ) (f : Family) (y : Method) (k : ℕ) → slice_get names.families c ≡ Some f → slice_get f.methods m ≡ Some y → y.body ≡ Some k
+  method_in : (c m : ℕ) (f : Family) (y : ScriptMethod) (k : ℕ) → slice_get names.families c ≡ Some f → slice_get f.methods m ≡ Some y → y.body ≡ Some k
       → slice_get (module_in V names).parameters k ≡ Some (with_this (record { family = c; read_only = y.read_only }) y.function)
   method_in c m f y k there at e =
       body_in_module k (with_this (record { family = c; read_only = y.read_only }) y.function)
       (every_at (MethodStands (length names.functions) whole c) f.methods m y (family_standing c f there).methods at k e)
       (method_numbered names k c m f y there at e)
 
-  constructor_in : (c m : ℕ) (f : Family) (k : Constructor) → slice_get names.families c ≡ Some f → slice_get f.constructors m ≡ Some k
+  constructor_in : (c m : ℕ) (f : Family) (k : ScriptConstructor) → slice_get names.families c ≡ Some f → slice_get f.constructors m ≡ Some k
       → slice_get (module_in V names).parameters k.body ≡ Some (with_this (record { family = c; read_only = false }) k.function)
   constructor_in c m f k there at =
       body_in_module k.body (with_this (record { family = c; read_only = false }) k.function)
@@ -241,12 +241,12 @@ module _ (V : RegistrationList) (names : Names) (whole : List (List Parameter)) 
       (constructor_numbered names k.body c m f k there at refl)
 
 pub record HasBodiesIn (V : RegistrationList) (names : Names) : Type 0 where
-  pub methods : (c m : ℕ) (f : Family) (y : Method) (k : ℕ) → slice_get names.families c ≡ Some f → slice_get f.methods m ≡ Some y → y.body ≡ Some k
+  pub methods : (c m : ℕ) (f : Family) (y : ScriptMethod) (k : ℕ) → slice_get names.families c ≡ Some f → slice_get f.methods m ≡ Some y → y.body ≡ Some k
       → slice_get (module_in V names).parameters k ≡ Some (with_this (record { family = c; read_only = y.read_only }) y.function)
-  pub constructors : (c m : ℕ) (f : Family) (k : Constructor) → slice_get names.families c ≡ Some f → slice_get f.constructors m ≡ Some k
+  pub constructors : (c m : ℕ) (f : Family) (k : ScriptConstructor) → slice_get names.families c ≡ Some f → slice_get f.constructors m ≡ Some k
       → slice_get (module_in V names).parameters k.body ≡ Some (with_this (record { family = c; read_only = false }) k.function)
 
-bodies_in_module : (V : RegistrationList) (ds : List Declared) → HasBodiesIn V (names_of V ds)
+bodies_in_module : (V : RegistrationList) (ds : List ListedDeclaration) → HasBodiesIn V (names_of V ds)
 unfolding names_of families_in
 bodies_in_module V ds =
     let names = names_of V ds in

@@ -19,7 +19,7 @@ use Rattle.ang_check_context.specs.Scope.{BodyContext}
 use Rattle.ang_check_typing.specs.Typing.{typing_of, typing_of_args, typing_of_all}
 use Rattle.ang_check_stmt.specs.declared.frame.Returns.{Returns}
 use Rattle.ang_check_stmt.specs.declared.frame.Returns.TheVariants as returns
-use Rattle.ang_check_stmt.specs.Typing.{Frame, with_same, optional_typing, expression_typing, condition_typing, optional_condition, trees_of, steps_typing, local_type, local_name, fitted, absent_typing, value_typing, arguments_typing, initializer_typing, made, local_with, local_typing, each_local, locals_typing, declaration_typing, value_returned, nothing_returned, return_nothing, return_value, result_typing, return_typing, jump, start_typing, head_typing, block_of, alone, tested_of, either_of, while_of, do_while_of, for_of, stmt_typing, block_typing, stmts_typing}
+use Rattle.ang_check_stmt.specs.Typing.{FunctionContext, with_same, optional_typing, expression_typing, condition_typing, optional_condition, trees_of, steps_typing, local_type, local_name, fitted, absent_typing, value_typing, arguments_typing, initializer_typing, made, local_with, local_typing, each_local, locals_typing, declaration_typing, value_returned, nothing_returned, return_nothing, return_value, result_typing, return_typing, jump, start_typing, head_typing, block_of, alone, tested_of, either_of, while_of, do_while_of, for_of, stmt_typing, block_typing, stmts_typing}
 use Rattle.ang_source.specs.Sound.{Module, Sound, SoundOption, SoundEach, SoundLocals, SoundStatement, SoundStatements, declared}
 use Rattle.ang_check_sound.specs.Built.{IsBuiltContext, HasThis}
 use Rattle.ang_check_sound.proofs.Judged.{holds, any}
@@ -112,7 +112,7 @@ own_alive : (w : Option Within) (ty : ArgType) (n : ℕ) → CanReturn (returns.
 own_alive None ty n can alive = absurd can
 own_alive (Some w) ty n can alive = alive
 
-module _ (f : Frame) (built : IsBuiltContext f.context) (can : CanReturn f.returns f.context.within) where
+module _ (f : FunctionContext) (built : IsBuiltContext f.context) (can : CanReturn f.returns f.context.within) where
   abbrev M : Module
   M = Here f.context
 

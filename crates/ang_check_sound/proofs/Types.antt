@@ -13,7 +13,7 @@ use Rattle.ang_view.specs.Types.{enumeration_named, is_type_named, type_named}
 use Rattle.ang_names_known.specs.declared.space.Named.{Named}
 use Rattle.ang_names_known.specs.declared.space.Named.TheVariants as named
 use Rattle.ang_names_known.specs.Spaces.{Space, first_family, family_type, family_of_type, family_or_host, type_of_name}
-use Rattle.ang_names_listed.specs.declared.role.Role.TheVariants as role
+use Rattle.ang_names_listed.specs.declared.role.TypePosition.TheVariants as role
 use Rattle.ang_names_listed.specs.Sources.{text_of}
 use Rattle.ang_names_listed.specs.Types.{TypeOrError, ◌and_then◌, without_handle, object_type, written_type, cast_to, type_in}
 use Rattle.ang_check_operators.specs.Operands.{object_of}

@@ -5,7 +5,7 @@ use Rattle.std.proofs.lemmas.Option.{slice_get_within, slice_get-map}
 use Rattle.ang_kinds.specs.declared.error.ErrorKind.{ErrorKind}
 use Rattle.ang_kinds.specs.declared.error.ErrorKind.TheVariants as kind
 use Rattle.ang_kinds.specs.declared.types.Pass.TheVariants as pass
-use Rattle.ang_typed.specs.declared.program.Parameter.{Parameter}
+use Rattle.ang_typed.specs.declared.program.TypedParameter.{TypedParameter}
 use Rattle.ang_types.specs.declared.arg_type.ArgType.{ArgType}
 use Rattle.ang_types.specs.declared.arg_type.ArgType.TheVariants as type
 use Rattle.ang_types.specs.declared.asks.Asks.TheVariants as asks
@@ -16,11 +16,11 @@ use Rattle.ang_types.specs.Best.{best_of}
 use Rattle.ang_types.proofs.BestLaws.{best_of-says}
 use Rattle.ang_view.specs.declared.entry.EntryKind.TheVariants as entry
 use Rattle.ang_view.specs.Named.{values_named}
-use Rattle.ang_names_known.specs.declared.host.HostFunction.{HostFunction}
-use Rattle.ang_names_known.specs.declared.host.HostProperty.{HostProperty}
+use Rattle.ang_names_known.specs.declared.host.SeenFunction.{SeenFunction}
+use Rattle.ang_names_known.specs.declared.host.SeenProperty.{SeenProperty}
 use Rattle.ang_names_known.specs.declared.host.Wanted.TheVariants as wanted
 use Rattle.ang_names_known.specs.declared.host.WantedProperty.TheVariants as property
-use Rattle.ang_names_known.specs.declared.names.Constructor.{Constructor}
+use Rattle.ang_names_known.specs.declared.names.ScriptConstructor.{ScriptConstructor}
 use Rattle.ang_names_known.specs.declared.names.Default.{Default}
 use Rattle.ang_names_known.specs.declared.names.Default.TheVariants as default
 use Rattle.ang_names_known.specs.declared.names.Family.{Family}
@@ -84,17 +84,17 @@ module _ (s : BodyContext) where
   unfolding value_meant
   value_there n name = value_among_there n (values_named s.view name)
 
-  host_there : (n : ℕ) (otherwise : Resolution) (g : Option HostProperty) → IsMeant n otherwise → IfSome g (IsHostProperty s.view entry.Global)
+  host_there : (n : ℕ) (otherwise : Resolution) (g : Option SeenProperty) → IsMeant n otherwise → IfSome g (IsHostProperty s.view entry.Global)
       → IsMeant n (host_meant otherwise g)
   host_there n otherwise None o h = o
   host_there n otherwise (Some g) o h = (h.entity, h.writable)
 
-  script_there : (n : ℕ) (otherwise : Resolution) (i : ℕ) (g : Option ScriptGlobal) (host : Option HostProperty) → slice_get s.names.globals i ≡ g
+  script_there : (n : ℕ) (otherwise : Resolution) (i : ℕ) (g : Option ScriptGlobal) (host : Option SeenProperty) → slice_get s.names.globals i ≡ g
       → IsMeant n otherwise → IfSome host (IsHostProperty s.view entry.Global) → IsMeant n (variable_meant otherwise i g host)
   script_there n otherwise i None host e o h = host_there n otherwise host o h
   script_there n otherwise i (Some g) host e o h = let there = slice_get_within s.names.globals i g e in (there, λ writable. there)
 
-  global_there : (n : ℕ) (otherwise : Resolution) (i : Option ℕ) (host : Option HostProperty) → IsMeant n otherwise
+  global_there : (n : ℕ) (otherwise : Resolution) (i : Option ℕ) (host : Option SeenProperty) → IsMeant n otherwise
       → IfSome host (IsHostProperty s.view entry.Global) → IsMeant n (global_or_host otherwise s.names.globals i host)
   global_there n otherwise None host o h = host_there n otherwise host o h
   global_there n otherwise (Some i) host o h = script_there n otherwise i (slice_get s.names.globals i) host refl o h
@@ -105,7 +105,7 @@ module _ (s : BodyContext) where
       global_there n (value_meant s.view name) (global_named s.names.globals name) (property_where (property.Global name) s.view) (value_there n name)
       (property_there s.view (property.Global name))
 
-  property_or_none : (n : ℕ) (g : Option HostProperty) → IfSome g (IsHostProperty s.view entry.Property) → IsMeant n (property_meant g)
+  property_or_none : (n : ℕ) (g : Option SeenProperty) → IfSome g (IsHostProperty s.view entry.Property) → IsMeant n (property_meant g)
   property_or_none n None h = tt
   property_or_none n (Some g) h = h
 
@@ -117,11 +117,11 @@ module _ (s : BodyContext) where
 
   -- The body of a constructor takes its object, and then these parameters.
   abbrev pub IsMaker : ℕ → Params → Type 0
-  IsMaker k ps = (own : Parameter) × (qs : List Parameter) × (slice_get Here.parameters k ≡ Some (own ∷ qs)) × (own.pass ≢ pass.RefOut) × TakeAlike ps qs
+  IsMaker k ps = (own : TypedParameter) × (qs : List TypedParameter) × (slice_get Here.parameters k ≡ Some (own ∷ qs)) × (own.pass ≢ pass.RefOut) × TakeAlike ps qs
 
   -- what is called with these parameters is there
   abbrev pub IsCallee : Called → Params → Type 0
-  IsCallee (calls.Script f) ps = (qs : List Parameter) × (sound.parameters_of Here f ≡ Some qs) × TakeAlike ps qs
+  IsCallee (calls.Script f) ps = (qs : List TypedParameter) × (sound.parameters_of Here f ≡ Some qs) × TakeAlike ps qs
   IsCallee (calls.Host h) ps = IsHostCallee s.view h (length ps) × Values ps
   IsCallee (calls.Makes c None) ps = (c < length s.names.families) × (ps ≡ [])
   IsCallee (calls.Makes c (Some k)) ps = (c < length s.names.families) × IsMaker k ps
@@ -157,14 +157,14 @@ module _ (s : BodyContext) where
       (every_flat IsCallable (callable_at imported_function s.names.imports) (functions_named s.names.imports name)
       (λ i. every_option IsCallable (callable_in imported_function i (slice_get s.names.imports i)) (imported_one i (slice_get s.names.imports i) refl)))
 
-  function_one : (f : HostFunction) → IsHost s.view entry.Function f → IsCallable (host_callable f)
+  function_one : (f : SeenFunction) → IsHost s.view entry.Function f → IsCallable (host_callable f)
   function_one f h = (record { kind = entry.Function; entity = h.entity; params = ap Some h.count }, h.values)
 
-  maker_one : (t : ℕ) (f : HostFunction) → IsHost s.view entry.Factory f → IsCallable (maker t f)
+  maker_one : (t : ℕ) (f : SeenFunction) → IsHost s.view entry.Factory f → IsCallable (maker t f)
   maker_one t f h = (record { kind = entry.Factory; entity = h.entity; params = ap Some h.count }, h.values)
 
   -- its receiver is the first parameter
-  method_one : (t : ℕ) (f : HostFunction) → IsHost s.view entry.Method f → IsCallable (host_method t f)
+  method_one : (t : ℕ) (f : SeenFunction) → IsHost s.view entry.Method f → IsCallable (host_method t f)
   method_one t f h = (record { kind = entry.Method; entity = h.entity; params = ap (λ n. Some (suc n)) h.count }, (λ e. cc, h.values))
 
   functions_there : IsBuiltContext s → (name : List ℕ) → Every IsCallable (functions_of (scope_of s) name)
@@ -185,12 +185,12 @@ module _ (s : BodyContext) where
 
   -- ---- what makes an object of a class
 
-  constructor_one : (c : ℕ) → c < length s.names.families → (k : Constructor) → IsConstructorIn Here c k → IsCallable (constructor_of c k)
+  constructor_one : (c : ℕ) → c < length s.names.families → (k : ScriptConstructor) → IsConstructorIn Here c k → IsCallable (constructor_of c k)
   unfolding parameters_of
   constructor_one c there k e =
       (there, (this_parameter (record { family = c; read_only = false }), typed_parameters k.function, e, (λ same. cc), params_alike k.function.params))
 
-  nothing_taken : (k : Constructor) → takes_nothing k ≡ true → TakeAlike [] (typed_parameters k.function)
+  nothing_taken : (k : ScriptConstructor) → takes_nothing k ≡ true → TakeAlike [] (typed_parameters k.function)
   nothing_taken k e = by k.function.params e
     where
       by : (ps : List ScriptParameter) → is_empty ps ≡ true → TakeAlike [] (map typed_parameter ps)

@@ -2,11 +2,11 @@
 use Rattle.std.specs.Prelude.{◌≡◌, ◌==◌, ℕ, false, List, [], ◌∷◌, ◌++◌, map, filter_map, find, length, take, unwrap_or, option_map}
 use Rattle.std.specs.List.{range_with_len}
 use Rattle.ang_view.specs.Registration.{RegistrationList}
-use Rattle.ang_typed.specs.declared.program.Parameter.{Parameter}
+use Rattle.ang_typed.specs.declared.program.TypedParameter.{TypedParameter}
 use Rattle.ang_typed.specs.Typed as t
-use Rattle.ang_names_known.specs.declared.names.Constructor.{Constructor}
+use Rattle.ang_names_known.specs.declared.names.ScriptConstructor.{ScriptConstructor}
 use Rattle.ang_names_known.specs.declared.names.Family.{Family}
-use Rattle.ang_names_known.specs.declared.names.Method.{Method}
+use Rattle.ang_names_known.specs.declared.names.ScriptMethod.{ScriptMethod}
 use Rattle.ang_names_known.specs.declared.names.Names.{Names}
 use Rattle.ang_names_known.specs.declared.names.ScriptFunction.{ScriptFunction}
 use Rattle.ang_names_known.specs.Items.{each_after}
@@ -18,23 +18,23 @@ use Rattle.ang_source.specs.Sound.{Module}
 
 -- a body by its number, with its parameters
 abbrev pub NumberedBody : Type 0
-NumberedBody = ℕ × List Parameter
+NumberedBody = ℕ × List TypedParameter
 
-abbrev pub with_this : Within → ScriptFunction → List Parameter
+abbrev pub with_this : Within → ScriptFunction → List TypedParameter
 with_this w f = this_parameter w ∷ typed_parameters f
 
 abbrev pub method_bodies : ℕ → Family → List NumberedBody
 method_bodies c f =
-    filter_map (λ (m : Method). option_map (λ k. (k, with_this (record { family = c; read_only = m.read_only }) m.function)) m.body) f.methods
+    filter_map (λ (m : ScriptMethod). option_map (λ k. (k, with_this (record { family = c; read_only = m.read_only }) m.function)) m.body) f.methods
 
 abbrev pub constructor_bodies : ℕ → Family → List NumberedBody
-constructor_bodies c f = map (λ (k : Constructor). (k.body, with_this (record { family = c; read_only = false }) k.function)) f.constructors
+constructor_bodies c f = map (λ (k : ScriptConstructor). (k.body, with_this (record { family = c; read_only = false }) k.function)) f.constructors
 
 -- the bodies of methods and constructors
 abbrev pub bodies_of : Names → List NumberedBody
 bodies_of names = each_after (λ before f. method_bodies (length before) f ++ constructor_bodies (length before) f) [] names.families
 
-abbrev pub body_parameters : Names → ℕ → List Parameter
+abbrev pub body_parameters : Names → ℕ → List TypedParameter
 body_parameters names k = unwrap_or (option_map (λ (b : NumberedBody). b.1) (find (λ (b : NumberedBody). b.0 == k) (bodies_of names))) []
 
 -- what a module with these names has, over its view: after its functions the bodies of its families, by number

@@ -1,14 +1,14 @@
 -- The parts of a build, each with what it belongs to (docs/LANGUAGE.md, "Statements").
 use Rattle.std.specs.Prelude.{◌≡◌, true, [], Some, slice_get}
 use Rattle.ang_view.specs.Registration.{RegistrationList}
-use Rattle.ang_names_known.specs.declared.names.Constructor.{Constructor}
+use Rattle.ang_names_known.specs.declared.names.ScriptConstructor.{ScriptConstructor}
 use Rattle.ang_names_known.specs.declared.names.Family.{Family}
-use Rattle.ang_names_known.specs.declared.names.Method.{Method}
+use Rattle.ang_names_known.specs.declared.names.ScriptMethod.{ScriptMethod}
 use Rattle.ang_names_known.specs.declared.names.Names.{Names}
 use Rattle.ang_names_known.specs.declared.names.ScriptFunction.{ScriptFunction}
 use Rattle.ang_names_known.specs.declared.names.ScriptGlobal.{ScriptGlobal}
 use Rattle.ang_names_known.specs.Spaces.{space_of_names}
-use Rattle.ang_names_listed.specs.declared.role.Role.TheVariants as role
+use Rattle.ang_names_listed.specs.declared.role.TypePosition.TheVariants as role
 use Rattle.ang_names_listed.specs.Sources.{text_of}
 use Rattle.ang_names_listed.specs.Types.{written_in}
 use Rattle.ang_check.specs.Bodies.{Part, a_function, a_global, a_method, a_constructor, a_default, method_at, constructor_at}
@@ -21,8 +21,8 @@ IsPartOf V names (a_function n text x b) =
 IsPartOf V names (a_global n text y i) =
     (g : ScriptGlobal) × (slice_get names.globals n ≡ Some g) × (g.written ≡ written_in (space_of_names V names) role.Variable text y)
 IsPartOf V names (a_method c m text x b) =
-    (y : Method) × (method_at V names c m ≡ Some y) × (y.function.name ≡ text_of text x) × (y.function.place ≡ x.place)
+    (y : ScriptMethod) × (method_at V names c m ≡ Some y) × (y.function.name ≡ text_of text x) × (y.function.place ≡ x.place)
 IsPartOf V names (a_constructor c m text x own bases u ss) =
-    (k : Constructor) × (constructor_at V names c m ≡ Some k) × (k.function.name ≡ text_of text x) × (k.function.place ≡ x.place)
+    (k : ScriptConstructor) × (constructor_at V names c m ≡ Some k) × (k.function.name ≡ text_of text x) × (k.function.place ≡ x.place)
 IsPartOf V names (a_default c text x bases) =
     (f : Family) × (slice_get names.families c ≡ Some f) × (f.is_class ≡ true) × (f.constructors ≡ []) × (f.place ≡ x.place)

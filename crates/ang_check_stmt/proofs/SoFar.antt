@@ -9,14 +9,14 @@ use Rattle.ang_tree.specs.declared.type_name.TypeName.{TypeName}
 use Rattle.ang_types.specs.declared.arg_type.ArgType.{ArgType}
 use Rattle.ang_typed.specs.Typed as t
 use Rattle.ang_check_context.specs.declared.scope.LocalVariable.{LocalVariable}
-use Rattle.ang_check_operators.specs.declared.refusal.Refusal.{Refusal}
+use Rattle.ang_check_operators.specs.declared.refusal.TypingRefusal.{TypingRefusal}
 use Rattle.ang_check_operators.specs.Refusals.{Typing, ◌>>=◌}
 use Rattle.ang_typed.specs.View.{view_stmt}
-use Rattle.ang_typed.specs.declared.statement.Statement as typed
+use Rattle.ang_typed.specs.declared.statement.TypedStatement as typed
 use Rattle.ang_check_stmt.specs.declared.halt.Halt.{Halt}
 use Rattle.ang_check_stmt.specs.declared.halt.Halt.TheVariants as halt
 use Rattle.ang_check_stmt.specs.Halts.{GivesOrHalts}
-use Rattle.ang_check_stmt.specs.Typing.{Frame, Keeps, with_same, stmt_typing, stmts_typing, local_typing, each_local}
+use Rattle.ang_check_stmt.specs.Typing.{FunctionContext, Keeps, with_same, stmt_typing, stmts_typing, local_typing, each_local}
 
 -- ---- lists
 
@@ -46,7 +46,7 @@ pub ruleset keeps = (keeps_same, keeps_pushed, keeps_on)
 -- ---- statements
 
 -- a statement after which the same locals are alive
-pub gives_same : (ps : List LocalVariable) (r : Result typed.Statement Halt) (j : Typing t.Stmt) → GivesOrHalts view_stmt r j
+pub gives_same : (ps : List LocalVariable) (r : Result typed.TypedStatement Halt) (j : Typing t.Stmt) → GivesOrHalts view_stmt r j
     → GivesOrHalts (λ x. (ps, view_stmt x)) r (with_same ps j)
 gives_same ps (Ok x) j h = ap (λ k. with_same ps k) h
 gives_same ps (Err halt.Memory) j h = tt
@@ -77,7 +77,7 @@ behind-added xs x (Err r) = refl
 behind-added xs x (Ok ss) = ap (λ k. Ok k) (sym (in_front-added xs x ss))
 
 -- a statement that was typed
-pub statements_turn : (f : Frame) (loop : Bool) (start : ℕ) (ps qs : List LocalVariable) (all : Typing t.Stmts) (xs : List t.Stmt) (x : t.Stmt)
+pub statements_turn : (f : FunctionContext) (loop : Bool) (start : ℕ) (ps qs : List LocalVariable) (all : Typing t.Stmts) (xs : List t.Stmt) (x : t.Stmt)
     (ws : List Statement) (i : ℕ) (w : Statement)
     → all ≡ stmts_behind xs (stmts_typing f loop start ps (trees.view_stmts (drop i ws)))
     → i < length ws → w ≡ get_or ws i w
@@ -89,8 +89,8 @@ statements_turn f loop start ps qs all xs x ws i w h lt is e =
     ∙ behind-added xs x (stmts_typing f loop start qs (trees.view_stmts (drop (i + 1) ws)))
 
 -- a statement that was refused
-pub statements_refused : (f : Frame) (loop : Bool) (start : ℕ) (ps : List LocalVariable) (all : Typing t.Stmts) (xs : List t.Stmt)
-    (ws : List Statement) (i : ℕ) (w : Statement) (r : Refusal)
+pub statements_refused : (f : FunctionContext) (loop : Bool) (start : ℕ) (ps : List LocalVariable) (all : Typing t.Stmts) (xs : List t.Stmt)
+    (ws : List Statement) (i : ℕ) (w : Statement) (r : TypingRefusal)
     → all ≡ stmts_behind xs (stmts_typing f loop start ps (trees.view_stmts (drop i ws)))
     → i < length ws → w ≡ get_or ws i w
     → stmt_typing f loop start ps (trees.view_stmt w) ≡ Err r
@@ -100,7 +100,7 @@ statements_refused f loop start ps all xs ws i w r h lt is e =
     ∙ ap (λ j. stmts_behind xs (j >>= (λ y. stmts_typing f loop start y.0 (trees.view_stmts (drop (i + 1) ws)) >>= (λ ss. Ok (t.then y.1 ss))))) e
 
 -- no statement is left
-pub statements_end : (f : Frame) (loop : Bool) (start : ℕ) (ps : List LocalVariable) (all : Typing t.Stmts) (xs : List t.Stmt) (ws : List Statement)
+pub statements_end : (f : FunctionContext) (loop : Bool) (start : ℕ) (ps : List LocalVariable) (all : Typing t.Stmts) (xs : List t.Stmt) (ws : List Statement)
     (i : ℕ) → all ≡ stmts_behind xs (stmts_typing f loop start ps (trees.view_stmts (drop i ws))) → length ws ≤ i → all ≡ Ok (t.stmts xs)
 statements_end f loop start ps all xs ws i h le =
     h ∙ ap (λ l. stmts_behind xs (stmts_typing f loop start ps (trees.view_stmts l))) (drop_all i ws le) ∙ ap (λ ss. Ok ss) (in_front-end xs)
@@ -118,7 +118,7 @@ local_added ls l (Err r) = refl
 local_added ls l (Ok k) = ap (λ m. Ok ((k.0, m))) (sym (append_assoc ls (l ∷ []) k.1))
 
 -- a local that was typed
-pub locals_turn : (f : Frame) (start : ℕ) (ps qs : List LocalVariable) (y : TypeName) (ty : ArgType) (all : Typing (List LocalVariable × List t.Local))
+pub locals_turn : (f : FunctionContext) (start : ℕ) (ps qs : List LocalVariable) (y : TypeName) (ty : ArgType) (all : Typing (List LocalVariable × List t.Local))
     (ls : List t.Local) (l : t.Local) (vs : List Variable) (i : ℕ) (v : Variable)
     → all ≡ locals_behind ls (each_local f start ps y ty (list_map trees.view_var (drop i vs)))
     → i < length vs → v ≡ get_or vs i v
@@ -130,8 +130,8 @@ locals_turn f start ps qs y ty all ls l vs i v h lt is e =
     ∙ local_added ls l (each_local f start qs y ty (list_map trees.view_var (drop (i + 1) vs)))
 
 -- a local that was refused
-pub locals_refused : (f : Frame) (start : ℕ) (ps : List LocalVariable) (y : TypeName) (ty : ArgType) (all : Typing (List LocalVariable × List t.Local))
-    (ls : List t.Local) (vs : List Variable) (i : ℕ) (v : Variable) (r : Refusal)
+pub locals_refused : (f : FunctionContext) (start : ℕ) (ps : List LocalVariable) (y : TypeName) (ty : ArgType) (all : Typing (List LocalVariable × List t.Local))
+    (ls : List t.Local) (vs : List Variable) (i : ℕ) (v : Variable) (r : TypingRefusal)
     → all ≡ locals_behind ls (each_local f start ps y ty (list_map trees.view_var (drop i vs)))
     → i < length vs → v ≡ get_or vs i v
     → local_typing f start ps y ty (trees.view_var v) ≡ Err r
@@ -141,7 +141,7 @@ locals_refused f start ps y ty all ls vs i v r h lt is e =
     ∙ ap (λ j. locals_behind ls (j >>= (λ k. each_local f start k.0 y ty (list_map trees.view_var (drop (i + 1) vs)) >>= (λ m. Ok ((m.0, k.1 ∷ m.1)))))) e
 
 -- no local is left
-pub locals_end : (f : Frame) (start : ℕ) (ps : List LocalVariable) (y : TypeName) (ty : ArgType) (all : Typing (List LocalVariable × List t.Local))
+pub locals_end : (f : FunctionContext) (start : ℕ) (ps : List LocalVariable) (y : TypeName) (ty : ArgType) (all : Typing (List LocalVariable × List t.Local))
     (ls : List t.Local) (vs : List Variable) (i : ℕ)
     → all ≡ locals_behind ls (each_local f start ps y ty (list_map trees.view_var (drop i vs))) → length vs ≤ i → all ≡ Ok ((ps, ls))
 locals_end f start ps y ty all ls vs i h le =

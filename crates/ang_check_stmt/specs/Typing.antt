@@ -12,12 +12,12 @@ use Rattle.ang_tree.specs.declared.type_name.TypeName.{TypeName}
 use Rattle.ang_tree.specs.Tree.{Tree, Trees}
 use Rattle.ang_tree.specs.Stmt.{Init, absent, value, constructor, Var, Vars, Start, with_variables, with_expression, Stmt, Body, Stmts, block, variables, expression, break, continue, return, when, either, while, do_while, for, body, end}
 use Rattle.ang_tree.specs.Stmt as written
-use Rattle.ang_typed.specs.declared.expression.Variable.TheVariants as variable
+use Rattle.ang_typed.specs.declared.expression.TypedVariable.TheVariants as variable
 use Rattle.ang_typed.specs.Typed as t
 use Rattle.ang_check_stmt.specs.declared.frame.Returns.{Returns}
 use Rattle.ang_check_stmt.specs.declared.frame.Returns.TheVariants as returns
 use Rattle.ang_check_context.specs.declared.scope.LocalVariable.{LocalVariable}
-use Rattle.ang_names_listed.specs.declared.role.Role.TheVariants as role
+use Rattle.ang_names_listed.specs.declared.role.TypePosition.TheVariants as role
 use Rattle.ang_names_known.specs.Lookup.{is_read_only}
 use Rattle.ang_check_operators.specs.Operands.{Operand, fit, truth}
 use Rattle.ang_check_operators.specs.Refusals.{Typing, ◌>>=◌, fault, refused}
@@ -30,7 +30,7 @@ use Rattle.ang_names_listed.specs.Types.{type_in, is_const_handle}
 
 -- What is the same for all statements of a function: what its names are looked up in, how it returns, and how many locals it begins
 -- with, `this` and its parameters.
-pub record Frame : Type 0 where
+pub record FunctionContext : Type 0 where
   pub context : BodyContext
   pub returns : Returns
   pub parameters : ℕ
@@ -96,7 +96,7 @@ abbrev pub has_named : List ℕ → List LocalVariable → Bool
 has_named name ps = list_any (λ (p : LocalVariable). bytes_eq p.name name) ps
 
 -- The name of a variable is that of another one of its block, which begins at local `start`, or it is one local too many.
-abbrev pub local_name_error : Frame → ℕ → List LocalVariable → List ℕ → Option ErrorKind
+abbrev pub local_name_error : FunctionContext → ℕ → List LocalVariable → List ℕ → Option ErrorKind
 local_name_error f start ps name =
     if has_named name (drop start ps) then Some kind.Duplicate
     else (if nat_lt (length ps - f.parameters) most_locals then None else Some kind.Limit)
@@ -105,7 +105,7 @@ abbrev pub name_judged : Option ErrorKind → Token → List ℕ → Typing (Lis
 name_judged None x name = Ok name
 name_judged (Some why) x name = Err (refused why x)
 
-unfoldable pub local_name : Frame → ℕ → List LocalVariable → Token → Typing (List ℕ)
+unfoldable pub local_name : FunctionContext → ℕ → List LocalVariable → Token → Typing (List ℕ)
 local_name f start ps x = let name = text_of f.context.text x in name_judged (local_name_error f start ps name) x name
 
 abbrev pub made : Typing Operand → Typing (Option t.Expr)
@@ -163,13 +163,13 @@ local_with name ty y = record {
 }
 
 -- One variable. It is known after its initializer.
-unfoldable pub local_typing : Frame → ℕ → List LocalVariable → TypeName → ArgType → Var → Typing (List LocalVariable × t.Local)
+unfoldable pub local_typing : FunctionContext → ℕ → List LocalVariable → TypeName → ArgType → Var → Typing (List LocalVariable × t.Local)
 local_typing f start ps y ty v = do
   name ← local_name f start ps v.name
   x ← initializer_typing f.context ps y ty v.initializer
   Ok ((ps ++ (local_with name ty y ∷ []), record { ty = ty; initializer = x }))
 
-abbrev pub each_local : Frame → ℕ → List LocalVariable → TypeName → ArgType → List Var → Typing (List LocalVariable × List t.Local)
+abbrev pub each_local : FunctionContext → ℕ → List LocalVariable → TypeName → ArgType → List Var → Typing (List LocalVariable × List t.Local)
 each_local f start ps y ty [] = Ok ((ps, []))
 each_local f start ps y ty (v ∷ vs) = do
   l ← local_typing f start ps y ty v
@@ -177,12 +177,12 @@ each_local f start ps y ty (v ∷ vs) = do
   Ok ((ls.0, l.1 ∷ ls.1))
 
 -- The variables of a declaration, in the block that begins at local `start`.
-unfoldable pub locals_typing : Frame → ℕ → List LocalVariable → Vars → Typing (List LocalVariable × List t.Local)
+unfoldable pub locals_typing : FunctionContext → ℕ → List LocalVariable → Vars → Typing (List LocalVariable × List t.Local)
 locals_typing f start ps vs = do
   ty ← local_type f.context ps vs.declared_type
   each_local f start ps vs.declared_type ty vs.items
 
-abbrev pub declaration_typing : Frame → ℕ → List LocalVariable → Vars → Typing (List LocalVariable × t.Stmt)
+abbrev pub declaration_typing : FunctionContext → ℕ → List LocalVariable → Vars → Typing (List LocalVariable × t.Stmt)
 declaration_typing f start ps vs = do
   ls ← locals_typing f start ps vs
   Ok ((ls.0, t.locals ls.1))
@@ -218,14 +218,14 @@ return_value ancestors (returns.Value ty) a = value_returned ancestors ty a
 return_value ancestors (returns.Own ty) a = Err (fault kind.BadConversion a.place)
 
 -- A function with a result returns a value of that type, and one without returns none.
-abbrev pub result_typing : Frame → List LocalVariable → Token → Option Tree → Typing (Option t.Expr)
+abbrev pub result_typing : FunctionContext → List LocalVariable → Token → Option Tree → Typing (Option t.Expr)
 result_typing f ps word None = return_nothing f.returns word
 result_typing f ps word (Some e) = do
   a ← typing_of f.context ps e
   x ← return_value f.context.ancestors f.returns a
   Ok (Some x)
 
-abbrev pub return_typing : Frame → List LocalVariable → Token → Option Tree → Typing t.Stmt
+abbrev pub return_typing : FunctionContext → List LocalVariable → Token → Option Tree → Typing t.Stmt
 return_typing f ps word e = do
   x ← result_typing f ps word e
   Ok (t.return x)
@@ -239,13 +239,13 @@ jump false word x = Err (refused kind.Jump word)
 -- ---- `for`
 
 -- What a `for` begins with, in the block that begins there.
-abbrev pub start_typing : Frame → List LocalVariable → Start → Typing (List LocalVariable × t.Stmt)
+abbrev pub start_typing : FunctionContext → List LocalVariable → Start → Typing (List LocalVariable × t.Stmt)
 start_typing f ps (with_variables vs) = declaration_typing f (length ps) ps vs
 start_typing f ps (with_expression e semicolon) = with_same ps (expression_typing f.context ps e)
 
 -- What stands in the parentheses of a `for`, in the order of the text: the locals alive after its start, the start, the condition and
 -- the steps.
-abbrev pub head_typing : Frame → List LocalVariable → Start → Option Tree → Trees → Typing (List LocalVariable × t.Stmt × Option t.Expr × List t.Expr)
+abbrev pub head_typing : FunctionContext → List LocalVariable → Start → Option Tree → Trees → Typing (List LocalVariable × t.Stmt × Option t.Expr × List t.Expr)
 head_typing f ps b c steps = do
   first ← start_typing f ps b
   x ← optional_condition f.context first.0 c
@@ -299,7 +299,7 @@ for_of h s = do
 -- ---- statements
 
 -- In a function:
-module _ (f : Frame) where
+module _ (f : FunctionContext) where
   -- Whether a loop stands around the statement, where the innermost block begins, and the locals alive before it. A branch, a
   -- loop's body, and a `for` from its `(` on are blocks of their own.
   abbrev mutual

@@ -17,16 +17,16 @@ pub enum Returns {
 /// What is the same for all statements of a function: what its names are looked up in, how it
 /// returns, and how many locals it begins with, `this` and its parameters.
 #[derive(Drop)]
-pub struct Frame<'a> {
+pub struct FunctionContext<'a> {
     context: BodyContext<'a>,
     returns: Returns,
     parameters: usize,
 }
 
-impl<'a> Model for Frame<'a> {
+impl<'a> Model for FunctionContext<'a> {
     ghost use Rattle.ang_check_stmt.specs.Typing as spec;
 
-    ghost Value = { spec.Frame };
+    ghost Value = { spec.FunctionContext };
 
     ghost view = { λ f. record {
       context = f.context;
@@ -35,14 +35,14 @@ impl<'a> Model for Frame<'a> {
     } };
 }
 
-impl<'a> Frame<'a> {
+impl<'a> FunctionContext<'a> {
     /// What stands in this context, returns so, and begins with `parameters` locals.
-    pub fn new(context: BodyContext<'a>, returns: Returns, parameters: usize) -> Frame<'a>
+    pub fn new(context: BodyContext<'a>, returns: Returns, parameters: usize) -> FunctionContext<'a>
         ensures context { result.context ≡ context.entry }
         ensures returns { result.returns ≡ returns }
         ensures parameters { result.parameters ≡ parameters }
     {
-        Frame {
+        FunctionContext {
             context,
             returns,
             parameters,

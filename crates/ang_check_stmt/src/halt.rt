@@ -4,14 +4,14 @@ ghost use Rattle.std.specs.Prelude.{◌≡◌};
 ghost use Rattle.ang_check_stmt.specs.Halts as spec;
 ghost use Rattle.ang_check_stmt.specs.declared.halt.Halt.TheVariants.{Memory};
 
-use ang_check_operators::{Refusal, Stop};
+use ang_check_operators::{TypingRefusal, TypingError};
 use std::alloc::{AllocError, AllocFailed, Global};
 
-/// As `Stop`, with the refusal in a box.
+/// As `TypingError`, with the refusal in a box.
 #[derive(Drop)]
 pub enum Halt {
     /// The first refusal.
-    Refused(Box<Refusal>),
+    Refused(Box<TypingRefusal>),
     /// A growth of memory was refused.
     Memory,
 }
@@ -34,12 +34,12 @@ impl<T: Drop> From<AllocFailed<T>> for Halt {
 
 /// The same with the refusal in a box; `Memory` where there is none for the box.
 #[inline(never)]
-pub fn halt_of(alloc: Global, stop: Stop) -> Halt
+pub fn halt_of(alloc: Global, stop: TypingError) -> Halt
     ensures boxed { spec.IsBoxed result stop }
 {
     match stop {
-        Stop::Memory => Halt::Memory,
-        Stop::Refused(refusal) => match Box::new(alloc, refusal) {
+        TypingError::Memory => Halt::Memory,
+        TypingError::Refused(refusal) => match Box::new(alloc, refusal) {
             Ok(refusal) => Halt::Refused(refusal),
             Err(_) => Halt::Memory,
         },
@@ -47,11 +47,11 @@ pub fn halt_of(alloc: Global, stop: Stop) -> Halt
 }
 
 /// The same with the refusal out of its box.
-pub fn stop_of(halt: Halt) -> Stop
+pub fn stop_of(halt: Halt) -> TypingError
     ensures exact { result ≡ spec.stop_of halt }
 {
     match halt {
-        Halt::Memory => Stop::Memory,
-        Halt::Refused(refusal) => Stop::Refused(Box::into_inner(refusal)),
+        Halt::Memory => TypingError::Memory,
+        Halt::Refused(refusal) => TypingError::Refused(Box::into_inner(refusal)),
     }
 }

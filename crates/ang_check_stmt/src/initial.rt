@@ -7,12 +7,12 @@ ghost use Rattle.ang_check_operators.specs.View.{view_operand, view_operands};
 ghost use Rattle.ang_check_stmt.specs.Typing as spec;
 
 use ang_check_context::{BodyContext, Locals};
-use ang_check_operators::{Operand, Stop, fault, fit, refused};
+use ang_check_operators::{Operand, TypingError, fault, fit, refused};
 use ang_check_typing::{default_typing, made_typing, typing, typing_of_all};
 use ang_kinds::ErrorKind;
 use ang_lex::Token;
 use ang_tree::{Initializer, TypeName};
-use ang_typed::Expression;
+use ang_typed::TypedExpression;
 use ang_types::{ArgType, Lineage};
 use std::alloc::Global;
 
@@ -23,7 +23,7 @@ fn made_by_default(
     locals: &Locals<'_>,
     declared: &TypeName,
     ty: ArgType,
-) -> Result<Option<Box<Expression>>, Stop>
+) -> Result<Option<Box<TypedExpression>>, TypingError>
     ensures exact { Gives view_option result
         (spec.absent_typing context.now locals.now declared.now ty) }
 {
@@ -47,7 +47,7 @@ fn assigned(
     equals: &Token,
     ty: ArgType,
     operand: Operand,
-) -> Result<Option<Box<Expression>>, Stop>
+) -> Result<Option<Box<TypedExpression>>, TypingError>
     ensures exact { Gives view_option result
         (spec.value_typing lineage.now equals.now ty (view_operand operand)) }
 {
@@ -72,7 +72,7 @@ fn made_with(
     declared: &TypeName,
     ty: ArgType,
     operands: Vec<Operand>,
-) -> Result<Option<Box<Expression>>, Stop>
+) -> Result<Option<Box<TypedExpression>>, TypingError>
     ensures exact { Gives view_option result
         (spec.arguments_typing context.now locals.now declared.now ty
         (view_operands operands.items)) }
@@ -102,7 +102,7 @@ pub fn initializer(
     declared: &TypeName,
     ty: ArgType,
     initializer: &Initializer,
-) -> Result<Option<Box<Expression>>, Stop>
+) -> Result<Option<Box<TypedExpression>>, TypingError>
     ensures exact { Gives view_option result (spec.initializer_typing context.now locals.now
         declared.now ty (view_init initializer.now)) }
 {

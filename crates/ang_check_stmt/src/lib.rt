@@ -15,7 +15,7 @@ mod paths;
 mod statements;
 mod values;
 
-pub use frame::{Frame, Returns};
+pub use frame::{FunctionContext, Returns};
 pub use initial::initializer;
 pub use paths::body_ends;
 pub use statements::block;

@@ -5,16 +5,16 @@ ghost use Rattle.ang_typed.specs.View.{view_local, view_stmt};
 ghost use Rattle.ang_check_operators.specs.Refusals.{Gives};
 ghost use Rattle.ang_check_stmt.specs.Typing as spec;
 
-use crate::frame::Frame;
+use crate::frame::FunctionContext;
 use crate::initial::initializer;
 use ang_check_context::{BodyContext, LocalVariable, Locals, type_or_refusal};
-use ang_check_operators::{Stop, refused};
+use ang_check_operators::{TypingError, refused};
 use ang_kinds::ErrorKind;
 use ang_lex::Token;
-use ang_names_known::{Space, Text, Written, is_read_only};
-use ang_names_listed::{Role, is_const_handle, type_in};
+use ang_names_known::{Space, BorrowedText, Written, is_read_only};
+use ang_names_listed::{TypePosition, is_const_handle, type_in};
 use ang_tree::{TypeName, Variable, Variables};
-use ang_typed::{Local, Statement};
+use ang_typed::{Local, TypedStatement};
 use ang_types::ArgType;
 use std::alloc::{AllocError, Global};
 
@@ -29,16 +29,16 @@ fn local_type(
     context: &BodyContext<'_>,
     locals: &Locals<'_>,
     declared: &TypeName,
-) -> Result<ArgType, Stop>
+) -> Result<ArgType, TypingError>
     ensures exact { Gives (λ ty. ty) result (spec.local_type context.now locals.now declared.now) }
 {
     let space = Space::of_names(context.view(), context.names());
-    let meaning = type_in(&space, Role::Variable, context.text(), declared);
+    let meaning = type_in(&space, TypePosition::Variable, context.text(), declared);
     type_or_refusal(context, locals, &declared.name, meaning)
 }
 
 /// A local of this name and type, as the type is written.
-fn local_with<'a>(name: Text<'a>, ty: ArgType, declared: &TypeName) -> LocalVariable<'a>
+fn local_with<'a>(name: BorrowedText<'a>, ty: ArgType, declared: &TypeName) -> LocalVariable<'a>
     ensures exact { result ≡ spec.local_with name.entry ty declared.now }
 {
     let written = Written {
@@ -55,7 +55,7 @@ fn local_with<'a>(name: Text<'a>, ty: ArgType, declared: &TypeName) -> LocalVari
 
 /// Why a local can't have the name, in the block that begins at local `start`.
 fn name_error(
-    frame: &Frame<'_>,
+    frame: &FunctionContext<'_>,
     start: usize,
     locals: &Locals<'_>,
     name: &[u8],
@@ -79,17 +79,17 @@ fn name_error(
 /// takes no memory.
 #[tactic(auto, unfolding(crate::specs::Typing::local_name))]
 fn local_name<'a>(
-    frame: &Frame<'a>,
+    frame: &FunctionContext<'a>,
     start: usize,
     locals: &Locals<'a>,
     token: &Token,
-) -> Result<Text<'a>, Stop>
+) -> Result<BorrowedText<'a>, TypingError>
     requires block { start ≤ length locals.now }
     requires parameters { frame.now.parameters ≤ length locals.now }
     ensures exact { Gives (λ name. name) result
         (spec.local_name frame.now start locals.now token.now) }
 {
-    let name = Text::new(frame.context().text_of(token));
+    let name = BorrowedText::new(frame.context().text_of(token));
     match name_error(frame, start, locals, name.bytes()) {
         None => Ok(name),
         Some(kind) => Err(refused(kind, token)),
@@ -100,13 +100,13 @@ fn local_name<'a>(
 #[tactic(auto, using(crate::proofs::SoFar::keeps), unfolding(crate::specs::Typing::local_typing))]
 fn local_variable<'a>(
     alloc: Global,
-    frame: &Frame<'a>,
+    frame: &FunctionContext<'a>,
     start: usize,
     locals: &mut Locals<'a>,
     declared: &TypeName,
     ty: ArgType,
     variable: &Variable,
-) -> Result<Local, Stop>
+) -> Result<Local, TypingError>
     requires block { start ≤ length locals.old }
     requires parameters { frame.now.parameters ≤ length locals.old }
     ensures exact { Gives (λ l. (locals.new, view_local l)) result
@@ -141,11 +141,11 @@ fn with_local(first: Vec<Local>, local: Local) -> Result<Vec<Local>, AllocError>
 #[tactic(auto, using(crate::proofs::SoFar::keeps), unfolding(crate::specs::Typing::locals_typing))]
 fn local_variables<'a>(
     alloc: Global,
-    frame: &Frame<'a>,
+    frame: &FunctionContext<'a>,
     start: usize,
     locals: &mut Locals<'a>,
     variables: &Variables,
-) -> Result<Vec<Local>, Stop>
+) -> Result<Vec<Local>, TypingError>
     requires block { start ≤ length locals.old }
     requires parameters { frame.now.parameters ≤ length locals.old }
     ensures exact { Gives (λ ls. (locals.new, list_map view_local ls.items)) result
@@ -174,11 +174,11 @@ fn local_variables<'a>(
 #[inline(never)]
 pub fn locals_statement<'a>(
     alloc: Global,
-    frame: &Frame<'a>,
+    frame: &FunctionContext<'a>,
     start: usize,
     locals: &mut Locals<'a>,
     variables: &Variables,
-) -> Result<Statement, Stop>
+) -> Result<TypedStatement, TypingError>
     requires block { start ≤ length locals.old }
     requires parameters { frame.now.parameters ≤ length locals.old }
     ensures exact { Gives (λ x. (locals.new, view_stmt x)) result
@@ -186,5 +186,5 @@ pub fn locals_statement<'a>(
     ensures kept { OnOk result (spec.Keeps locals.old locals.new) }
 {
     let found = local_variables(alloc, frame, start, locals, variables)?;
-    Ok(Statement::Locals(found))
+    Ok(TypedStatement::Locals(found))
 }

@@ -8,30 +8,30 @@ ghost use Rattle.ang_check_stmt.specs.Halts.{GivesOrHalts};
 ghost use Rattle.ang_check_stmt.specs.Typing as spec;
 ghost use Rattle.ang_check_stmt.specs.View.{view_boxed};
 
-use crate::frame::Frame;
+use crate::frame::FunctionContext;
 use crate::halt::Halt;
 use crate::locals::locals_statement;
 use crate::values::{expression_statement, optional_condition, steps};
 use ang_check_context::Locals;
-use ang_check_operators::Stop;
+use ang_check_operators::TypingError;
 use ang_tree as written;
 use ang_tree::{Argument, ForStart};
-use ang_typed::{Block, Expression, For, Statement};
+use ang_typed::{TypedBlock, TypedExpression, TypedFor, TypedStatement};
 use std::alloc::{AllocError, Global};
 
 /// What stands in the parentheses of a `for`.
 #[derive(Drop)]
-pub struct LoopHead {
+pub struct ForHead {
     /// What runs first.
-    pub start: Box<Statement>,
+    pub start: Box<TypedStatement>,
     /// The condition of a pass, where one is written.
-    pub condition: Option<Box<Expression>>,
+    pub condition: Option<Box<TypedExpression>>,
     /// What runs after the body.
-    pub steps: Vec<Expression>,
+    pub steps: Vec<TypedExpression>,
 }
 
 /// A statement in a box.
-fn boxed(alloc: Global, statement: Statement) -> Result<Box<Statement>, AllocError>
+fn boxed(alloc: Global, statement: TypedStatement) -> Result<Box<TypedStatement>, AllocError>
     ensures exact { IfOk result (λ b. view_boxed b ≡ view_stmt statement) }
 {
     let statement = Box::new(alloc, statement)?;
@@ -41,10 +41,10 @@ fn boxed(alloc: Global, statement: Statement) -> Result<Box<Statement>, AllocErr
 /// What a `for` begins with, in the block that begins there.
 fn loop_start<'a>(
     alloc: Global,
-    frame: &Frame<'a>,
+    frame: &FunctionContext<'a>,
     locals: &mut Locals<'a>,
     written: &ForStart,
-) -> Result<Box<Statement>, Stop>
+) -> Result<Box<TypedStatement>, TypingError>
     requires parameters { frame.now.parameters ≤ length locals.old }
     ensures exact { Gives (λ x. (locals.new, view_boxed x)) result
         (spec.start_typing frame.now locals.old (trees.view_start written.now)) }
@@ -69,12 +69,12 @@ fn loop_start<'a>(
 #[inline(never)]
 pub fn loop_head<'a>(
     alloc: Global,
-    frame: &Frame<'a>,
+    frame: &FunctionContext<'a>,
     locals: &mut Locals<'a>,
     first: &ForStart,
     test: &Option<Box<written::Expression>>,
     items: &[Argument],
-) -> Result<LoopHead, Stop>
+) -> Result<ForHead, TypingError>
     requires parameters { frame.now.parameters ≤ length locals.old }
     ensures exact { Gives (λ h. (
       locals.new,
@@ -89,7 +89,7 @@ pub fn loop_head<'a>(
     let start = loop_start(alloc, frame, locals, first)?;
     let condition = optional_condition(alloc, frame.context(), locals, test)?;
     let steps = steps(alloc, frame.context(), locals, items)?;
-    Ok(LoopHead {
+    Ok(ForHead {
         start,
         condition,
         steps,
@@ -97,7 +97,7 @@ pub fn loop_head<'a>(
 }
 
 /// A list of one statement.
-pub fn list_of_one(alloc: Global, statement: Statement) -> Result<Vec<Statement>, AllocError>
+pub fn list_of_one(alloc: Global, statement: TypedStatement) -> Result<Vec<TypedStatement>, AllocError>
     ensures exact { IfOk result (λ v. list_map view_stmt v.items ≡ view_stmt statement ∷ []) }
 {
     let mut statements = Vec::new(alloc);
@@ -107,12 +107,12 @@ pub fn list_of_one(alloc: Global, statement: Statement) -> Result<Vec<Statement>
 
 /// A `for` of these parts.
 #[inline(never)]
-pub fn for_of(alloc: Global, head: Box<LoopHead>, body: Block) -> Result<Statement, Halt>
+pub fn for_of(alloc: Global, head: Box<ForHead>, body: TypedBlock) -> Result<TypedStatement, Halt>
     ensures exact { GivesOrHalts view_stmt result (Ok (tree.for
         (tree.«then» (view_boxed head.value.start) tree.end) (view_option head.value.condition)
         (list_map view_expr head.value.steps.items) (view_block body))) }
 {
-    let LoopHead {
+    let ForHead {
         start,
         condition,
         steps,
@@ -120,12 +120,12 @@ pub fn for_of(alloc: Global, head: Box<LoopHead>, body: Block) -> Result<Stateme
     let first = list_of_one(alloc, Box::into_inner(start))?;
     let found = Box::new(
         alloc,
-        For {
+        TypedFor {
             start: first,
             condition,
             steps,
             body,
         },
     )?;
-    Ok(Statement::For(found))
+    Ok(TypedStatement::For(found))
 }

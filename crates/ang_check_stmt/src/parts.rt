@@ -8,10 +8,10 @@ ghost use Rattle.ang_check_stmt.specs.Halts.{GivesOrHalts};
 ghost use Rattle.ang_check_stmt.specs.Typing as spec;
 ghost use Rattle.ang_check_stmt.specs.View.{view_boxed};
 
-use crate::frame::Frame;
+use crate::frame::FunctionContext;
 use crate::halt::{Halt, halt_of};
 use crate::locals::locals_statement;
-use crate::loops::{LoopHead, loop_head};
+use crate::loops::{ForHead, loop_head};
 use crate::values::{condition, expression_statement, returned};
 use ang_check_context::Locals;
 use ang_check_operators::refused;
@@ -19,7 +19,7 @@ use ang_kinds::ErrorKind;
 use ang_lex::Token;
 use ang_tree as written;
 use ang_tree::{Argument, ForStart, Variables};
-use ang_typed::{Expression, Statement};
+use ang_typed::{TypedExpression, TypedStatement};
 use std::alloc::Global;
 
 /// `break` or `continue`; `Jump` at the word where no loop stands around it.
@@ -28,8 +28,8 @@ pub fn jump(
     alloc: Global,
     in_loop: bool,
     word: &Token,
-    statement: Statement,
-) -> Result<Statement, Halt>
+    statement: TypedStatement,
+) -> Result<TypedStatement, Halt>
     ensures exact { GivesOrHalts view_stmt result
         (spec.jump in_loop word.now (view_stmt statement)) }
 {
@@ -45,10 +45,10 @@ pub fn jump(
 #[inline(never)]
 pub fn condition_or_halt(
     alloc: Global,
-    frame: &Frame<'_>,
+    frame: &FunctionContext<'_>,
     locals: &Locals<'_>,
     value: &written::Expression,
-) -> Result<Box<Expression>, Halt>
+) -> Result<Box<TypedExpression>, Halt>
     ensures exact { GivesOrHalts view_tree result
         (spec.condition_typing frame.now.context locals.now (trees.view_expr value.now)) }
 {
@@ -63,10 +63,10 @@ pub fn condition_or_halt(
 #[inline(never)]
 pub fn expression_or_halt(
     alloc: Global,
-    frame: &Frame<'_>,
+    frame: &FunctionContext<'_>,
     locals: &Locals<'_>,
     value: &Option<Box<written::Expression>>,
-) -> Result<Statement, Halt>
+) -> Result<TypedStatement, Halt>
     ensures exact { GivesOrHalts (λ x. (locals.now, view_stmt x)) result
         (spec.with_same locals.now
         (spec.expression_typing frame.now.context locals.now (trees.view_option value.now))) }
@@ -82,11 +82,11 @@ pub fn expression_or_halt(
 #[inline(never)]
 pub fn return_or_halt(
     alloc: Global,
-    frame: &Frame<'_>,
+    frame: &FunctionContext<'_>,
     locals: &Locals<'_>,
     word: &Token,
     value: &Option<Box<written::Expression>>,
-) -> Result<Statement, Halt>
+) -> Result<TypedStatement, Halt>
     ensures exact { GivesOrHalts (λ x. (locals.now, view_stmt x)) result
         (spec.with_same locals.now
         (spec.return_typing frame.now locals.now word.now (trees.view_option value.now))) }
@@ -102,11 +102,11 @@ pub fn return_or_halt(
 #[inline(never)]
 pub fn locals_or_halt<'a>(
     alloc: Global,
-    frame: &Frame<'a>,
+    frame: &FunctionContext<'a>,
     start: usize,
     locals: &mut Locals<'a>,
     variables: &Variables,
-) -> Result<Statement, Halt>
+) -> Result<TypedStatement, Halt>
     requires block { start ≤ length locals.old }
     requires parameters { frame.now.parameters ≤ length locals.old }
     ensures exact { GivesOrHalts (λ x. (locals.new, view_stmt x)) result
@@ -124,12 +124,12 @@ pub fn locals_or_halt<'a>(
 #[inline(never)]
 pub fn head_or_halt<'a>(
     alloc: Global,
-    frame: &Frame<'a>,
+    frame: &FunctionContext<'a>,
     locals: &mut Locals<'a>,
     first: &ForStart,
     test: &Option<Box<written::Expression>>,
     items: &[Argument],
-) -> Result<Box<LoopHead>, Halt>
+) -> Result<Box<ForHead>, Halt>
     requires parameters { frame.now.parameters ≤ length locals.old }
     ensures exact { GivesOrHalts (λ h. (
       locals.new,

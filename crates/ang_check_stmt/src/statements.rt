@@ -12,40 +12,40 @@ ghost use Rattle.ang_check_stmt.specs.Halts.{GivesOrHalts};
 ghost use Rattle.ang_check_stmt.specs.Typing as spec;
 ghost use Rattle.ang_check_stmt.specs.View.{view_boxed};
 
-use crate::frame::Frame;
+use crate::frame::FunctionContext;
 use crate::halt::{Halt, stop_of};
-use crate::loops::{LoopHead, for_of, list_of_one};
+use crate::loops::{ForHead, for_of, list_of_one};
 use crate::parts::{
     condition_or_halt, expression_or_halt, head_or_halt, jump, locals_or_halt, return_or_halt,
 };
 use ang_check_context::Locals;
-use ang_check_operators::Stop;
+use ang_check_operators::TypingError;
 use ang_tree as written;
 use ang_tree::{Argument, ForStart, Statement as Written};
-use ang_typed::{Block, Choice, Expression, Loop, Statement};
+use ang_typed::{TypedBlock, TypedChoice, TypedExpression, TypedLoop, TypedStatement};
 use std::alloc::{AllocError, Global};
 
 /// A block of one statement.
 #[inline(never)]
-fn block_of_one(alloc: Global, statement: Statement) -> Result<Block, Halt>
+fn block_of_one(alloc: Global, statement: TypedStatement) -> Result<TypedBlock, Halt>
     ensures exact { GivesOrHalts view_block result
         (Ok (tree.«then» (view_stmt statement) tree.end)) }
 {
     let statements = list_of_one(alloc, statement)?;
-    Ok(Block { statements })
+    Ok(TypedBlock { statements })
 }
 
 /// A block of no statements.
-fn empty_block(alloc: Global) -> Block
+fn empty_block(alloc: Global) -> TypedBlock
     ensures exact { view_block result ≡ tree.end }
 {
-    Block {
+    TypedBlock {
         statements: Vec::new(alloc),
     }
 }
 
 /// The list with one more statement at its end.
-fn with_statement(first: Vec<Statement>, statement: Statement) -> Result<Vec<Statement>, AllocError>
+fn with_statement(first: Vec<TypedStatement>, statement: TypedStatement) -> Result<Vec<TypedStatement>, AllocError>
     ensures exact { IfOk result (λ v. list_map view_stmt v.items
         ≡ list_map view_stmt first.items ++ (view_stmt statement ∷ [])) }
 {
@@ -57,13 +57,13 @@ fn with_statement(first: Vec<Statement>, statement: Statement) -> Result<Vec<Sta
 /// A condition, and what runs where it is true.
 #[derive(Drop)]
 struct Tested {
-    condition: Box<Expression>,
-    then: Block,
+    condition: Box<TypedExpression>,
+    then: TypedBlock,
 }
 
 /// A condition and what runs where it is true, in a box.
 #[inline(never)]
-fn tested_of(alloc: Global, condition: Box<Expression>, then: Block) -> Result<Box<Tested>, Halt>
+fn tested_of(alloc: Global, condition: Box<TypedExpression>, then: TypedBlock) -> Result<Box<Tested>, Halt>
     ensures exact { GivesOrHalts (λ x. (view_tree x.value.condition, view_block x.value.«then»))
         result (spec.tested_of (Ok (view_tree condition)) (Ok (view_block «then»))) }
 {
@@ -72,7 +72,7 @@ fn tested_of(alloc: Global, condition: Box<Expression>, then: Block) -> Result<B
 
 /// An `if` of these parts.
 #[inline(never)]
-fn either_of(alloc: Global, tested: Box<Tested>, otherwise: Block) -> Result<Statement, Halt>
+fn either_of(alloc: Global, tested: Box<Tested>, otherwise: TypedBlock) -> Result<TypedStatement, Halt>
     ensures exact { GivesOrHalts view_stmt result (Ok (tree.either
         (view_tree tested.value.condition) (view_block tested.value.«then»)
         (view_block otherwise))) }
@@ -80,18 +80,18 @@ fn either_of(alloc: Global, tested: Box<Tested>, otherwise: Block) -> Result<Sta
     let Tested { condition, then } = Box::into_inner(tested);
     let found = Box::new(
         alloc,
-        Choice {
+        TypedChoice {
             condition,
             then,
             otherwise,
         },
     )?;
-    Ok(Statement::If(found))
+    Ok(TypedStatement::If(found))
 }
 
 /// An `if` without an `else`.
 #[inline(never)]
-fn when_of(alloc: Global, tested: Box<Tested>) -> Result<Statement, Halt>
+fn when_of(alloc: Global, tested: Box<Tested>) -> Result<TypedStatement, Halt>
     ensures exact { GivesOrHalts view_stmt result (Ok (tree.either
         (view_tree tested.value.condition) (view_block tested.value.«then») tree.end)) }
 {
@@ -100,39 +100,39 @@ fn when_of(alloc: Global, tested: Box<Tested>) -> Result<Statement, Halt>
 
 /// A `while` of these parts.
 #[inline(never)]
-fn while_of(alloc: Global, condition: Box<Expression>, body: Block) -> Result<Statement, Halt>
+fn while_of(alloc: Global, condition: Box<TypedExpression>, body: TypedBlock) -> Result<TypedStatement, Halt>
     ensures exact { GivesOrHalts view_stmt result
         (Ok (tree.while (view_tree condition) (view_block body))) }
 {
-    let found = Box::new(alloc, Loop { condition, body })?;
-    Ok(Statement::While(found))
+    let found = Box::new(alloc, TypedLoop { condition, body })?;
+    Ok(TypedStatement::While(found))
 }
 
 /// A `do` with this body, whose condition is typed after it.
 #[inline(never)]
 fn do_while_of(
     alloc: Global,
-    frame: &Frame<'_>,
+    frame: &FunctionContext<'_>,
     locals: &Locals<'_>,
-    body: Block,
+    body: TypedBlock,
     test: &written::Expression,
-) -> Result<Statement, Halt>
+) -> Result<TypedStatement, Halt>
     ensures exact { GivesOrHalts view_stmt result (spec.do_while_of (Ok (view_block body))
         (spec.condition_typing frame.now.context locals.now (trees.view_expr test.now))) }
 {
     let condition = condition_or_halt(alloc, frame, locals, test)?;
-    let found = Box::new(alloc, Loop { condition, body })?;
-    Ok(Statement::DoWhile(found))
+    let found = Box::new(alloc, TypedLoop { condition, body })?;
+    Ok(TypedStatement::DoWhile(found))
 }
 
 #[inline(never)]
-fn let_go_of_condition(_condition: Box<Expression>) {}
+fn let_go_of_condition(_condition: Box<TypedExpression>) {}
 
 #[inline(never)]
 fn let_go_of_tested(_tested: Box<Tested>) {}
 
 #[inline(never)]
-fn let_go_of_head(_head: Box<LoopHead>) {}
+fn let_go_of_head(_head: Box<ForHead>) {}
 
 /// The statements of a block that begins at local `start`, with the locals that are alive after the
 /// last.
@@ -140,12 +140,12 @@ fn let_go_of_head(_head: Box<LoopHead>) {}
 #[tactic(auto, using(crate::proofs::SoFar::keeps))]
 fn statements<'a>(
     alloc: Global,
-    frame: &Frame<'a>,
+    frame: &FunctionContext<'a>,
     in_loop: bool,
     start: usize,
     locals: &mut Locals<'a>,
     written: &[Written],
-) -> Result<Block, Halt>
+) -> Result<TypedBlock, Halt>
     requires block { start ≤ length locals.old }
     requires parameters { frame.now.parameters ≤ length locals.old }
     ensures exact { GivesOrHalts view_block result
@@ -158,7 +158,7 @@ fn statements<'a>(
         let typed = statement(alloc, frame, in_loop, start, locals, item)?;
         found = with_statement(found, typed)?;
     }
-    Ok(Block { statements: found })
+    Ok(TypedBlock { statements: found })
 }
 
 /// Statements in a block of their own. The locals are those that they were where it is left.
@@ -166,11 +166,11 @@ fn statements<'a>(
 #[tactic(auto, using(crate::proofs::SoFar::keeps))]
 fn inner_block<'a>(
     alloc: Global,
-    frame: &Frame<'a>,
+    frame: &FunctionContext<'a>,
     in_loop: bool,
     locals: &mut Locals<'a>,
     written: &[Written],
-) -> Result<Block, Halt>
+) -> Result<TypedBlock, Halt>
     requires parameters { frame.now.parameters ≤ length locals.old }
     ensures exact { GivesOrHalts view_block result (spec.stmts_typing frame.now in_loop
         (length locals.old) locals.old (trees.view_stmts written.now)) }
@@ -187,11 +187,11 @@ fn inner_block<'a>(
 #[tactic(auto, using(crate::proofs::SoFar::keeps))]
 fn branch<'a>(
     alloc: Global,
-    frame: &Frame<'a>,
+    frame: &FunctionContext<'a>,
     in_loop: bool,
     locals: &mut Locals<'a>,
     written: &Written,
-) -> Result<Block, Halt>
+) -> Result<TypedBlock, Halt>
     requires parameters { frame.now.parameters ≤ length locals.old }
     ensures exact { GivesOrHalts view_block result
         (spec.branch_typing frame.now in_loop locals.old (trees.view_stmt written.now)) }
@@ -213,11 +213,11 @@ fn branch<'a>(
 #[inline(never)]
 fn block_statement<'a>(
     alloc: Global,
-    frame: &Frame<'a>,
+    frame: &FunctionContext<'a>,
     in_loop: bool,
     locals: &mut Locals<'a>,
     written: &written::Block,
-) -> Result<Statement, Halt>
+) -> Result<TypedStatement, Halt>
     requires parameters { frame.now.parameters ≤ length locals.old }
     ensures exact { GivesOrHalts (λ x. (locals.new, view_stmt x)) result
         (spec.with_same locals.old (spec.block_of
@@ -225,7 +225,7 @@ fn block_statement<'a>(
     ensures kept { OnOk result (spec.Keeps locals.old locals.new) }
 {
     match inner_block(alloc, frame, in_loop, locals, written.statements.as_slice()) {
-        Ok(found) => Ok(Statement::Block(found)),
+        Ok(found) => Ok(TypedStatement::Block(found)),
         Err(halted) => Err(halted),
     }
 }
@@ -235,7 +235,7 @@ fn block_statement<'a>(
 #[inline(never)]
 fn first_branch<'a>(
     alloc: Global,
-    frame: &Frame<'a>,
+    frame: &FunctionContext<'a>,
     in_loop: bool,
     locals: &mut Locals<'a>,
     then: &Written,
@@ -262,12 +262,12 @@ fn first_branch<'a>(
 #[inline(never)]
 fn second_branch<'a>(
     alloc: Global,
-    frame: &Frame<'a>,
+    frame: &FunctionContext<'a>,
     in_loop: bool,
     locals: &mut Locals<'a>,
     otherwise: &Written,
     tested: Box<Tested>,
-) -> Result<Statement, Halt>
+) -> Result<TypedStatement, Halt>
     requires parameters { frame.now.parameters ≤ length locals.old }
     ensures exact { GivesOrHalts view_stmt result (spec.either_of
         (Ok (view_tree tested.value.condition, view_block tested.value.«then»))
@@ -289,11 +289,11 @@ fn second_branch<'a>(
 #[inline(never)]
 fn while_statement<'a>(
     alloc: Global,
-    frame: &Frame<'a>,
+    frame: &FunctionContext<'a>,
     locals: &mut Locals<'a>,
     body: &Written,
     test: &written::Expression,
-) -> Result<Statement, Halt>
+) -> Result<TypedStatement, Halt>
     requires parameters { frame.now.parameters ≤ length locals.old }
     ensures exact { GivesOrHalts view_stmt result (spec.while_of
         (spec.condition_typing frame.now.context locals.old (trees.view_expr test.now))
@@ -316,11 +316,11 @@ fn while_statement<'a>(
 #[inline(never)]
 fn do_while_statement<'a>(
     alloc: Global,
-    frame: &Frame<'a>,
+    frame: &FunctionContext<'a>,
     locals: &mut Locals<'a>,
     repeated: &Written,
     test: &written::Expression,
-) -> Result<Statement, Halt>
+) -> Result<TypedStatement, Halt>
     requires parameters { frame.now.parameters ≤ length locals.old }
     ensures exact { GivesOrHalts view_stmt result (spec.do_while_of
         (spec.branch_typing frame.now true locals.old (trees.view_stmt repeated.now))
@@ -337,11 +337,11 @@ fn do_while_statement<'a>(
 #[cycle(statement)]
 fn for_body<'a>(
     alloc: Global,
-    frame: &Frame<'a>,
+    frame: &FunctionContext<'a>,
     locals: &mut Locals<'a>,
     passed: &Written,
-    head: Box<LoopHead>,
-) -> Result<Statement, Halt>
+    head: Box<ForHead>,
+) -> Result<TypedStatement, Halt>
     requires parameters { frame.now.parameters ≤ length locals.old }
     ensures exact { GivesOrHalts view_stmt result (spec.for_of (
       view_boxed head.value.start,
@@ -366,13 +366,13 @@ fn for_body<'a>(
 #[inline(never)]
 fn for_statement<'a>(
     alloc: Global,
-    frame: &Frame<'a>,
+    frame: &FunctionContext<'a>,
     locals: &mut Locals<'a>,
     passed: &Written,
     first: &ForStart,
     test: &Option<Box<written::Expression>>,
     steps: &[Argument],
-) -> Result<Statement, Halt>
+) -> Result<TypedStatement, Halt>
     requires parameters { frame.now.parameters ≤ length locals.old }
     ensures exact { GivesOrHalts (λ x. (locals.new, view_stmt x)) result
         (spec.for_typing frame.now locals.old (trees.view_start first.now)
@@ -391,12 +391,12 @@ fn for_statement<'a>(
 #[tactic(auto, using(crate::proofs::SoFar::keeps))]
 fn statement<'a>(
     alloc: Global,
-    frame: &Frame<'a>,
+    frame: &FunctionContext<'a>,
     in_loop: bool,
     start: usize,
     locals: &mut Locals<'a>,
     written: &Written,
-) -> Result<Statement, Halt>
+) -> Result<TypedStatement, Halt>
     requires block { start ≤ length locals.old }
     requires parameters { frame.now.parameters ≤ length locals.old }
     ensures exact { GivesOrHalts (λ x. (locals.new, view_stmt x)) result
@@ -407,8 +407,8 @@ fn statement<'a>(
         Written::Block(inner) => block_statement(alloc, frame, in_loop, locals, inner),
         Written::Variables(variables) => locals_or_halt(alloc, frame, start, locals, variables),
         Written::Expression(simple) => expression_or_halt(alloc, frame, locals, &simple.value),
-        Written::Break(found) => jump(alloc, in_loop, &found.word, Statement::Break),
-        Written::Continue(found) => jump(alloc, in_loop, &found.word, Statement::Continue),
+        Written::Break(found) => jump(alloc, in_loop, &found.word, TypedStatement::Break),
+        Written::Continue(found) => jump(alloc, in_loop, &found.word, TypedStatement::Continue),
         Written::Return(found) => return_or_halt(alloc, frame, locals, &found.word, &found.value),
         Written::If {
             head,
@@ -445,11 +445,11 @@ fn statement<'a>(
 #[tactic(auto, using(crate::proofs::Stopping::stops_as_halted))]
 pub fn block<'a>(
     alloc: Global,
-    frame: &Frame<'a>,
+    frame: &FunctionContext<'a>,
     in_loop: bool,
     locals: &mut Locals<'a>,
     written: &[Written],
-) -> Result<Block, Stop>
+) -> Result<TypedBlock, TypingError>
     requires parameters { frame.now.parameters ≤ length locals.old }
     ensures exact { Gives view_block result (spec.stmts_typing frame.now in_loop
         (length locals.old) locals.old (trees.view_stmts written.now)) }

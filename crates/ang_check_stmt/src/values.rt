@@ -6,15 +6,15 @@ ghost use Rattle.ang_check_operators.specs.Refusals.{Gives};
 ghost use Rattle.ang_check_operators.specs.View.{view_operand, view_operands};
 ghost use Rattle.ang_check_stmt.specs.Typing as spec;
 
-use crate::frame::{Frame, Returns};
+use crate::frame::{FunctionContext, Returns};
 use ang_check_context::{BodyContext, Locals};
-use ang_check_operators::{Operand, Stop, boxed, fault, fit, truth};
+use ang_check_operators::{Operand, TypingError, boxed, fault, fit, truth};
 use ang_check_typing::{typing, typing_of_all};
 use ang_kinds::ErrorKind;
 use ang_lex::Token;
 use ang_tree as written;
 use ang_tree::Argument;
-use ang_typed::{Expression, Site, Statement, Variable};
+use ang_typed::{TypedExpression, TypedSite, TypedStatement, TypedVariable};
 use ang_types::{ArgType, Lineage};
 use std::alloc::{AllocError, Global};
 
@@ -23,7 +23,7 @@ fn optional(
     context: &BodyContext<'_>,
     locals: &Locals<'_>,
     value: &Option<Box<written::Expression>>,
-) -> Result<Option<Box<Expression>>, Stop>
+) -> Result<Option<Box<TypedExpression>>, TypingError>
     ensures exact { Gives view_option result
         (spec.optional_typing context.now locals.now (trees.view_option value.now)) }
 {
@@ -40,16 +40,16 @@ fn optional(
 #[inline(never)]
 pub fn expression_statement(
     alloc: Global,
-    frame: &Frame<'_>,
+    frame: &FunctionContext<'_>,
     locals: &Locals<'_>,
     value: &Option<Box<written::Expression>>,
-) -> Result<Statement, Stop>
+) -> Result<TypedStatement, TypingError>
     ensures exact { Gives (λ x. (locals.now, view_stmt x)) result
         (spec.with_same locals.now
         (spec.expression_typing frame.now.context locals.now (trees.view_option value.now))) }
 {
     let value = optional(alloc, frame.context(), locals, value)?;
-    Ok(Statement::Expression(value))
+    Ok(TypedStatement::Expression(value))
 }
 
 /// A condition, which is a truth value; `NotBool` at its first token where it is none.
@@ -59,7 +59,7 @@ pub fn condition(
     context: &BodyContext<'_>,
     locals: &Locals<'_>,
     value: &written::Expression,
-) -> Result<Box<Expression>, Stop>
+) -> Result<Box<TypedExpression>, TypingError>
     ensures exact { Gives view_tree result
         (spec.condition_typing context.now locals.now (trees.view_expr value.now)) }
 {
@@ -73,7 +73,7 @@ pub fn optional_condition(
     context: &BodyContext<'_>,
     locals: &Locals<'_>,
     value: &Option<Box<written::Expression>>,
-) -> Result<Option<Box<Expression>>, Stop>
+) -> Result<Option<Box<TypedExpression>>, TypingError>
     ensures exact { Gives view_option result
         (spec.optional_condition context.now locals.now (trees.view_option value.now)) }
 {
@@ -87,7 +87,7 @@ pub fn optional_condition(
 }
 
 /// The list with one more tree at its end.
-fn with_tree(first: Vec<Expression>, tree: Box<Expression>) -> Result<Vec<Expression>, AllocError>
+fn with_tree(first: Vec<TypedExpression>, tree: Box<TypedExpression>) -> Result<Vec<TypedExpression>, AllocError>
     ensures exact { IfOk result (λ v. list_map view_expr v.items
         ≡ list_map view_expr first.items ++ (view_tree tree ∷ [])) }
 {
@@ -96,7 +96,7 @@ fn with_tree(first: Vec<Expression>, tree: Box<Expression>) -> Result<Vec<Expres
     Ok(found)
 }
 
-fn trees_of(alloc: Global, operands: Vec<Operand>) -> Result<Vec<Expression>, AllocError>
+fn trees_of(alloc: Global, operands: Vec<Operand>) -> Result<Vec<TypedExpression>, AllocError>
     ensures exact { IfOk result
         (λ v. list_map view_expr v.items ≡ spec.trees_of (view_operands operands.items)) }
 {
@@ -113,7 +113,7 @@ pub fn steps(
     context: &BodyContext<'_>,
     locals: &Locals<'_>,
     items: &[Argument],
-) -> Result<Vec<Expression>, Stop>
+) -> Result<Vec<TypedExpression>, TypingError>
     ensures exact { Gives (λ v. list_map view_expr v.items) result
         (spec.steps_typing context.now locals.now (trees.view_items items.now)) }
 {
@@ -127,7 +127,7 @@ fn value_returned(
     lineage: &Lineage,
     ty: ArgType,
     operand: Operand,
-) -> Result<Box<Expression>, Stop>
+) -> Result<Box<TypedExpression>, TypingError>
     ensures exact { Gives view_tree result
         (spec.value_returned lineage.now ty (view_operand operand)) }
 {
@@ -141,7 +141,7 @@ fn value_returned(
     }
 }
 
-fn nothing_returned(ty: ArgType, word: &Token) -> Result<Option<Box<Expression>>, Stop>
+fn nothing_returned(ty: ArgType, word: &Token) -> Result<Option<Box<TypedExpression>>, TypingError>
     ensures exact { Gives view_option result (spec.nothing_returned ty word.now) }
 {
     match ty {
@@ -157,13 +157,13 @@ fn nothing_returned(ty: ArgType, word: &Token) -> Result<Option<Box<Expression>>
 /// `this`, as the object that a constructor gives back or hands to its base class's.
 ///
 /// The only error is want of memory.
-pub fn own_object(alloc: Global, ty: ArgType) -> Result<Box<Expression>, AllocError>
+pub fn own_object(alloc: Global, ty: ArgType) -> Result<Box<TypedExpression>, AllocError>
     ensures exact { IfOk result (λ b. view_tree b ≡ spec.own_object ty) }
 {
     boxed(
         alloc,
-        Expression::Read {
-            site: Site::Named(Variable::Local(0)),
+        TypedExpression::Read {
+            site: TypedSite::Named(TypedVariable::Local(0)),
             ty,
         },
     )
@@ -174,7 +174,7 @@ fn return_nothing(
     alloc: Global,
     returns: Returns,
     word: &Token,
-) -> Result<Option<Box<Expression>>, Stop>
+) -> Result<Option<Box<TypedExpression>>, TypingError>
     ensures exact { Gives view_option result (spec.return_nothing returns word.now) }
 {
     match returns {
@@ -192,7 +192,7 @@ fn return_value(
     lineage: &Lineage,
     returns: Returns,
     operand: Operand,
-) -> Result<Box<Expression>, Stop>
+) -> Result<Box<TypedExpression>, TypingError>
     ensures exact { Gives view_tree result
         (spec.return_value lineage.now returns (view_operand operand)) }
 {
@@ -204,11 +204,11 @@ fn return_value(
 
 fn result_value(
     alloc: Global,
-    frame: &Frame<'_>,
+    frame: &FunctionContext<'_>,
     locals: &Locals<'_>,
     word: &Token,
     value: &Option<Box<written::Expression>>,
-) -> Result<Option<Box<Expression>>, Stop>
+) -> Result<Option<Box<TypedExpression>>, TypingError>
     ensures exact { Gives view_option result
         (spec.result_typing frame.now locals.now word.now (trees.view_option value.now)) }
 {
@@ -229,15 +229,15 @@ fn result_value(
 #[inline(never)]
 pub fn returned(
     alloc: Global,
-    frame: &Frame<'_>,
+    frame: &FunctionContext<'_>,
     locals: &Locals<'_>,
     word: &Token,
     value: &Option<Box<written::Expression>>,
-) -> Result<Statement, Stop>
+) -> Result<TypedStatement, TypingError>
     ensures exact { Gives (λ x. (locals.now, view_stmt x)) result
         (spec.with_same locals.now
         (spec.return_typing frame.now locals.now word.now (trees.view_option value.now))) }
 {
     let value = result_value(alloc, frame, locals, word, value)?;
-    Ok(Statement::Return(value))
+    Ok(TypedStatement::Return(value))
 }

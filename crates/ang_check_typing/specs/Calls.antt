@@ -14,13 +14,13 @@ use Rattle.ang_types.specs.declared.arg_type.ArgType.TheVariants as type
 use Rattle.ang_types.specs.declared.asks.Asks.{Asks}
 use Rattle.ang_types.specs.declared.asks.Asks.TheVariants as asks
 use Rattle.ang_types.specs.Ranks.{Ancestors}
-use Rattle.ang_typed.specs.declared.expression.Callee.TheVariants as callee
-use Rattle.ang_typed.specs.declared.expression.Variable.{Variable}
-use Rattle.ang_typed.specs.declared.expression.Variable.TheVariants as variable
+use Rattle.ang_typed.specs.declared.expression.TypedCallee.TheVariants as callee
+use Rattle.ang_typed.specs.declared.expression.TypedVariable.{TypedVariable}
+use Rattle.ang_typed.specs.declared.expression.TypedVariable.TheVariants as variable
 use Rattle.ang_typed.specs.Typed as t
 use Rattle.ang_names_known.specs.declared.names.Family.{Family}
-use Rattle.ang_names_known.specs.declared.names.Method.{Method}
-use Rattle.ang_check_operators.specs.declared.operand.Target.{Target}
+use Rattle.ang_names_known.specs.declared.names.ScriptMethod.{ScriptMethod}
+use Rattle.ang_check_operators.specs.declared.operand.SiteUse.{SiteUse}
 use Rattle.ang_check_context.specs.declared.scope.LocalVariable.{LocalVariable}
 use Rattle.ang_check_context.specs.declared.scope.Within.{Within}
 use Rattle.ang_check_uses.specs.declared.uses.Callable.{Callable}
@@ -43,13 +43,13 @@ use Rattle.ang_names_listed.specs.Sources.{text_of}
 -- ---- arguments
 
 -- a variable that an `&out` value can move into
-abbrev pub is_out_variable : Variable → Bool
+abbrev pub is_out_variable : TypedVariable → Bool
 is_out_variable (variable.Local n) = true
 is_out_variable (variable.Global n) = true
 is_out_variable (variable.Property h) = false
 is_out_variable (variable.Field i) = true
 
-abbrev pub out_variable : t.Site → Option Variable
+abbrev pub out_variable : t.Site → Option TypedVariable
 out_variable (t.named x) = if is_out_variable x then Some x else None
 out_variable (t.member_of e m) = None
 
@@ -63,20 +63,20 @@ is_out_type (type.Object n c) = false
 is_out_type (type.Handle n c) = true
 
 -- by its bare name, and not `const`
-abbrev pub is_out : Operand → Option Target → Bool
+abbrev pub is_out : Operand → Option SiteUse → Bool
 is_out a None = false
 is_out a (Some x) = x.bare && (not x.read_only && is_out_type a.ty)
 
-abbrev pub variable_in : Option t.Site → Option Variable
+abbrev pub variable_in : Option t.Site → Option TypedVariable
 variable_in None = None
 variable_in (Some x) = out_variable x
 
-abbrev pub out_or : Place → Option Variable → Typing Variable
+abbrev pub out_or : Place → Option TypedVariable → Typing TypedVariable
 out_or place None = Err (fault kind.BadOut place)
 out_or place (Some x) = Ok x
 
 -- The variable that an `&out` argument is: a local, a global or a field by its bare name, that is not `const` and no object.
-unfoldable pub out_of : Operand → Typing Variable
+unfoldable pub out_of : Operand → Typing TypedVariable
 out_of a = if is_out a a.target then out_or a.place (variable_in (site_in a.tree)) else Err (fault kind.BadOut a.place)
 
 abbrev pub value_for : Ancestors → ArgType → Operand → Typing t.Arg
@@ -135,7 +135,7 @@ called_own s place x operands r = Err (refused (why r) x)
 
 -- ---- methods of the scripts
 
-abbrev pub with_receiver : ℕ → Method → List (ArgType × Pass)
+abbrev pub with_receiver : ℕ → ScriptMethod → List (ArgType × Pass)
 with_receiver n m = (type.Object n m.read_only, pass.RefInOut) ∷ parameters_of m.function
 
 -- a method as it is called on an object: that of its class in the slot

@@ -6,37 +6,37 @@ ghost use Rattle.ang_check_operators.specs.View.{view_operand, view_operands};
 ghost use Rattle.ang_check_typing.specs.Calls as spec;
 ghost use Rattle.ang_typed.specs.View.{view_arg, view_site, view_tree};
 
-use ang_check_operators::{Operand, Stop, fault, fit, site_in};
+use ang_check_operators::{Operand, TypingError, fault, fit, site_in};
 use ang_kinds::{ErrorKind, List, Pass, Place};
-use ang_typed::{Argument, Expression, Site, Variable};
+use ang_typed::{TypedArgument, TypedExpression, TypedSite, TypedVariable};
 use ang_types::{ArgType, Lineage};
 use std::alloc::Global;
 
-fn is_out_variable(variable: Variable) -> bool
+fn is_out_variable(variable: TypedVariable) -> bool
     ensures exact { result ≡ spec.is_out_variable variable }
 {
     match variable {
-        Variable::Local(_) | Variable::Global(_) | Variable::Field(_) => true,
-        Variable::Property(_) => false,
+        TypedVariable::Local(_) | TypedVariable::Global(_) | TypedVariable::Field(_) => true,
+        TypedVariable::Property(_) => false,
     }
 }
 
-fn out_variable(site: Site) -> Option<Variable>
+fn out_variable(site: TypedSite) -> Option<TypedVariable>
     ensures exact { result ≡ spec.out_variable (view_site site) }
 {
     match site {
-        Site::Named(variable) => {
+        TypedSite::Named(variable) => {
             if is_out_variable(variable) {
                 Some(variable)
             } else {
                 None
             }
         }
-        Site::Of { .. } => None,
+        TypedSite::Of { .. } => None,
     }
 }
 
-fn variable_in(tree: Box<Expression>) -> Option<Variable>
+fn variable_in(tree: Box<TypedExpression>) -> Option<TypedVariable>
     ensures exact { result ≡ spec.variable_in (site_in_tree (view_tree tree)) }
 {
     match site_in(tree) {
@@ -63,7 +63,7 @@ fn is_out(operand: &Operand) -> bool
     }
 }
 
-fn out_or(place: Place, variable: Option<Variable>) -> Result<Variable, Stop>
+fn out_or(place: Place, variable: Option<TypedVariable>) -> Result<TypedVariable, TypingError>
     ensures exact { Gives (λ x. x) result (spec.out_or place variable) }
 {
     match variable {
@@ -74,7 +74,7 @@ fn out_or(place: Place, variable: Option<Variable>) -> Result<Variable, Stop>
 
 /// The variable that an `&out` argument is.
 #[tactic(auto, unfolding(crate::specs::Calls::out_of))]
-fn out_of(operand: Operand) -> Result<Variable, Stop>
+fn out_of(operand: Operand) -> Result<TypedVariable, TypingError>
     ensures exact { Gives (λ x. x) result (spec.out_of (view_operand operand)) }
 {
     if is_out(&operand) {
@@ -89,22 +89,22 @@ fn value_for(
     lineage: &Lineage,
     ty: ArgType,
     operand: Operand,
-) -> Result<Argument, Stop>
+) -> Result<TypedArgument, TypingError>
     ensures exact { Gives view_arg result (spec.value_for lineage.now ty (view_operand operand)) }
 {
     let value = fit(alloc, lineage, ty, operand)?;
-    Ok(Argument::Value {
+    Ok(TypedArgument::Value {
         ty,
         value: Box::into_inner(value),
     })
 }
 
-fn out_for(ty: ArgType, operand: Operand) -> Result<Argument, Stop>
+fn out_for(ty: ArgType, operand: Operand) -> Result<TypedArgument, TypingError>
     ensures exact { Gives view_arg result (spec.out_for ty (view_operand operand)) }
 {
     let to = operand.ty;
     let variable = out_of(operand)?;
-    Ok(Argument::Out {
+    Ok(TypedArgument::Out {
         variable,
         from: ty,
         to,
@@ -122,7 +122,7 @@ fn argument(
     lineage: &Lineage,
     param: (ArgType, Pass),
     operand: Operand,
-) -> Result<Argument, Stop>
+) -> Result<TypedArgument, TypingError>
     ensures exact { Gives view_arg result (spec.argument lineage.now param (view_operand operand)) }
 {
     match param.1 {
@@ -136,7 +136,7 @@ fn arguments_in(
     lineage: &Lineage,
     params: &[(ArgType, Pass)],
     operands: Vec<Operand>,
-) -> Result<Vec<Argument>, Stop>
+) -> Result<Vec<TypedArgument>, TypingError>
     ensures exact { Gives (λ v. list_map view_arg v.items) result
         (spec.arguments_for lineage.now params.now (view_operands operands.items)) }
 {
@@ -158,7 +158,7 @@ pub fn arguments_for(
     lineage: &Lineage,
     params: &[(ArgType, Pass)],
     operands: Vec<Operand>,
-) -> Result<List<Argument>, Stop>
+) -> Result<List<TypedArgument>, TypingError>
     ensures exact { Gives (list_map view_arg) result
         (spec.arguments_for lineage.now params.now (view_operands operands.items)) }
 {

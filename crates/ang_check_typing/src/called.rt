@@ -9,11 +9,11 @@ ghost use Rattle.ang_typed.specs.View.{view_arg, view_tree};
 
 use crate::arguments::arguments_for;
 use ang_check_context::{BodyContext, Locals, access_error, is_there, may_reach};
-use ang_check_operators::{Operand, Stop, boxed, plain_operand, refused, use_refused};
+use ang_check_operators::{Operand, TypingError, boxed, plain_operand, refused, use_refused};
 use ang_check_uses::{Callable, Called, Resolution};
 use ang_kinds::{ErrorKind, List, Place};
 use ang_lex::Token;
-use ang_typed::{Argument, Expression};
+use ang_typed::{TypedArgument, TypedExpression};
 use ang_types::{ArgType, Asks};
 use std::alloc::{AllocError, Global};
 
@@ -30,8 +30,8 @@ fn call_of(
     alloc: Global,
     called: Called,
     gives: ArgType,
-    arguments: List<Argument>,
-) -> Result<Box<Expression>, AllocError>
+    arguments: List<TypedArgument>,
+) -> Result<Box<TypedExpression>, AllocError>
     ensures exact { IfOk result
         (λ e. view_tree e ≡ spec.call_of called gives (list_map view_arg arguments)) }
 {
@@ -39,7 +39,7 @@ fn call_of(
     match called {
         Called::Script(callee) => boxed(
             alloc,
-            Expression::Call {
+            TypedExpression::Call {
                 callee,
                 result: gives,
                 arguments,
@@ -47,7 +47,7 @@ fn call_of(
         ),
         Called::Host(host) => boxed(
             alloc,
-            Expression::HostCall {
+            TypedExpression::HostCall {
                 host,
                 result: gives,
                 arguments,
@@ -55,7 +55,7 @@ fn call_of(
         ),
         Called::Makes(family, constructor) => boxed(
             alloc,
-            Expression::Make {
+            TypedExpression::Make {
                 family,
                 constructor,
                 arguments,
@@ -70,7 +70,7 @@ fn call_with(
     place: Place,
     callable: Callable,
     operands: Vec<Operand>,
-) -> Result<Operand, Stop>
+) -> Result<Operand, TypingError>
     ensures exact { Gives view_operand result
         (spec.call_with context.now place callable (view_operands operands.items)) }
 {
@@ -88,7 +88,7 @@ pub fn called(
     site: CallSite,
     callable: Callable,
     operands: Vec<Operand>,
-) -> Result<Operand, Stop>
+) -> Result<Operand, TypingError>
     ensures exact { Gives view_operand result (spec.called context.now site.place site.name
         callable (view_operands operands.items)) }
 {
@@ -111,8 +111,8 @@ fn bare_refused(
     kind: ErrorKind,
     name: &Token,
     asks: Asks,
-) -> Stop
-    ensures exact { result ≡ Stop.Refused (refusal_of kind name.now asks
+) -> TypingError
+    ensures exact { result ≡ TypingError.Refused (refusal_of kind name.now asks
         (scopes.is_there context.now locals.now (sources.text_of context.now.text name.now))) }
 {
     let is_there = is_there(context, locals, context.text_of(name));
@@ -128,7 +128,7 @@ pub fn called_bare(
     asks: Asks,
     operands: Vec<Operand>,
     resolution: Resolution,
-) -> Result<Operand, Stop>
+) -> Result<Operand, TypingError>
     ensures exact { Gives view_operand result (spec.called_use context.now site.place site.name
         asks (scopes.is_there context.now locals.now (sources.text_of context.now.text site.name))
         (view_operands operands.items) resolution) }
@@ -155,7 +155,7 @@ pub fn called_member(
     asks: Asks,
     operands: Vec<Operand>,
     resolution: Resolution,
-) -> Result<Operand, Stop>
+) -> Result<Operand, TypingError>
     ensures exact { Gives view_operand result (spec.called_use context.now site.place site.name
         asks false (view_operands operands.items) resolution) }
 {
@@ -179,7 +179,7 @@ pub fn called_own(
     site: CallSite,
     operands: Vec<Operand>,
     resolution: Resolution,
-) -> Result<Operand, Stop>
+) -> Result<Operand, TypingError>
     ensures exact { Gives view_operand result (spec.called_own context.now site.place site.name
         (view_operands operands.items) resolution) }
 {

@@ -19,7 +19,7 @@ use crate::methods::{called_on, direct_meant, own_method};
 use ang_check_context::{
     BodyContext, Locals, Receiver, Within, receiver_within, resolved, this_operand, types_of,
 };
-use ang_check_operators::{Operand, Stop, refused};
+use ang_check_operators::{Operand, TypingError, refused};
 use ang_check_uses::Resolution;
 use ang_kinds::{ErrorKind, List};
 use ang_lex::Token;
@@ -57,7 +57,7 @@ fn bare_use(
     asks: Asks,
     operands: Vec<Operand>,
     resolution: Resolution,
-) -> Result<Operand, Stop>
+) -> Result<Operand, TypingError>
     ensures exact { Gives view_operand result (spec.bare_use context.now name.now asks
         (scopes.is_there context.now locals.now (sources.text_of context.now.text name.now))
         (view_operands operands.items) resolution) }
@@ -82,7 +82,7 @@ fn function_call(
     locals: &Locals<'_>,
     name: &Token,
     operands: Vec<Operand>,
-) -> Result<Operand, Stop>
+) -> Result<Operand, TypingError>
     ensures exact { Gives view_operand result (spec.bare_use context.now name.now
         (Asks.Call (all_types (view_operands operands.items)))
         (scopes.is_there context.now locals.now (sources.text_of context.now.text name.now))
@@ -105,7 +105,7 @@ fn method_of_this(
     methods: &[FoundMethod<'_>],
     name: &Token,
     operands: Vec<Operand>,
-) -> Result<Operand, Stop>
+) -> Result<Operand, TypingError>
     requires few { within.family < 256 }
     ensures exact { Gives view_operand result (spec.called_own context.now name.now.place name.now
         (own_operand name.now.place within ∷ view_operands operands.items)
@@ -129,7 +129,7 @@ pub fn call(
     locals: &Locals<'_>,
     token: &Token,
     operands: Vec<Operand>,
-) -> Result<Operand, Stop>
+) -> Result<Operand, TypingError>
     ensures exact { Gives view_operand result
         (spec.call_typing context.now locals.now token.now (view_operands operands.items)) }
 {
@@ -201,7 +201,7 @@ pub fn scoped_call(
     class: &Token,
     name: &Token,
     operands: Vec<Operand>,
-) -> Result<Operand, Stop>
+) -> Result<Operand, TypingError>
     ensures exact { Gives view_operand result
         (spec.scoped_typing context.now class.now name.now (view_operands operands.items)) }
 {

@@ -4,22 +4,22 @@ ghost use Rattle.ang_check_operators.specs.Refusals.{Gives};
 ghost use Rattle.ang_check_operators.specs.View.{view_operand, view_operands};
 ghost use Rattle.ang_check_typing.specs.Calls as spec;
 
-use ang_check_operators::{Operand, Stop, boxed, integer, plain_operand, refused};
+use ang_check_operators::{Operand, TypingError, boxed, integer, plain_operand, refused};
 use ang_kinds::{ErrorKind, Place, Prim};
 use ang_lex::Token;
-use ang_typed::Expression;
+use ang_typed::TypedExpression;
 use ang_types::ArgType;
 use std::alloc::Global;
 
 /// `E(x)`, which keeps the low 32 bits of a number.
-fn enumerated(alloc: Global, place: Place, number: u32, operand: Operand) -> Result<Operand, Stop>
+fn enumerated(alloc: Global, place: Place, number: u32, operand: Operand) -> Result<Operand, TypingError>
     ensures exact { Gives view_operand result
         (spec.enumerated place number (view_operand operand)) }
 {
     let from = integer(&operand)?;
     let tree = boxed(
         alloc,
-        Expression::Convert {
+        TypedExpression::Convert {
             from,
             to: Prim::I32,
             operand: operand.tree,
@@ -39,7 +39,7 @@ pub(crate) fn enumerated_of(
     name: &Token,
     number: u32,
     operands: Vec<Operand>,
-) -> Result<Operand, Stop>
+) -> Result<Operand, TypingError>
     ensures exact { Gives view_operand result
         (spec.enumerated_of name.now number (view_operands operands.items)) }
 {

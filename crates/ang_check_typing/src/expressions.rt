@@ -13,7 +13,7 @@ use ang_check_context::{
     BodyContext, Locals, cast, cast_type, member_of, named, scoped_name, this,
 };
 use ang_check_operators::{
-    Operand, Stop, assignment, binary, conditional, convert, group, literal, postfix, prefix,
+    Operand, TypingError, assignment, binary, conditional, convert, group, literal, postfix, prefix,
 };
 use ang_lex::{Token, TokenKind};
 use ang_tree::{Argument, Expression};
@@ -30,7 +30,7 @@ fn with_operand(first: Vec<Operand>, operand: Operand) -> Result<Vec<Operand>, A
 }
 
 /// A number, `true`, `false`, `null` or `this`.
-fn word(alloc: Global, context: &BodyContext<'_>, token: &Token) -> Result<Operand, Stop>
+fn word(alloc: Global, context: &BodyContext<'_>, token: &Token) -> Result<Operand, TypingError>
     ensures exact { Gives view_operand result
         (spec.word_by context.now token.now token.now.kind) }
 {
@@ -53,7 +53,7 @@ pub fn typing_of_all(
     context: &BodyContext<'_>,
     locals: &Locals<'_>,
     items: &[Argument],
-) -> Result<Vec<Operand>, Stop>
+) -> Result<Vec<Operand>, TypingError>
     ensures exact { Gives (λ v. view_operands v.items) result
         (spec.typing_of_all context.now locals.now (trees.view_items items.now)) }
 {
@@ -92,7 +92,7 @@ pub fn typing(
     context: &BodyContext<'_>,
     locals: &Locals<'_>,
     expression: &Expression,
-) -> Result<Operand, Stop>
+) -> Result<Operand, TypingError>
     ensures exact { Gives view_operand result
         (spec.typing_of context.now locals.now (trees.view_expr expression.now)) }
 {
@@ -138,7 +138,7 @@ fn typing_over_object(
     context: &BodyContext<'_>,
     locals: &Locals<'_>,
     expression: &Expression,
-) -> Result<Operand, Stop>
+) -> Result<Operand, TypingError>
     requires kind { is_of_object (trees.view_expr expression.now) ≡ true }
     ensures exact { Gives view_operand result
         (spec.typing_of context.now locals.now (trees.view_expr expression.now)) }
@@ -179,7 +179,7 @@ fn typing_over_one(
     context: &BodyContext<'_>,
     locals: &Locals<'_>,
     expression: &Expression,
-) -> Result<Operand, Stop>
+) -> Result<Operand, TypingError>
     requires kind { has_one_operand (trees.view_expr expression.now) ≡ true }
     ensures exact { Gives view_operand result
         (spec.typing_of context.now locals.now (trees.view_expr expression.now)) }
@@ -216,7 +216,7 @@ fn typing_over_two(
     context: &BodyContext<'_>,
     locals: &Locals<'_>,
     expression: &Expression,
-) -> Result<Operand, Stop>
+) -> Result<Operand, TypingError>
     requires kind { has_two_operands (trees.view_expr expression.now) ≡ true }
     ensures exact { Gives view_operand result
         (spec.typing_of context.now locals.now (trees.view_expr expression.now)) }
@@ -251,7 +251,7 @@ fn typing_over_three(
     context: &BodyContext<'_>,
     locals: &Locals<'_>,
     expression: &Expression,
-) -> Result<Operand, Stop>
+) -> Result<Operand, TypingError>
     requires kind { has_three_operands (trees.view_expr expression.now) ≡ true }
     ensures exact { Gives view_operand result
         (spec.typing_of context.now locals.now (trees.view_expr expression.now)) }

@@ -10,7 +10,7 @@ ghost use Rattle.ang_names_known.specs.Spaces as spaces;
 
 use crate::called::{CallSite, called_bare, called_own};
 use ang_check_context::{BodyContext, Locals, makers, resolved, types_of};
-use ang_check_operators::{Operand, Stop};
+use ang_check_operators::{Operand, TypingError};
 use ang_check_uses::{Resolution, best_of_those};
 use ang_kinds::{ErrorKind, List};
 use ang_lex::Token;
@@ -44,7 +44,7 @@ fn made_by(
     number: u32,
     asks: Asks,
     operands: Vec<Operand>,
-) -> Result<Operand, Stop>
+) -> Result<Operand, TypingError>
     ensures exact { Gives view_operand result (spec.made_by context.now locals.now name.now
         unviable number asks (view_operands operands.items) (spaces.family_of_type number)) }
 {
@@ -72,7 +72,7 @@ pub fn default_typing(
     locals: &Locals<'_>,
     name: &Token,
     number: u32,
-) -> Result<Operand, Stop>
+) -> Result<Operand, TypingError>
     ensures exact { Gives view_operand result
         (spec.default_typing context.now locals.now name.now number) }
 {
@@ -100,7 +100,7 @@ pub fn made_typing(
     name: &Token,
     number: u32,
     operands: Vec<Operand>,
-) -> Result<Operand, Stop>
+) -> Result<Operand, TypingError>
     ensures exact { Gives view_operand result (spec.made_typing context.now locals.now name.now
         number (view_operands operands.items)) }
 {

@@ -10,12 +10,12 @@ ghost use Rattle.ang_check_uses.specs.Uses as uses;
 
 use crate::called::{CallSite, called_own, with_receiver};
 use ang_check_context::{BodyContext, Receiver, types_of};
-use ang_check_operators::{Operand, Stop};
+use ang_check_operators::{Operand, TypingError};
 use ang_check_uses::{Callable, Callables, Called, Reach, Resolution, best_method};
 use ang_kinds::{List, Pass};
 use ang_lex::Token;
-use ang_names_known::{FoundMethod, Method, parameters_of};
-use ang_typed::Callee;
+use ang_names_known::{FoundMethod, ScriptMethod, parameters_of};
+use ang_typed::TypedCallee;
 use ang_types::{ArgType, Candidate, Lineage};
 use std::alloc::{AllocError, Global};
 
@@ -23,7 +23,7 @@ use std::alloc::{AllocError, Global};
 fn method_parameters(
     alloc: Global,
     number: u32,
-    method: &Method,
+    method: &ScriptMethod,
 ) -> Result<List<(ArgType, Pass)>, AllocError>
     ensures exact { IfOk result (λ params. params ≡ spec.with_receiver number method.now) }
 {
@@ -38,7 +38,7 @@ fn method_parameters(
 
 fn method_called(
     alloc: Global,
-    callee: Callee,
+    callee: TypedCallee,
     number: u32,
     found: &FoundMethod<'_>,
 ) -> Result<Callable, AllocError>
@@ -67,7 +67,7 @@ fn virtual_methods(
 {
     let mut callables = Callables::new(alloc);
     for method in methods {
-        let callee = Callee::Chosen(method.method().slot);
+        let callee = TypedCallee::Chosen(method.method().slot);
         let callable = method_called(alloc, callee, number, method)?;
         callables.push(callable)?;
     }
@@ -84,7 +84,7 @@ fn push_direct(
         (callables.new ≡ callables.old ++ spec.direct_method number found.now) }
 {
     if let Some(body) = found.method().body {
-        let callable = method_called(alloc, Callee::Own(body), number, found)?;
+        let callable = method_called(alloc, TypedCallee::Own(body), number, found)?;
         callables.push(callable)?;
     }
     Ok(())
@@ -168,7 +168,7 @@ pub fn called_on(
     receiver: Operand,
     operands: Vec<Operand>,
     resolution: Resolution,
-) -> Result<Operand, Stop>
+) -> Result<Operand, TypingError>
     ensures exact { Gives view_operand result (spec.called_own context.now receiver.place name.now
         (view_operand receiver ∷ view_operands operands.items) resolution) }
 {
@@ -192,7 +192,7 @@ pub fn own_method(
     name: &Token,
     receiver: Operand,
     operands: Vec<Operand>,
-) -> Result<Operand, Stop>
+) -> Result<Operand, TypingError>
     ensures exact { Gives view_operand result (spec.called_own context.now receiver.place name.now
         (view_operand receiver ∷ view_operands operands.items)
         (uses.best_method context.now.ancestors

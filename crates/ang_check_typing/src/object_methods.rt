@@ -7,7 +7,7 @@ ghost use Rattle.ang_check_typing.specs.Calls as spec;
 use crate::called::{CallSite, called_member, with_receiver};
 use crate::methods::own_method;
 use ang_check_context::{BodyContext, Receiver, resolved, types_of};
-use ang_check_operators::{Operand, Stop, object_of, refused};
+use ang_check_operators::{Operand, TypingError, object_of, refused};
 use ang_kinds::{ErrorKind, List};
 use ang_lex::Token;
 use ang_names_known::family_of_type;
@@ -22,7 +22,7 @@ fn host_method(
     on: Receiver,
     object: Operand,
     operands: Vec<Operand>,
-) -> Result<Operand, Stop>
+) -> Result<Operand, TypingError>
     ensures exact { Gives view_operand result (spec.method_of_type context.now (view_operand object)
         name.now (view_operands operands.items) on.number on.read_only None) }
 {
@@ -44,7 +44,7 @@ fn script_method(
     family: usize,
     object: Operand,
     operands: Vec<Operand>,
-) -> Result<Operand, Stop>
+) -> Result<Operand, TypingError>
     ensures exact { Gives view_operand result (spec.own_method context.now family on.number
         on.read_only name.now (view_operand object) (view_operands operands.items)) }
 {
@@ -75,7 +75,7 @@ pub fn method_call(
     object: Operand,
     name: &Token,
     operands: Vec<Operand>,
-) -> Result<Operand, Stop>
+) -> Result<Operand, TypingError>
     ensures exact { Gives view_operand result (spec.method_call_typing context.now
         (view_operand object) name.now (view_operands operands.items)) }
 {

@@ -17,17 +17,17 @@ use Rattle.ang_types.specs.declared.candidate.Pick.TheVariants as pick
 use Rattle.ang_types.specs.Best.{best_of}
 use Rattle.ang_types.specs.Integers.{is_integer}
 use Rattle.ang_types.specs.Ranks.{Ancestors}
-use Rattle.ang_typed.specs.declared.expression.Callee.TheVariants as callee
+use Rattle.ang_typed.specs.declared.expression.TypedCallee.TheVariants as callee
 use Rattle.ang_typed.specs.declared.expression.HostEntity.{HostEntity}
-use Rattle.ang_typed.specs.declared.expression.Variable.TheVariants as variable
+use Rattle.ang_typed.specs.declared.expression.TypedVariable.TheVariants as variable
 use Rattle.ang_view.specs.declared.entry.Entry.{Entry}
 use Rattle.ang_view.specs.declared.entry.EntryKind.{EntryKind}
 use Rattle.ang_view.specs.declared.entry.EntryKind.TheVariants as entry
 use Rattle.ang_view.specs.Named.{members, values_named}
 use Rattle.ang_view.specs.Registration.{RegistrationList, entry_at}
-use Rattle.ang_names_known.specs.declared.host.HostFunction.{HostFunction}
-use Rattle.ang_names_known.specs.declared.host.HostProperty.{HostProperty}
-use Rattle.ang_names_known.specs.declared.names.Constructor.{Constructor}
+use Rattle.ang_names_known.specs.declared.host.SeenFunction.{SeenFunction}
+use Rattle.ang_names_known.specs.declared.host.SeenProperty.{SeenProperty}
+use Rattle.ang_names_known.specs.declared.names.ScriptConstructor.{ScriptConstructor}
 use Rattle.ang_names_known.specs.declared.names.Default.{Default}
 use Rattle.ang_names_known.specs.declared.names.Default.TheVariants as default
 use Rattle.ang_names_known.specs.declared.names.Family.{Family}
@@ -103,18 +103,18 @@ value_meant V name = value_among V (values_named V name)
 
 -- ---- a bare name: a global of the script, else a global property that the module sees, else a value of an enumeration
 
-abbrev pub entity_of : HostProperty → HostEntity
+abbrev pub entity_of : SeenProperty → HostEntity
 entity_of h = record { entity = h.entity; driver = h.driver; f = h.f }
 
-abbrev pub host_meant : Resolution → Option HostProperty → Resolution
+abbrev pub host_meant : Resolution → Option SeenProperty → Resolution
 host_meant otherwise None = otherwise
 host_meant otherwise (Some h) = resolution.Variable (variable.Property (entity_of h)) h.ty h.read_only
 
-abbrev pub variable_meant : Resolution → ℕ → Option ScriptGlobal → Option HostProperty → Resolution
+abbrev pub variable_meant : Resolution → ℕ → Option ScriptGlobal → Option SeenProperty → Resolution
 variable_meant otherwise n None host = host_meant otherwise host
 variable_meant otherwise n (Some g) host = resolution.Variable (variable.Global n) g.written.ty (is_read_only g.written)
 
-abbrev pub global_or_host : Resolution → List ScriptGlobal → Option ℕ → Option HostProperty → Resolution
+abbrev pub global_or_host : Resolution → List ScriptGlobal → Option ℕ → Option SeenProperty → Resolution
 global_or_host otherwise gs None host = host_meant otherwise host
 global_or_host otherwise gs (Some n) host = variable_meant otherwise n (slice_get gs n) host
 
@@ -153,7 +153,7 @@ script_callables names name =
     flat_map (callable_at own_function names.functions) (functions_named names.functions name)
     ++ flat_map (callable_at imported_function names.imports) (functions_named names.imports name)
 
-abbrev pub host_callable : HostFunction → Callable
+abbrev pub host_callable : SeenFunction → Callable
 host_callable f = record {
   called = called.Host (record { entity = f.entity; driver = f.driver; f = f.f });
   result = f.result;
@@ -162,13 +162,13 @@ host_callable f = record {
 }
 
 -- what makes an object of this type gives the object, though a factory's declaration gives a handle
-abbrev pub maker : ℕ → HostFunction → Callable
+abbrev pub maker : ℕ → SeenFunction → Callable
 maker n f = record (host_callable f) { result = type.Object n false }
 
 abbrev pub factories_of : RegistrationList → ℕ → List Callable
 factories_of V n = map (maker n) (host_where (wanted.Factory n) V)
 
-abbrev pub constructor_of : ℕ → Constructor → Callable
+abbrev pub constructor_of : ℕ → ScriptConstructor → Callable
 constructor_of c k = record {
   called = called.Makes c (Some k.body);
   result = type.Object (family_type c) false;
@@ -264,12 +264,12 @@ enumeration_meant (named.Enumeration n) = resolution.Enumeration n
 
 -- ---- members of a host type
 
-abbrev pub property_meant : Option HostProperty → Resolution
+abbrev pub property_meant : Option SeenProperty → Resolution
 property_meant None = resolution.Refused kind.UnknownName
 property_meant (Some h) = resolution.Property h
 
 -- a method with its receiver in front, which is an object of the receiver's own type, `const` where the method is
-abbrev pub host_method : ℕ → HostFunction → Callable
+abbrev pub host_method : ℕ → SeenFunction → Callable
 host_method n f = record (host_callable f) { candidate = record { params = (type.Object n f.read_only, pass.RefInOut) ∷ f.params } }
 
 abbrev pub host_methods : RegistrationList → ℕ → List ℕ → List Callable

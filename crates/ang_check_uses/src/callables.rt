@@ -11,7 +11,7 @@ use std::marker::Model;
 
 /// A function that a call can mean, but for its parameters.
 #[derive(Clone, Copy)]
-pub struct Head {
+pub struct CallTarget {
     /// What runs.
     pub called: Called,
     /// The type of what the call gives.
@@ -24,7 +24,7 @@ pub struct Head {
 /// picked without a copy of any.
 #[derive(Drop)]
 pub struct Callables {
-    heads: Vec<Head>,
+    heads: Vec<CallTarget>,
     candidates: Vec<Candidate>,
 }
 
@@ -83,7 +83,7 @@ impl Callables {
         } = callable;
         self.heads.reserve(1)?;
         self.candidates.reserve(1)?;
-        self.heads.push_reserved(Head {
+        self.heads.push_reserved(CallTarget {
             called,
             result,
             reach,
@@ -106,7 +106,7 @@ impl Callables {
     }
 }
 
-fn head_at(heads: &[Head], place: usize) -> Head
+fn head_at(heads: &[CallTarget], place: usize) -> CallTarget
     requires there { place < length heads.now }
     ensures exact { slice_get heads.now place ≡ Some result }
 {
@@ -122,7 +122,7 @@ fn candidate_at(candidates: Vec<Candidate>, place: usize) -> Candidate
     candidates.swap_remove(place)
 }
 
-fn joined(head: Head, candidate: Candidate) -> Callable
+fn joined(head: CallTarget, candidate: Candidate) -> Callable
     ensures exact { result ≡ beside.callable head candidate }
 {
     Callable {

@@ -8,7 +8,7 @@ use crate::callables::Callables;
 use crate::scope::Scope;
 use crate::uses::{Callable, Called};
 use ang_kinds::{List, Pass};
-use ang_names_known::{HostFunction, HostProperty, Text, Wanted, host_where};
+use ang_names_known::{SeenFunction, SeenProperty, BorrowedText, Wanted, host_where};
 use ang_typed::HostEntity;
 use ang_types::{ArgType, Candidate};
 use ang_view::View;
@@ -16,7 +16,7 @@ use std::alloc::{AllocError, Global};
 
 /// As what a function of the host is called.
 #[derive(Clone, Copy)]
-pub enum HostUse {
+pub enum HostCallKind {
     /// By its name.
     Function,
     /// As what makes an object of the type of this number.
@@ -26,7 +26,7 @@ pub enum HostUse {
 }
 
 /// How the host is asked for a property.
-pub fn entity_of(property: HostProperty) -> HostEntity
+pub fn entity_of(property: SeenProperty) -> HostEntity
     ensures exact { result ≡ spec.entity_of property }
 {
     HostEntity {
@@ -66,10 +66,10 @@ fn host_callable(asked: HostEntity, gives: ArgType, params: List<(ArgType, Pass)
 /// A function of the host as one that a call can mean.
 ///
 /// The only error is want of memory.
-fn callable_as(usage: HostUse, function: HostFunction) -> Result<Callable, AllocError>
+fn callable_as(usage: HostCallKind, function: SeenFunction) -> Result<Callable, AllocError>
     ensures exact { IfOk result (λ c. c ≡ kinds.host_callable_as usage function) }
 {
-    let HostFunction {
+    let SeenFunction {
         entity,
         driver,
         f,
@@ -79,15 +79,15 @@ fn callable_as(usage: HostUse, function: HostFunction) -> Result<Callable, Alloc
     } = function;
     let asked = HostEntity { entity, driver, f };
     match usage {
-        HostUse::Function => Ok(host_callable(asked, gives, params)),
-        HostUse::Maker(number) => {
+        HostCallKind::Function => Ok(host_callable(asked, gives, params)),
+        HostCallKind::Maker(number) => {
             let object = ArgType::Object {
                 number,
                 read_only: false,
             };
             Ok(host_callable(asked, object, params))
         }
-        HostUse::Method(number) => {
+        HostCallKind::Method(number) => {
             let params = params_with_receiver(params, number, read_only)?;
             Ok(host_callable(asked, gives, params))
         }
@@ -96,8 +96,8 @@ fn callable_as(usage: HostUse, function: HostFunction) -> Result<Callable, Alloc
 
 fn push_hosts(
     found: &mut Callables,
-    usage: HostUse,
-    hosts: Vec<HostFunction>,
+    usage: HostCallKind,
+    hosts: Vec<SeenFunction>,
 ) -> Result<(), AllocError>
     ensures pushed { OnOk result
         (found.new ≡ found.old ++ list_map (kinds.host_callable_as usage) hosts.items) }
@@ -117,7 +117,7 @@ pub fn push_wanted(
     found: &mut Callables,
     view: &View,
     wanted: &Wanted<'_>,
-    usage: HostUse,
+    usage: HostCallKind,
 ) -> Result<(), AllocError>
     ensures pushed { OnOk result (found.new ≡ found.old
         ++ list_map (kinds.host_callable_as usage) (host.host_where wanted.now view.now)) }
@@ -134,7 +134,7 @@ pub fn factories_of(alloc: Global, view: &View, number: u32) -> Result<Callables
 {
     let mut found = Callables::new(alloc);
     let wanted = Wanted::Factory(number);
-    push_wanted(alloc, &mut found, view, &wanted, HostUse::Maker(number))?;
+    push_wanted(alloc, &mut found, view, &wanted, HostCallKind::Maker(number))?;
     Ok(found)
 }
 
@@ -150,13 +150,13 @@ pub fn host_methods(
     ensures exact { IfOk result (λ c. c ≡ spec.host_methods scope.now.view number name.now) }
 {
     let mut found = Callables::new(alloc);
-    let wanted = Wanted::Method(number, Text::new(name));
+    let wanted = Wanted::Method(number, BorrowedText::new(name));
     push_wanted(
         alloc,
         &mut found,
         scope.view(),
         &wanted,
-        HostUse::Method(number),
+        HostCallKind::Method(number),
     )?;
     Ok(found)
 }

@@ -14,7 +14,7 @@ mod scripts;
 mod uses;
 mod values;
 
-pub use callables::{Callables, Head};
+pub use callables::{Callables, CallTarget};
 pub use hosts::{entity_of, host_methods, params_with_receiver};
 pub use makers::makers_of;
 pub use picking::{best_method, best_of_those, types_with_receiver};

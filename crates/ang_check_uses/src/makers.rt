@@ -10,7 +10,7 @@ use crate::hosts::factories_of;
 use crate::scope::Scope;
 use crate::uses::{Callable, Called};
 use ang_kinds::{List, Pass};
-use ang_names_known::{Constructor, Default, Family, default_of, family_of_type, parameters_of};
+use ang_names_known::{ScriptConstructor, Default, Family, default_of, family_of_type, parameters_of};
 use ang_types::{ArgType, Candidate};
 use std::alloc::{AllocError, Global};
 
@@ -46,7 +46,7 @@ fn constructor_of(
     alloc: Global,
     family: usize,
     number: u32,
-    constructor: &Constructor,
+    constructor: &ScriptConstructor,
 ) -> Result<Callable, AllocError>
     requires same { spaces.family_type family ≡ number }
     ensures exact { IfOk result (λ c. c ≡ spec.constructor_of family constructor.now) }
@@ -60,7 +60,7 @@ fn constructors_of(
     alloc: Global,
     family: usize,
     number: u32,
-    constructors: &[Constructor],
+    constructors: &[ScriptConstructor],
 ) -> Result<Callables, AllocError>
     requires same { spaces.family_type family ≡ number }
     ensures exact { IfOk result

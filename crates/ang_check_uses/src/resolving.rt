@@ -14,9 +14,9 @@ use crate::uses::Resolution;
 use crate::values::{enumeration_called, value_meant};
 use ang_kinds::ErrorKind;
 use ang_names_known::{
-    HostProperty, Named, ScriptGlobal, Space, Text, WantedProperty, is_read_only, property_where,
+    SeenProperty, Named, ScriptGlobal, Space, BorrowedText, WantedProperty, is_read_only, property_where,
 };
-use ang_typed::Variable;
+use ang_typed::TypedVariable;
 use ang_types::{ArgType, Asks};
 use ang_view::View;
 use std::alloc::{AllocError, Global};
@@ -36,13 +36,13 @@ pub fn why(resolution: Resolution) -> ErrorKind
     }
 }
 
-fn host_meant(view: &View, name: &[u8], found: Option<HostProperty>) -> Resolution
+fn host_meant(view: &View, name: &[u8], found: Option<SeenProperty>) -> Resolution
     ensures exact { result ≡ spec.host_meant (spec.value_meant view.now name.now) found }
 {
     match found {
         None => value_meant(view, name),
         Some(found) => {
-            let variable = Variable::Property(entity_of(found));
+            let variable = TypedVariable::Property(entity_of(found));
             Resolution::Variable(variable, found.ty, found.read_only)
         }
     }
@@ -53,7 +53,7 @@ fn global_or_host(
     name: &[u8],
     globals: &[ScriptGlobal],
     number: Option<usize>,
-    hosts: Option<HostProperty>,
+    hosts: Option<SeenProperty>,
 ) -> Resolution
     ensures exact { result ≡ spec.global_or_host (spec.value_meant view.now name.now) globals.now
         number hosts }
@@ -65,7 +65,7 @@ fn global_or_host(
         None => host_meant(view, name, hosts),
         Some(global) => {
             let read_only = is_read_only(global.written);
-            Resolution::Variable(Variable::Global(number), global.written.ty, read_only)
+            Resolution::Variable(TypedVariable::Global(number), global.written.ty, read_only)
         }
     }
 }
@@ -76,7 +76,7 @@ fn global_meant(scope: &Scope<'_>, name: &[u8]) -> Resolution
 {
     let names = scope.names();
     let view = scope.view();
-    let hosts = property_where(view, &WantedProperty::Global(Text::new(name)));
+    let hosts = property_where(view, &WantedProperty::Global(BorrowedText::new(name)));
     global_or_host(view, name, names.globals(), names.global_named(name), hosts)
 }
 
@@ -109,7 +109,7 @@ fn enumeration_meant(named: Named) -> Resolution
     }
 }
 
-fn property_meant(found: Option<HostProperty>) -> Resolution
+fn property_meant(found: Option<SeenProperty>) -> Resolution
     ensures exact { result ≡ spec.property_meant found }
 {
     match found {
@@ -118,12 +118,12 @@ fn property_meant(found: Option<HostProperty>) -> Resolution
     }
 }
 
-fn property_of(scope: &Scope<'_>, number: u32, name: &[u8]) -> Option<HostProperty>
+fn property_of(scope: &Scope<'_>, number: u32, name: &[u8]) -> Option<SeenProperty>
     ensures exact { result ≡ host.property_where (property.Member number name.now) scope.now.view }
 {
     property_where(
         scope.view(),
-        &WantedProperty::Member(number, Text::new(name)),
+        &WantedProperty::Member(number, BorrowedText::new(name)),
     )
 }
 

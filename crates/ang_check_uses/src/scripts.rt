@@ -6,17 +6,17 @@ ghost use Rattle.ang_check_uses.specs.CallableKinds as kinds;
 ghost use Rattle.ang_check_uses.specs.Uses as spec;
 
 use crate::callables::{Callables, push_callable};
-use crate::hosts::{HostUse, push_wanted};
+use crate::hosts::{HostCallKind, push_wanted};
 use crate::scope::Scope;
 use crate::uses::{Callable, Called};
-use ang_names_known::{Names, ScriptFunction, Text, Wanted, parameters_of};
-use ang_typed::Callee;
+use ang_names_known::{Names, ScriptFunction, BorrowedText, Wanted, parameters_of};
+use ang_typed::TypedCallee;
 use ang_types::Candidate;
 use std::alloc::{AllocError, Global};
 
 /// A list of functions that the scripts declare.
 #[derive(Clone, Copy)]
-pub enum Declared {
+pub enum FunctionList {
     /// Those with a body.
     Functions,
     /// Those that are imported.
@@ -24,18 +24,18 @@ pub enum Declared {
 }
 
 /// The function of this number in its list.
-fn called_in(declared: Declared, number: usize) -> Called
+fn called_in(declared: FunctionList, number: usize) -> Called
     ensures exact { result ≡ kinds.called_in declared number }
 {
     match declared {
-        Declared::Functions => Called::Script(Callee::Own(number)),
-        Declared::Imports => Called::Script(Callee::Import(number)),
+        FunctionList::Functions => Called::Script(TypedCallee::Own(number)),
+        FunctionList::Imports => Called::Script(TypedCallee::Import(number)),
     }
 }
 
 fn script_callable(
     alloc: Global,
-    declared: Declared,
+    declared: FunctionList,
     functions: &[ScriptFunction],
     number: usize,
 ) -> Result<Option<Callable>, AllocError>
@@ -58,7 +58,7 @@ fn script_callable(
 fn push_numbered(
     alloc: Global,
     found: &mut Callables,
-    declared: Declared,
+    declared: FunctionList,
     functions: &[ScriptFunction],
     numbers: &[usize],
 ) -> Result<(), AllocError>
@@ -82,7 +82,7 @@ fn script_callables(alloc: Global, names: &Names, name: &[u8]) -> Result<Callabl
     push_numbered(
         alloc,
         &mut found,
-        Declared::Functions,
+        FunctionList::Functions,
         names.functions(),
         functions,
     )?;
@@ -90,7 +90,7 @@ fn script_callables(alloc: Global, names: &Names, name: &[u8]) -> Result<Callabl
     push_numbered(
         alloc,
         &mut found,
-        Declared::Imports,
+        FunctionList::Imports,
         names.imports(),
         imports,
     )?;
@@ -104,7 +104,7 @@ pub fn functions_of(alloc: Global, scope: &Scope<'_>, name: &[u8]) -> Result<Cal
     ensures exact { IfOk result (λ c. c ≡ spec.functions_of scope.now name.now) }
 {
     let mut found = script_callables(alloc, scope.names(), name)?;
-    let wanted = Wanted::Function(Text::new(name));
-    push_wanted(alloc, &mut found, scope.view(), &wanted, HostUse::Function)?;
+    let wanted = Wanted::Function(BorrowedText::new(name));
+    push_wanted(alloc, &mut found, scope.view(), &wanted, HostCallKind::Function)?;
     Ok(found)
 }

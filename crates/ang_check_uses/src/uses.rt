@@ -1,14 +1,14 @@
 //! What a use of a name means.
 use ang_kinds::{EntityNo, ErrorKind};
-use ang_names_known::{Access, HostProperty};
-use ang_typed::{Callee, HostEntity, Variable};
+use ang_names_known::{Access, SeenProperty};
+use ang_typed::{TypedCallee, HostEntity, TypedVariable};
 use ang_types::{ArgType, Candidate};
 
 /// What a call runs.
 #[derive(Clone, Copy)]
 pub enum Called {
     /// A function of the scripts.
-    Script(Callee),
+    Script(TypedCallee),
     /// A function, a factory or a method of the host.
     Host(HostEntity),
     /// A constructor of the script's class of this number, or none where the class and those above it have none.
@@ -52,9 +52,9 @@ pub struct EnumerationValue {
 #[derive(Drop)]
 pub enum Resolution {
     /// A variable, its type, and whether it can't be assigned.
-    Variable(Variable, ArgType, bool),
+    Variable(TypedVariable, ArgType, bool),
     /// An object property of the host.
-    Property(HostProperty),
+    Property(SeenProperty),
     /// A call of a function.
     Call(Callable),
     /// The object type of this number.

@@ -9,18 +9,18 @@ use Rattle.ang_meaning.specs.declared.routine.Routine.{Routine}
 use Rattle.ang_meaning.specs.Numbers.{Changed, Into, Never}
 use Rattle.ang_meaning.specs.World.{World, Tried, Yes, No, hold, give, give_all, memory_step, or_else}
 use Rattle.ang_meaning.specs.Told.{GoesOn, Faults}
-use Rattle.ang_meaning.specs.Setting.{Setting, Found, Enters, Misses, target, has_objects, params_of, is_fit}
+use Rattle.ang_meaning.specs.Environment.{Environment, Found, Enters, Misses, target, has_objects, params_of, is_fit}
 use Rattle.ang_meaning.specs.Hosts.{Done, Fine, Fails}
 use Rattle.ang_meaning.specs.Perform.{perform, operands, change_of, global_put, member_put}
 use Rattle.ang_meaning.specs.Results.{local_at, drop_some, give_some, give_back, at_zero, on_test, ticked, brought, give_others, may_nest}
 use Rattle.ang_meaning.proofs.Moving.{goes_then, goes_stop, faulted, gives, stop_gives, nothing, give_moves, give_all_moves, give_some_moves, give_back_moves, give_others_moves, put_moves, member_moves, TriedFrom, memory_goes, hold_goes, DoneFrom, perform_goes}
 use Rattle.ang_code.specs.declared.instruction.Frame.{Frame}
 use Rattle.ang_code.specs.declared.instruction.Instruction.{Instruction}
-use Rattle.ang_code.specs.declared.instruction.Instruction.TheVariants.{PushBits, PushNull, Load, Store, Change, Do, Drop, Leave, SkipIfFalse, GoOn, Tick, Back, Enter, Swap, SwapGlobal, SwapField, DropUnder, Return}
+use Rattle.ang_code.specs.declared.instruction.Instruction.TheVariants.{PushBits, PushNull, Load, Store, Update, Apply, Drop, Leave, JumpIfFalse, Jump, Tick, LoopBack, Enter, Swap, SwapGlobal, SwapField, DropUnder, Return}
 use Rattle.ang_code.specs.Machine.{Texts, Config, At, Over, Stuck, fault, roomy, within, enough, on_top, did, changed_into, back, begins, found_enters, act, step, steps, take_some, call_begins, initializer_begins}
 use Rattle.ang_code.specs.Told.{ComesFrom, CallsComeFrom, InitializersComeFrom}
 
-module _ (z : Setting) (code : Texts) (u : World) where
+module _ (z : Environment) (code : Texts) (u : World) where
   -- a test before a step
   if_from : (b : Bool) (c : Config) → ComesFrom u c → ComesFrom u (cond b c (Over Stuck))
   if_from true c h = h
@@ -96,18 +96,18 @@ module _ (z : Setting) (code : Texts) (u : World) where
   act_from (Store d) f pc room s fr t w p =
       top_from s _ (λ v r. within_from d r _ (else_from Tally (v ∷ r) w (hold v w) _ p (hold_goes v w)
       (λ w' q. goes_then u w' (give (local_at r d) w') q (gives w' _ (give_moves (local_at r d) w')))))
-  act_from (Change by d) f pc room s fr t w p =
+  act_from (Update by d) f pc room s fr t w p =
       top_from s _ (λ v r. within_from d r _ (changed_from (change_of by (local_at r d) v) (v ∷ r) w _ p (λ a b. p)))
-  act_from (Do o) f pc room s fr t w p =
+  act_from (Apply o) f pc room s fr t w p =
       let vs = take_some (operands z f.home o) s in
       if_from (is_fit z f.home o) _ (enough_from (operands z f.home o) s _ (roomy_from room (drop_some (operands z f.home o) s) _
       (did_from w (perform z f.home o vs w) s _ p (perform_goes z f.home o vs w) (λ v w' q. q))))
   act_from Drop f pc room s fr t w p = top_from s _ (λ v r. goes_then u w (give v w) p (gives w _ (give_moves v w)))
   act_from (Leave n) f pc room s fr t w p = enough_from n s _ (goes_then u w (give_some n s w) p (gives w _ (give_some_moves n s w)))
-  act_from (SkipIfFalse n) f pc room s fr t w p = top_from s _ (λ v r. test_from v _ _ _ (fault_from NullFault (v ∷ r) w p) p p)
-  act_from (GoOn n) f pc room s fr t w p = p
+  act_from (JumpIfFalse n) f pc room s fr t w p = top_from s _ (λ v r. test_from v _ _ _ (fault_from NullFault (v ∷ r) w p) p p)
+  act_from (Jump n) f pc room s fr t w p = p
   act_from Tick f pc room s fr t w p = tick_from t s w _ p (λ t'. p)
-  act_from (Back n) f pc room s fr t w p = tick_from t s w _ p (λ t'. p)
+  act_from (LoopBack n) f pc room s fr t w p = tick_from t s w _ p (λ t'. p)
   act_from (Enter c) f pc room s fr t w p = found_from (target z f.home c s w) s fr _ t w p
   act_from (Swap to under d) f pc room s fr t w p = within_from under s _ (within_from d s _ p)
   act_from (SwapGlobal to under g) f pc room s fr t w p =

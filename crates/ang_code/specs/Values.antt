@@ -4,7 +4,7 @@ use Rattle.ang_kinds.specs.declared.fault.Fault.{Fault}
 use Rattle.ang_kinds.specs.declared.primitive.Primitive.{Primitive}
 use Rattle.ang_kinds.specs.declared.value.Value.{Value}
 use Rattle.ang_meaning.specs.declared.slot.Slot.{Slot}
-use Rattle.ang_meaning.specs.declared.host.HostType.TheVariants.{Plain}
+use Rattle.ang_meaning.specs.declared.host.HostValueType.TheVariants.{Plain}
 use Rattle.ang_meaning.specs.Hosts.{value_of}
 
 -- The value in a slot, where it is of a primitive type; for such a type a driver's number plays no part. Of any other type none is handed out.

@@ -1,6 +1,6 @@
 //! One list of instructions for each body.
 use ang_kinds::Prim;
-use ang_meaning::{Callee, Change, Operation, Passing, Routine};
+use ang_meaning::{Callee, Update, Operation, Passing, Routine};
 
 /// One instruction. The stack's values are counted from its top, which is 0; a jump says how many
 /// instructions it passes.
@@ -16,21 +16,21 @@ pub enum Instruction {
     Store(usize),
     /// Changes the value at that place, counted without the top, by the top value, which the change's
     /// value replaces.
-    Change(Change, usize),
+    Update(Update, usize),
     /// Takes an operation's operands, the last one on top, and pushes its value.
-    Do(Operation),
+    Apply(Operation),
     /// Gives up the top value.
     Drop,
     /// Gives up that number of values.
     Leave(usize),
     /// Takes a truth value, and passes that number of instructions where it is false.
-    SkipIfFalse(usize),
+    JumpIfFalse(usize),
     /// Passes that number of instructions.
-    GoOn(usize),
+    Jump(usize),
     /// Takes a tick.
     Tick,
     /// Takes a tick and goes back by that number of instructions.
-    Back(usize),
+    LoopBack(usize),
     /// Enters a script function, whose arguments are on top, the last one first.
     Enter(Callee),
     /// Brings the value at the place `under` to the type `to`, if any, and exchanges it with the one at

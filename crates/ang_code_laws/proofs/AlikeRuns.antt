@@ -9,12 +9,12 @@ use Rattle.ang_meaning.specs.declared.slot.Slot.TheVariants.{Bits}
 use Rattle.ang_meaning.specs.declared.routine.Routine.{Routine}
 use Rattle.ang_meaning.specs.World.{World, Input, Room, Said, Tallied, Fresh, with_inputs}
 use Rattle.ang_meaning.specs.Told.{has_room, answers_told}
-use Rattle.ang_meaning.specs.Setting.{Setting}
+use Rattle.ang_meaning.specs.Environment.{Environment}
 use Rattle.ang_meaning.specs.Counting.{IsCounted}
 use Rattle.ang_meaning.specs.Alike.{Renaming, renamed, renamed_all, SameButNumbers}
 use Rattle.ang_meaning.proofs.AlikeWorlds.{three}
 use Rattle.ang_code.specs.Machine.{Texts, Config, At, Over, Outcome, Finished, Faulted, Stuck, steps, call_begins, initializer_begins}
-use Rattle.ang_code.specs.Runs.{Ending, Gives, Stops, ended, Runs}
+use Rattle.ang_code.specs.Runs.{Completion, Gives, Stops, ended, Runs}
 use Rattle.ang_code.proofs.Steps.{more_steps, over_stays}
 use Rattle.ang_code_laws.specs.Alike.{AreAlike, renamed_end, EndsAlike, CallRunsAlike, InitializerRunsAlike, GrantedAlike, GrantedCallsAlike, GrantedInitializersAlike}
 use Rattle.ang_code_laws.specs.Counting.{CountedAt}
@@ -141,12 +141,12 @@ world_at u (Over (Finished v t w)) = w
 world_at u (Over (Faulted x w)) = w
 world_at u (Over Stuck) = u
 
-pub record Joined (apart : Type 0) (e : Ending) (u : World) (d : Ending) (w : World) : Type 0 where
+pub record Joined (apart : Type 0) (e : Completion) (u : World) (d : Completion) (w : World) : Type 0 where
   pub by : Renaming
   pub ending : d ≡ renamed_end by e
   pub alike : AlikeUpTo apart by u w
 
-pub joined : (apart : Type 0) (e d : Ending) (u w : World) → ConfigsUpTo apart (Over (ended e u)) (Over (ended d w)) → Joined apart e u d w
+pub joined : (apart : Type 0) (e d : Completion) (u w : World) → ConfigsUpTo apart (Over (ended e u)) (Over (ended d w)) → Joined apart e u d w
 unfolding value_at ticks_at fault_at world_at
 joined apart (Gives x t) (Gives y k) u w m = record {
   by = m.by;
@@ -161,7 +161,7 @@ joined apart (Stops f) (Stops g) u w m = record {
   alike = subst (λ q. AlikeUpTo apart m.by u q) (sym (ap (world_at w) m.same)) m.alike;
 }
 
-at_end : (z : Setting) (code : Texts) (m n : ℕ) (c : Config) (o : Outcome) → steps z code m c ≡ Over o → steps z code (m + n) c ≡ Over o
+at_end : (z : Environment) (code : Texts) (m n : ℕ) (c : Config) (o : Outcome) → steps z code m c ≡ Over o → steps z code (m + n) c ≡ Over o
 at_end z code m n c o e = more_steps z code m n c ∙ ap (λ x. steps z code n x) e ∙ over_stays z code n o
 
 -- ---- what was granted was told the same
@@ -219,20 +219,20 @@ module _ {A : Type 0} (left : A → List Input) (Reaches Again : List Input → 
 -- ---- ends of runs
 
 -- whatever further inputs there are, this end is reached, and they are left
-pub record Leading (Reaches : List Input → Outcome → Type 0) (used : List Input) (end : Ending) (w : World) : Type 0 where
+pub record Leading (Reaches : List Input → Outcome → Type 0) (used : List Input) (end : Completion) (w : World) : Type 0 where
   pub each : (rest : List Input) → Reaches (used ++ rest) (ended end (with_inputs rest w))
 
 pub record AtEnd : Type 0 where
-  pub end : Ending
+  pub end : Completion
   pub world : World
 
-ends_leave : (apart : Type 0) (e : Ending) (w : World) → RunLeaves apart (Over (ended e w)) → apart × IsMore w.inputs
+ends_leave : (apart : Type 0) (e : Completion) (w : World) → RunLeaves apart (Over (ended e w)) → apart × IsMore w.inputs
 ends_leave apart (Gives x t) w h = absurd h
 ends_leave apart (Stops f) w h = (h.0, subst IsMore (sym h.1.inputs) tt)
 
 module _ (Reaches Again : List Input → Outcome → Type 0)
     (pairs : (apart : Type 0) (is js : List Input) (o p : Outcome) → Match apart is js → Reaches is o → Again js p → RunsAlike apart (Over o) (Over p))
-    (v' w' : World) (end other : Ending) (used told : List Input) (run : Leading Reaches used end v') (back : Leading Again told other w') where
+    (v' w' : World) (end other : Completion) (used told : List Input) (run : Leading Reaches used end v') (back : Leading Again told other w') where
   pub related : SameButNumbers used told → EndsAlike end v' other w'
   related e =
       let h = match_of used told e in
@@ -251,13 +251,13 @@ module _ (Reaches Again : List Input → Outcome → Type 0)
 -- ---- steps
 
 -- some number of steps leads to it
-abbrev pub Comes : Setting → Texts → (List Input → Config) → List Input → Outcome → Type 0
+abbrev pub Comes : Environment → Texts → (List Input → Config) → List Input → Outcome → Type 0
 Comes z code from is o = (n : ℕ) × (steps z code n (from is) ≡ Over o)
 
-run_leads : (z : Setting) (code : Texts) (from : List Input → Config) (end : Ending) (w : World) → (run : Runs z code from end w) → Leading (Comes z code from) run.told.used end w
+run_leads : (z : Environment) (code : Texts) (from : List Input → Config) (end : Completion) (w : World) → (run : Runs z code from end w) → Leading (Comes z code from) run.told.used end w
 run_leads z code from end w run = record { each = λ rest. (run.count, run.told.tells rest) }
 
-pub together : (z : Setting) (code : Texts) (c d : Config) (apart : Type 0) (m n : ℕ) (o p : Outcome) → CountedAt c → RunsAlike apart c d → steps z code m c ≡ Over o → steps z code n d ≡ Over p → RunsAlike apart (Over o) (Over p)
+pub together : (z : Environment) (code : Texts) (c d : Config) (apart : Type 0) (m n : ℕ) (o p : Outcome) → CountedAt c → RunsAlike apart c d → steps z code m c ≡ Over o → steps z code n d ≡ Over p → RunsAlike apart (Over o) (Over p)
 together z code c d apart m n o p counted h e f =
     let both : m + n ≡ n + m = omega arith in
     subst (λ x. RunsAlike apart (Over o) x) (ap (λ k. steps z code k d) both ∙ at_end z code n m d p f)
@@ -268,7 +268,7 @@ together z code c d apart m n o p counted h e f =
 pub begun : (apart : Type 0) (r : Renaming) (is js : List Input) (v w : World) → AreAlike r v w → Match apart is js → AlikeUpTo apart r (with_inputs is v) (with_inputs js w)
 begun apart r is js v w h m = record { objects = h.objects; hosts = h.hosts; globals = h.globals; events = h.events; spent = h.spent; inputs = m }
 
-module _ (z : Setting) (code : Texts) (r : Renaming) (v w : World) (alike : AreAlike r v w) where
+module _ (z : Environment) (code : Texts) (r : Renaming) (v w : World) (alike : AreAlike r v w) where
   call_pairs : (budget : ℕ) (g : Routine) (vs : List Slot) → IsCounted vs v → (apart : Type 0) (is js : List Input) (o p : Outcome) → Match apart is js
       → Comes z code (λ is. call_begins z code budget g vs (with_inputs is v)) is o → Comes z code (λ is. call_begins z code budget g (renamed_all r vs) (with_inputs is w)) js p → RunsAlike apart (Over o) (Over p)
   call_pairs budget g vs counted apart is js o p m a b =

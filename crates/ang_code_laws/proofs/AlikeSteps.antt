@@ -16,7 +16,7 @@ use Rattle.ang_meaning.specs.declared.routine.Passing.{Passing}
 use Rattle.ang_meaning.specs.declared.routine.Passing.TheVariants.{In, Out, Object}
 use Rattle.ang_meaning.specs.Numbers.{Changed, Into, Never}
 use Rattle.ang_meaning.specs.World.{World, ScriptRecord, Tried, Yes, No, hold, give, give_all, memory_step, or_else}
-use Rattle.ang_meaning.specs.Setting.{Setting, Found, Enters, Misses, method_of, virtual_of, params_in, receiver_in, target, is_null, has_objects, params_of, is_fit}
+use Rattle.ang_meaning.specs.Environment.{Environment, Found, Enters, Misses, method_of, virtual_of, params_in, receiver_in, target, is_null, has_objects, params_of, is_fit}
 use Rattle.ang_meaning.specs.Hosts.{Done, Fine, Fails}
 use Rattle.ang_meaning.specs.Perform.{perform, operands, change_of, global_or, global_put, member_or, member_put}
 use Rattle.ang_meaning.specs.Results.{local_at, local_set, drop_some, give_some, give_back, at_zero, on_test, ticked, brought, outs_of, give_others, may_nest}
@@ -27,7 +27,7 @@ use Rattle.ang_meaning.proofs.AlikeWorlds.{three, HasMore, TriedLeaves, DoneLeav
 use Rattle.ang_meaning.proofs.AlikeOperations.{null_renamed, change_renamed, perform_alike}
 use Rattle.ang_code.specs.declared.instruction.Frame.{Frame}
 use Rattle.ang_code.specs.declared.instruction.Instruction.{Instruction}
-use Rattle.ang_code.specs.declared.instruction.Instruction.TheVariants.{PushBits, PushNull, Load, Store, Change, Do, Drop, Leave, SkipIfFalse, GoOn, Tick, Back, Enter, Swap, SwapGlobal, SwapField, DropUnder, Return}
+use Rattle.ang_code.specs.declared.instruction.Instruction.TheVariants.{PushBits, PushNull, Load, Store, Update, Apply, Drop, Leave, JumpIfFalse, Jump, Tick, LoopBack, Enter, Swap, SwapGlobal, SwapField, DropUnder, Return}
 use Rattle.ang_code.specs.Machine.{Texts, Config, At, Over, Finished, Faulted, Stuck, fault, roomy, within, enough, on_top, did, changed_into, back, begins, enters, found_enters, act, step, steps, take_some, call_begins, initializer_begins}
 use Rattle.ang_code_laws.specs.Alike.{turned, WorldAlike, ConfigsAlike, StepsAlike}
 use Rattle.ang_code_laws.specs.Counting.{CountedAt}
@@ -98,18 +98,18 @@ module _ (r : Renaming) where
   receiver_renamed ps s =
       ap (λ l. slice_index_or l (length ps - 1) (Bits 0)) (take-map (renamed r) (length ps) s) ∙ get_or-map (renamed r) (take (length ps) s) (length ps - 1) (Bits 0)
 
-  method_renamed : (z : Setting) (m k : ℕ) (o : Option ScriptRecord) → method_of z m k (renamed_record r o) ≡ method_of z m k o
+  method_renamed : (z : Environment) (m k : ℕ) (o : Option ScriptRecord) → method_of z m k (renamed_record r o) ≡ method_of z m k o
   method_renamed z m k None = refl
   method_renamed z m k (Some o) = refl
 
   module _ (apart : Type 0) (v w : World) (h : AlikeUpTo apart r v w) where
-    virtual_renamed : (z : Setting) (m k : ℕ) (x : Slot) → virtual_of z m k (renamed r x) w ≡ virtual_of z m k x v
+    virtual_renamed : (z : Environment) (m k : ℕ) (x : Slot) → virtual_of z m k (renamed r x) w ≡ virtual_of z m k x v
     virtual_renamed z m k (Bits n) = refl
     virtual_renamed z m k (Script None) = refl
     virtual_renamed z m k (Script (Some n)) = ap (method_of z m k) (h.objects.has n) ∙ method_renamed z m k (map.get v.objects n)
     virtual_renamed z m k (Host d j) = refl
 
-    target_renamed : (z : Setting) (m : ℕ) (c : Callee) (s : List Slot) → target z m c (renamed_all r s) w ≡ target z m c s v
+    target_renamed : (z : Environment) (m : ℕ) (c : Callee) (s : List Slot) → target z m c (renamed_all r s) w ≡ target z m c s v
     unfolding target
     target_renamed z m (Own g) s = refl
     target_renamed z m (Import i) s = refl
@@ -229,7 +229,7 @@ module _ (apart : Type 0) where
     tick_alike zero s go onward k = fault_same r v w h Budget s
     tick_alike (suc t) s go onward k = k t
 
-    module _ (z : Setting) (code : Texts) where
+    module _ (z : Environment) (code : Texts) where
       pub begins_alike : (g : Routine) (s : List Slot) (fr : List Frame) (t : ℕ) → RunsAlike (begins code g s fr t v) (begins code g (renamed_all r s) fr t w)
       begins_alike g s fr t =
           else_alike r Memory s (memory_step v) (memory_step w) _ _ (memory_alike apart r v w h)
@@ -270,7 +270,7 @@ module _ (apart : Type 0) where
 
   -- ---- one instruction
 
-  module _ (z : Setting) (code : Texts) where
+  module _ (z : Environment) (code : Texts) where
     act_alike : (i : Instruction) (f : Routine) (pc room : ℕ) (s : List Slot) (fr : List Frame) (t : ℕ) (r : Renaming) (v w : World) → IsCounted s v → AlikeUpTo apart r v w
         → RunsAlike (act z code (Some i) f pc room s fr t v) (act z code (Some i) f pc room (renamed_all r s) fr t w)
     act_alike (PushBits n) f pc room s fr t r v w p h = roomy_alike r w room s (renamed_all r s) _ _ (many_renamed r s) (at_alike r v w h f (pc + 1) room (Bits n ∷ s) _ fr t refl)
@@ -287,14 +287,14 @@ module _ (apart : Type 0) where
         (λ v' w' k. subst (λ y. RunsAlike (At f (pc + 1) room (x ∷ local_set u d x) fr t (give (local_at u d) v')) (At f (pc + 1) room (renamed r x ∷ local_set (renamed_all r u) d (renamed r x)) fr t (give y w')))
         (sym (at_renamed r u d))
         (at_alike r _ _ (give_alike apart r (local_at u d) v' w' k) f (pc + 1) room (x ∷ local_set u d x) _ fr t (ap (λ l. renamed r x ∷ l) (set_renamed r u d x))))))
-    act_alike (Change by d) f pc room s fr t r v w p h =
+    act_alike (Update by d) f pc room s fr t r v w p h =
         top_alike r w s _ _ (λ x u. within_alike r w d u (renamed_all r u) _ _ (many_renamed r u)
         (subst (λ o. RunsAlike (changed_into (change_of by (local_at u d) x) (x ∷ u) v (λ stored given. At f (pc + 1) room (Bits given ∷ local_set u d (Bits stored)) fr t v))
         (changed_into o (renamed_all r (x ∷ u)) w (λ stored given. At f (pc + 1) room (Bits given ∷ local_set (renamed_all r u) d (Bits stored)) fr t w)))
         (sym (ap (λ y. change_of by y (renamed r x)) (at_renamed r u d) ∙ change_renamed r by (local_at u d) x))
         (changed_alike r v w h (change_of by (local_at u d) x) (x ∷ u) _ _
         (λ a b. at_alike r v w h f (pc + 1) room (Bits b ∷ local_set u d (Bits a)) _ fr t (ap (λ l. Bits b ∷ l) (set_renamed r u d (Bits a)))))))
-    act_alike (Do o) f pc room s fr t r v w p h =
+    act_alike (Apply o) f pc room s fr t r v w p h =
         let n = operands z f.home o in
         let us = renamed_all r s in
         let x = perform_alike apart r z f.home s v w p h o (take_some n s) in
@@ -309,11 +309,11 @@ module _ (apart : Type 0) where
     act_alike Drop f pc room s fr t r v w p h = top_alike r w s _ _ (λ x u. at_alike r _ _ (give_alike apart r x v w h) f (pc + 1) room u _ fr t refl)
     act_alike (Leave n) f pc room s fr t r v w p h =
         enough_alike r w n s (renamed_all r s) _ _ (many_renamed r s) (at_alike r _ _ (some_alike r n s v w h) f (pc + 1) room (drop_some n s) _ fr t (drop_renamed r n s))
-    act_alike (SkipIfFalse n) f pc room s fr t r v w p h =
+    act_alike (JumpIfFalse n) f pc room s fr t r v w p h =
         top_alike r w s _ _ (λ x u. test_alike r v w h x _ _ _ _ _ _ (fault_same r v w h NullFault (x ∷ u)) (at_alike r v w h f (pc + 1 + n) room u _ fr t refl) (at_alike r v w h f (pc + 1) room u _ fr t refl))
-    act_alike (GoOn n) f pc room s fr t r v w p h = at_alike r v w h f (pc + 1 + n) room s _ fr t refl
+    act_alike (Jump n) f pc room s fr t r v w p h = at_alike r v w h f (pc + 1 + n) room s _ fr t refl
     act_alike Tick f pc room s fr t r v w p h = tick_alike r v w h t s _ _ (λ k. at_alike r v w h f (pc + 1) room s _ fr k refl)
-    act_alike (Back n) f pc room s fr t r v w p h = tick_alike r v w h t s _ _ (λ k. at_alike r v w h f _ room s _ fr k refl)
+    act_alike (LoopBack n) f pc room s fr t r v w p h = tick_alike r v w h t s _ _ (λ k. at_alike r v w h f _ room s _ fr k refl)
     act_alike (Enter c) f pc room s fr t r v w p h =
         let here : Frame = record { of = f; at = pc + 1; room = room } in
         subst (λ o. RunsAlike (found_enters z code (target z f.home c s v) s fr here t v) (found_enters z code o (renamed_all r s) fr here t w)) (sym (target_renamed r apart v w h z f.home c s))

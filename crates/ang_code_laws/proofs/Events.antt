@@ -9,14 +9,14 @@ use Rattle.ang_meaning.specs.declared.slot.Slot.{Slot}
 use Rattle.ang_meaning.specs.declared.slot.Slot.TheVariants.{Bits, Script, Host}
 use Rattle.ang_meaning.specs.World.{World, Input, Room, Said, Tallied, Fresh, Tried, Yes, No, if_told, memory_told, memory_step, one_more, Ending, Inside, AtEnd, OfDriver, ending_of, refused_at, tally_told, tally_step, hold, with_inputs, or_else}
 use Rattle.ang_meaning.specs.Told.{answers_listed, Moves}
-use Rattle.ang_meaning.specs.Setting.{Setting}
+use Rattle.ang_meaning.specs.Environment.{Environment}
 use Rattle.ang_code_laws.specs.Asked.{IsAskedBy, Asks}
 
 all_append : (P : HostEvent → Type 0) (a b : List HostEvent) → AllByRecursion P a → AllByRecursion P b → AllByRecursion P (a ++ b)
 all_append P [] b p q = q
 all_append P (x ∷ a) b p q = (p.0, all_append P a b p.1 q)
 
-module _ (z : Setting) where
+module _ (z : Environment) where
   pub asks_then : (u v w : World) → Asks z u v → Asks z v w → Asks z u w
   asks_then u v w p q = record {
     more = p.more ++ q.more;

@@ -8,20 +8,20 @@ use Rattle.ang_meaning.specs.declared.slot.Slot.TheVariants.{Bits, Script, Host}
 use Rattle.ang_meaning.specs.declared.routine.Routine.{Routine}
 use Rattle.ang_meaning.specs.Numbers.{Changed, Into, Never}
 use Rattle.ang_meaning.specs.World.{World, with_inputs, Tried, Yes, No, hold, memory_step, or_else}
-use Rattle.ang_meaning.specs.Setting.{Setting, Found, Enters, Misses, target, has_objects, params_of, is_fit}
+use Rattle.ang_meaning.specs.Environment.{Environment, Found, Enters, Misses, target, has_objects, params_of, is_fit}
 use Rattle.ang_meaning.specs.Hosts.{Done, Fine, Fails}
 use Rattle.ang_meaning.specs.Perform.{perform, operands, change_of}
 use Rattle.ang_meaning.specs.Results.{local_at, drop_some, give_some, at_zero, on_test, ticked, brought, may_nest}
 use Rattle.ang_code.specs.declared.instruction.Frame.{Frame}
 use Rattle.ang_code.specs.declared.instruction.Instruction.{Instruction}
-use Rattle.ang_code.specs.declared.instruction.Instruction.TheVariants.{PushBits, PushNull, Load, Store, Change, Do, Drop, Leave, SkipIfFalse, GoOn, Tick, Back, Enter, Swap, SwapGlobal, SwapField, DropUnder, Return}
+use Rattle.ang_code.specs.declared.instruction.Instruction.TheVariants.{PushBits, PushNull, Load, Store, Update, Apply, Drop, Leave, JumpIfFalse, Jump, Tick, LoopBack, Enter, Swap, SwapGlobal, SwapField, DropUnder, Return}
 use Rattle.ang_code.specs.Machine.{Texts, Config, At, Over, Stuck, fault, on_top, did, changed_into, back, begins, found_enters, act, step, take_some, call_begins, initializer_begins}
-use Rattle.ang_code.specs.Runs.{Ending, Gives, Stops, ended}
+use Rattle.ang_code.specs.Runs.{Completion, Gives, Stops, ended}
 use Rattle.ang_code_laws.specs.Globals.{globals_of_each, HasSoMany, StepsKeep, CallRunsKeep, InitializerRunsKeep}
 use Rattle.ang_code_laws.proofs.Worlds.{Has, give_has, give_all_has, give_some_has, give_back_has, give_others_has, put_has, member_has, TriedHas, memory_has, hold_has}
 use Rattle.ang_code_laws.proofs.Operations.{DoneHas, perform_has}
 
-module _ (ns : List ℕ) (z : Setting) (code : Texts) where
+module _ (ns : List ℕ) (z : Environment) (code : Texts) where
   -- a test before a step
   if_has : (b : Bool) (c : Config) → HasSoMany ns c → HasSoMany ns (cond b c (Over Stuck))
   if_has true c h = h
@@ -86,19 +86,19 @@ module _ (ns : List ℕ) (z : Setting) (code : Texts) where
       if_has (ltb d (length s)) _ (if_has (ltb (length s) room) _ (else_has Tally s (hold v w) _ (hold_has ns v w p) (λ w' q. q)))
   act_has (Store d) f pc room s fr t w p =
       top_has s _ (λ v r. if_has (ltb d (length r)) _ (else_has Tally (v ∷ r) (hold v w) _ (hold_has ns v w p) (λ w' q. give_has ns (local_at r d) w' q)))
-  act_has (Change by d) f pc room s fr t w p =
+  act_has (Update by d) f pc room s fr t w p =
       top_has s _ (λ v r. if_has (ltb d (length r)) _ (changed_has (change_of by (local_at r d) v) (v ∷ r) w _ p (λ a b. p)))
-  act_has (Do o) f pc room s fr t w p =
+  act_has (Apply o) f pc room s fr t w p =
       let n = operands z f.home o in
       let vs = take_some n s in
       if_has (is_fit z f.home o) _ (if_has (leb n (length s)) _ (if_has (ltb (length (drop_some n s)) room) _
       (did_has s (perform z f.home o vs w) _ (perform_has ns z f.home o vs w p) (λ v w' q. q))))
   act_has Drop f pc room s fr t w p = top_has s _ (λ v r. give_has ns v w p)
   act_has (Leave n) f pc room s fr t w p = if_has (leb n (length s)) _ (give_some_has ns n s w p)
-  act_has (SkipIfFalse n) f pc room s fr t w p = top_has s _ (λ v r. test_has v _ _ _ (fault_has NullFault (v ∷ r) w p) p p)
-  act_has (GoOn n) f pc room s fr t w p = p
+  act_has (JumpIfFalse n) f pc room s fr t w p = top_has s _ (λ v r. test_has v _ _ _ (fault_has NullFault (v ∷ r) w p) p p)
+  act_has (Jump n) f pc room s fr t w p = p
   act_has Tick f pc room s fr t w p = tick_has t s w _ p (λ t'. p)
-  act_has (Back n) f pc room s fr t w p = tick_has t s w _ p (λ t'. p)
+  act_has (LoopBack n) f pc room s fr t w p = tick_has t s w _ p (λ t'. p)
   act_has (Enter c) f pc room s fr t w p = found_has (target z f.home c s w) s fr _ t w p
   act_has (Swap to under d) f pc room s fr t w p = if_has (ltb under (length s)) _ (if_has (ltb d (length s)) _ p)
   act_has (SwapGlobal to under g) f pc room s fr t w p =
@@ -125,7 +125,7 @@ steps_keep ns z code (suc n) c p = steps_keep ns z code n (step z code c) (step_
 
 -- ---- whole runs
 
-end_has : (ns : List ℕ) (w : World) (end : Ending) → HasSoMany ns (Over (ended end (with_inputs [] w))) → globals_of_each w ≡ ns
+end_has : (ns : List ℕ) (w : World) (end : Completion) → HasSoMany ns (Over (ended end (with_inputs [] w))) → globals_of_each w ≡ ns
 end_has ns w (Gives v t) p = p
 end_has ns w (Stops x) p = p
 

@@ -12,15 +12,15 @@ use Rattle.ang_host.specs.declared.answer.HostReply.TheVariants.{Making, Asking}
 use Rattle.ang_host.specs.declared.event.HostEvent.TheVariants.{Called}
 use Rattle.ang_meaning.specs.declared.slot.Slot.{Slot}
 use Rattle.ang_meaning.specs.declared.slot.Slot.TheVariants.{Bits, Script, Host}
-use Rattle.ang_meaning.specs.declared.host.HostType.{HostType}
-use Rattle.ang_meaning.specs.declared.host.HostType.TheVariants.{Nothing}
+use Rattle.ang_meaning.specs.declared.host.HostValueType.{HostValueType}
+use Rattle.ang_meaning.specs.declared.host.HostValueType.TheVariants.{Nothing}
 use Rattle.ang_meaning.specs.declared.class.Class.{Class}
-use Rattle.ang_meaning.specs.declared.operation.Change.{Change}
+use Rattle.ang_meaning.specs.declared.operation.Update.{Update}
 use Rattle.ang_meaning.specs.declared.operation.Operation.{Operation}
-use Rattle.ang_meaning.specs.declared.operation.Operation.TheVariants.{Work, Compare, Convert, Negate, Complement, Not, Same, GlobalGet, GlobalSet, GlobalChange, Ask, Read, Write, Alter, Make, FieldGet, FieldSet, FieldChange, Cast}
-use Rattle.ang_meaning.specs.Numbers.{Worked, Is, Cannot, Changed, Into, Never, worked}
+use Rattle.ang_meaning.specs.declared.operation.Operation.TheVariants.{Binary, Compare, Convert, Negate, Complement, Not, Same, GlobalGet, GlobalSet, GlobalChange, Ask, Read, Write, Alter, Make, FieldGet, FieldSet, FieldChange, Cast}
+use Rattle.ang_meaning.specs.Numbers.{Worked, Is, Cannot, Changed, Into, Never, binary_result}
 use Rattle.ang_meaning.specs.World.{World, Input, Room, Said, Tallied, Fresh, Tried, Yes, No, memory_step, hold, give, or_else}
-use Rattle.ang_meaning.specs.Setting.{Setting, class_at, use_at}
+use Rattle.ang_meaning.specs.Environment.{Environment, class_at, use_at}
 use Rattle.ang_meaning.specs.Hosts.{Done, Fine, Fails, accepted, is_void, slot_of, replied_by, is_reply_to, asked_from, asked, value_of, values_of}
 use Rattle.ang_meaning.specs.Perform.{work_done, change_of, global_or, global_put, stored_global, changed_global, Receiver, NoReceiver, Of, NullReceiver, receiver_of, arguments_of, gives_up, called_of, read_of, write_of, in_place_of, altered_to, altered_of, field_or, field_put, may_take, stored_field, changed_field, is_under, cast_to, made_from, perform}
 use Rattle.ang_code_laws.proofs.Worlds.{Has, give_has, give_all_has, put_has, field_has, TriedHas, memory_has, more_has, hold_has}
@@ -44,7 +44,7 @@ module _ (ns : List ℕ) where
   void_has true w h = h
   void_has false w h = h
 
-  replied_has : (d : ℕ) (result : HostType) (r : HostReply) (w : World) → Has ns w → DoneHas (replied_by d result r w)
+  replied_has : (d : ℕ) (result : HostValueType) (r : HostReply) (w : World) → Has ns w → DoneHas (replied_by d result r w)
   unfolding replied_by
   replied_has d result (Making (MadeKey k)) w h = more_has ns (Host d (Some k)) w h
   replied_has d result (Making MadeNothing) w h = h
@@ -61,8 +61,8 @@ module _ (ns : List ℕ) where
   kind_has true w o h p = p
   kind_has false w o h p = h
 
-  module _ (z : Setting) (m : ℕ) (e : EntityNo) where
-    asked_said : (object : Option ℕ) (args : List Value) (result : HostType) (inputs : List Input) (w : World) → Has ns w → DoneHas (asked_from z m e object args result inputs w)
+  module _ (z : Environment) (m : ℕ) (e : EntityNo) where
+    asked_said : (object : Option ℕ) (args : List Value) (result : HostValueType) (inputs : List Input) (w : World) → Has ns w → DoneHas (asked_from z m e object args result inputs w)
     asked_said object args result (Said reply ∷ rest) w h =
         let event = Called (z.name m) e (use_at z m e).driver object args reply in
         kind_has (is_reply_to (use_at z m e).role reply) w _ h
@@ -72,11 +72,11 @@ module _ (ns : List ℕ) where
     asked_said object args result (Tallied b ∷ rest) w h = h
     asked_said object args result (Fresh n ∷ rest) w h = h
 
-    asked_tried : (object : Option ℕ) (args : List Value) (result : HostType) (o : Tried) → TriedHas ns o → DoneHas (or_else o (Fails Memory) (λ u. asked_from z m e object args result u.inputs u))
+    asked_tried : (object : Option ℕ) (args : List Value) (result : HostValueType) (o : Tried) → TriedHas ns o → DoneHas (or_else o (Fails Memory) (λ u. asked_from z m e object args result u.inputs u))
     asked_tried object args result (No w) h = h
     asked_tried object args result (Yes w) h = asked_said object args result w.inputs w h
 
-    asked_has : (object : Option ℕ) (args : List Value) (result : HostType) (w : World) → Has ns w → DoneHas (asked z m e object args result w)
+    asked_has : (object : Option ℕ) (args : List Value) (result : HostValueType) (w : World) → Has ns w → DoneHas (asked z m e object args result w)
     unfolding asked
     asked_has object args result w h = asked_tried object args result (memory_step w) (memory_has ns w h)
 
@@ -99,11 +99,11 @@ module _ (ns : List ℕ) where
   in_place_has v (Fine x w) h = h
   in_place_has v (Fails f w) h = h
 
-  altered_to_has : (z : Setting) (m : ℕ) (e : EntityNo) (r : Receiver) (x : Slot) (c : Changed) (w : World) → Has ns w → DoneHas (altered_to z m e r x c w)
+  altered_to_has : (z : Environment) (m : ℕ) (e : EntityNo) (r : Receiver) (x : Slot) (c : Changed) (w : World) → Has ns w → DoneHas (altered_to z m e r x c w)
   altered_to_has z m e r x (Never f) w h = give_has ns x w h
   altered_to_has z m e r x (Into stored given) w h = in_place_has (Bits given) _ (write_has z m e r (Bits stored) w h)
 
-  altered_has : (z : Setting) (m : ℕ) (e : EntityNo) (r : Receiver) (c : Change) (v : Slot) (o : Done) → DoneHas o → DoneHas (altered_of z m e r c v o)
+  altered_has : (z : Environment) (m : ℕ) (e : EntityNo) (r : Receiver) (c : Update) (v : Slot) (o : Done) → DoneHas o → DoneHas (altered_of z m e r c v o)
   altered_has z m e r c v (Fails f w) h = h
   altered_has z m e r c v (Fine x w) h = altered_to_has z m e r x (change_of c x v) w h
 
@@ -152,16 +152,16 @@ module _ (ns : List ℕ) where
   made_has k (No w) h = h
   made_has k (Yes w) h = made_from_has k w.inputs w h
 
-  pub perform_has : (z : Setting) (m : ℕ) (o : Operation) (vs : List Slot) (w : World) → Has ns w → DoneHas (perform z m o vs w)
+  pub perform_has : (z : Environment) (m : ℕ) (o : Operation) (vs : List Slot) (w : World) → Has ns w → DoneHas (perform z m o vs w)
   unfolding perform
-  perform_has z m (Work a p) [] w h = h
-  perform_has z m (Work a p) (Bits y ∷ []) w h = h
-  perform_has z m (Work a p) (Bits y ∷ (Bits x ∷ [])) w h = work_has (worked a p x y) w h
-  perform_has z m (Work a p) (Bits y ∷ (Bits x ∷ (u ∷ us))) w h = h
-  perform_has z m (Work a p) (Bits y ∷ (Script j ∷ us)) w h = h
-  perform_has z m (Work a p) (Bits y ∷ (Host d j ∷ us)) w h = h
-  perform_has z m (Work a p) (Script j ∷ us) w h = h
-  perform_has z m (Work a p) (Host d j ∷ us) w h = h
+  perform_has z m (Binary a p) [] w h = h
+  perform_has z m (Binary a p) (Bits y ∷ []) w h = h
+  perform_has z m (Binary a p) (Bits y ∷ (Bits x ∷ [])) w h = work_has (binary_result a p x y) w h
+  perform_has z m (Binary a p) (Bits y ∷ (Bits x ∷ (u ∷ us))) w h = h
+  perform_has z m (Binary a p) (Bits y ∷ (Script j ∷ us)) w h = h
+  perform_has z m (Binary a p) (Bits y ∷ (Host d j ∷ us)) w h = h
+  perform_has z m (Binary a p) (Script j ∷ us) w h = h
+  perform_has z m (Binary a p) (Host d j ∷ us) w h = h
   perform_has z m (Compare c signed) [] w h = h
   perform_has z m (Compare c signed) (Bits y ∷ []) w h = h
   perform_has z m (Compare c signed) (Bits y ∷ (Bits x ∷ [])) w h = h

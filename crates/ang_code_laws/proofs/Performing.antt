@@ -16,15 +16,15 @@ use Rattle.ang_host.specs.declared.event.Role.TheVariants.{Making as MakingRole,
 use Rattle.ang_meaning.specs.declared.host.HostUse.{HostUse}
 use Rattle.ang_meaning.specs.declared.slot.Slot.{Slot}
 use Rattle.ang_meaning.specs.declared.slot.Slot.TheVariants.{Bits, Script, Host}
-use Rattle.ang_meaning.specs.declared.host.HostType.{HostType}
-use Rattle.ang_meaning.specs.declared.host.HostType.TheVariants.{Nothing}
-use Rattle.ang_meaning.specs.declared.operation.Change.{Change}
+use Rattle.ang_meaning.specs.declared.host.HostValueType.{HostValueType}
+use Rattle.ang_meaning.specs.declared.host.HostValueType.TheVariants.{Nothing}
+use Rattle.ang_meaning.specs.declared.operation.Update.{Update}
 use Rattle.ang_meaning.specs.declared.operation.Operation.{Operation}
-use Rattle.ang_meaning.specs.declared.operation.Operation.TheVariants.{Work, Compare, Convert, Negate, Complement, Not, Same, GlobalGet, GlobalSet, GlobalChange, Ask, Read, Write, Alter, Make, FieldGet, FieldSet, FieldChange, Cast}
-use Rattle.ang_meaning.specs.Numbers.{Worked, Is, Cannot, Changed, Into, Never, worked}
+use Rattle.ang_meaning.specs.declared.operation.Operation.TheVariants.{Binary, Compare, Convert, Negate, Complement, Not, Same, GlobalGet, GlobalSet, GlobalChange, Ask, Read, Write, Alter, Make, FieldGet, FieldSet, FieldChange, Cast}
+use Rattle.ang_meaning.specs.Numbers.{Worked, Is, Cannot, Changed, Into, Never, binary_result}
 use Rattle.ang_meaning.specs.World.{World, Input, Room, Said, Tallied, Fresh, Tried, Yes, No, memory_step, hold, give, give_all, or_else}
 use Rattle.ang_meaning.specs.declared.class.Class.{Class}
-use Rattle.ang_meaning.specs.Setting.{Setting, class_at, host_in, use_at, is_called_by, is_property, may_call, may_access, may_write, is_fit}
+use Rattle.ang_meaning.specs.Environment.{Environment, class_at, host_in, use_at, is_called_by, is_property, may_call, may_access, may_write, is_fit}
 use Rattle.ang_meaning.specs.Hosts.{Done, Fine, Fails, accepted, is_void, slot_of, replied_by, is_reply_to, asked_from, asked, value_of, values_of}
 use Rattle.ang_meaning.specs.Perform.{work_done, change_of, global_or, global_put, stored_global, changed_global, Receiver, Of, key_at, receiver_of, behind_first, arguments_of, gives_up, called_of, read_of, write_of, in_place_of, altered_to, altered_of, field_or, field_put, may_take, stored_field, changed_field, is_under, cast_to, made_from, perform, member_count, operands, NoReceiver, NullReceiver}
 use Rattle.ang_meaning.proofs.Moving.{give_moves, give_all_moves, put_moves, field_moves}
@@ -33,7 +33,7 @@ use Rattle.ang_code_laws.proofs.Events.{asks_then, nothing, untold, TriedAsks, m
 
 -- ---- what a host call hands over
 
-values_length : (d : ℕ) (types : List HostType) (vs : List Slot) → length types ≤ length vs → length (values_of d types vs) ≡ length types
+values_length : (d : ℕ) (types : List HostValueType) (vs : List Slot) → length types ≤ length vs → length (values_of d types vs) ≡ length types
 values_length d [] vs le = refl
 values_length d (ty ∷ types) [] le = absurd (omega (arith, le))
 values_length d (ty ∷ types) (v ∷ vs) le = ap suc (values_length d types vs (omega (arith, le)))
@@ -108,7 +108,7 @@ accesses : (o : Option HostUse) → may_write o ≡ true → may_access o ≡ tr
 accesses None h = absurd (let x : ⊥ = cc in x)
 accesses (Some u) h = both_first (is_property u.role) (not u.read_only) h
 
-module _ (z : Setting) (m : ℕ) where
+module _ (z : Environment) (m : ℕ) where
   abbrev pub DoneAsks : World → Done → Type 0
   DoneAsks w (Fine v w') = Asks z w w'
   DoneAsks w (Fails f w') = Asks z w w'
@@ -129,7 +129,7 @@ module _ (z : Setting) (m : ℕ) where
   void_asks true w = nothing z w
   void_asks false w = nothing z w
 
-  replied_asks : (d : ℕ) (result : HostType) (r : HostReply) (w : World) → DoneAsks w (replied_by d result r w)
+  replied_asks : (d : ℕ) (result : HostValueType) (r : HostReply) (w : World) → DoneAsks w (replied_by d result r w)
   unfolding replied_by
   replied_asks d result (Making (MadeKey k)) w = more_asks z (Host d (Some k)) w
   replied_asks d result (Making MadeNothing) w = nothing z w
@@ -149,7 +149,7 @@ module _ (z : Setting) (m : ℕ) where
 
   -- a host call of an entity that may be asked
   module _ (e : EntityNo) (may : MayBeAsked z m e) where
-    asked_said : (object : Option ℕ) (args : List Value) (result : HostType) (inputs : List Input) (w : World) → FitsUse (use_at z m e) object args → DoneAsks w (asked_from z m e object args result inputs w)
+    asked_said : (object : Option ℕ) (args : List Value) (result : HostValueType) (inputs : List Input) (w : World) → FitsUse (use_at z m e) object args → DoneAsks w (asked_from z m e object args result inputs w)
     asked_said object args result (Said reply ∷ rest) w fits =
         let event = Called (z.name m) e (use_at z m e).driver object args reply in
         let u : World = record w { inputs = rest; events = w.events ++ event ∷ [] } in
@@ -160,11 +160,11 @@ module _ (z : Setting) (m : ℕ) where
     asked_said object args result (Tallied b ∷ rest) w fits = nothing z w
     asked_said object args result (Fresh n ∷ rest) w fits = nothing z w
 
-    asked_tried : (object : Option ℕ) (args : List Value) (result : HostType) (w : World) (o : Tried) → FitsUse (use_at z m e) object args → TriedAsks z w o → DoneAsks w (or_else o (Fails Memory) (λ u. asked_from z m e object args result u.inputs u))
+    asked_tried : (object : Option ℕ) (args : List Value) (result : HostValueType) (w : World) (o : Tried) → FitsUse (use_at z m e) object args → TriedAsks z w o → DoneAsks w (or_else o (Fails Memory) (λ u. asked_from z m e object args result u.inputs u))
     asked_tried object args result w (No w') fits p = p
     asked_tried object args result w (Yes w') fits p = done_then w w' _ p (asked_said object args result w'.inputs w' fits)
 
-    asked_asks : (object : Option ℕ) (args : List Value) (result : HostType) (w : World) → FitsUse (use_at z m e) object args → DoneAsks w (asked z m e object args result w)
+    asked_asks : (object : Option ℕ) (args : List Value) (result : HostValueType) (w : World) → FitsUse (use_at z m e) object args → DoneAsks w (asked z m e object args result w)
     unfolding asked
     asked_asks object args result w fits = asked_tried object args result w (memory_step w) fits (memory_asks z w)
 
@@ -199,7 +199,7 @@ module _ (z : Setting) (m : ℕ) where
     altered_to_asks r x (Never f) w t = untold z w (give x w) (give_moves x w)
     altered_to_asks r x (Into stored given) w t = in_place_asks (Bits given) w (write_of z m e r (Bits stored) w) (write_asks e may r (Bits stored) w t q)
 
-    altered_asks : (r : Receiver) (c : Change) (v : Slot) (w : World) (o : Done) → IsReceiver (use_at z m e) r → DoneAsks w o → DoneAsks w (altered_of z m e r c v o)
+    altered_asks : (r : Receiver) (c : Update) (v : Slot) (w : World) (o : Done) → IsReceiver (use_at z m e) r → DoneAsks w o → DoneAsks w (altered_of z m e r c v o)
     altered_asks r c v w (Fails f w') t p = p
     altered_asks r c v w (Fine x w') t p = done_then w w' _ p (altered_to_asks r x (change_of c x v) w' t)
 
@@ -271,7 +271,7 @@ module _ (z : Setting) (m : ℕ) where
   write_fit_asks e vs v w h =
       write_asks e (inr (accesses (z.host m e.0) h)) (receiver_of (use_at z m e) vs) v w (receiver_is (use_at z m e) vs) (write_arguments (z.host m e.0) h)
 
-  alter_fit_asks : (e : EntityNo) (c : Change) (vs : List Slot) (v : Slot) (w : World) → is_fit z m (Alter e c) ≡ true
+  alter_fit_asks : (e : EntityNo) (c : Update) (vs : List Slot) (v : Slot) (w : World) → is_fit z m (Alter e c) ≡ true
       → DoneAsks w (altered_of z m e (receiver_of (use_at z m e) vs) c v (read_of z m e (receiver_of (use_at z m e) vs) w))
   unfolding is_fit
   alter_fit_asks e c vs v w h =
@@ -282,14 +282,14 @@ module _ (z : Setting) (m : ℕ) where
 
   pub perform_asks : (o : Operation) (vs : List Slot) (w : World) → is_fit z m o ≡ true → length vs ≡ operands z m o → DoneAsks w (perform z m o vs w)
   unfolding perform
-  perform_asks (Work a p) [] w h len = nothing z w
-  perform_asks (Work a p) (Bits y ∷ []) w h len = nothing z w
-  perform_asks (Work a p) (Bits y ∷ (Bits x ∷ [])) w h len = work_asks (worked a p x y) w
-  perform_asks (Work a p) (Bits y ∷ (Bits x ∷ (u ∷ us))) w h len = nothing z w
-  perform_asks (Work a p) (Bits y ∷ (Script j ∷ us)) w h len = nothing z w
-  perform_asks (Work a p) (Bits y ∷ (Host d j ∷ us)) w h len = nothing z w
-  perform_asks (Work a p) (Script j ∷ us) w h len = nothing z w
-  perform_asks (Work a p) (Host d j ∷ us) w h len = nothing z w
+  perform_asks (Binary a p) [] w h len = nothing z w
+  perform_asks (Binary a p) (Bits y ∷ []) w h len = nothing z w
+  perform_asks (Binary a p) (Bits y ∷ (Bits x ∷ [])) w h len = work_asks (binary_result a p x y) w
+  perform_asks (Binary a p) (Bits y ∷ (Bits x ∷ (u ∷ us))) w h len = nothing z w
+  perform_asks (Binary a p) (Bits y ∷ (Script j ∷ us)) w h len = nothing z w
+  perform_asks (Binary a p) (Bits y ∷ (Host d j ∷ us)) w h len = nothing z w
+  perform_asks (Binary a p) (Script j ∷ us) w h len = nothing z w
+  perform_asks (Binary a p) (Host d j ∷ us) w h len = nothing z w
   perform_asks (Compare c signed) [] w h len = nothing z w
   perform_asks (Compare c signed) (Bits y ∷ []) w h len = nothing z w
   perform_asks (Compare c signed) (Bits y ∷ (Bits x ∷ [])) w h len = nothing z w

@@ -11,13 +11,13 @@ use Rattle.ang_meaning.specs.declared.host.HostUse.{HostUse}
 use Rattle.ang_meaning.specs.declared.slot.Slot.{Slot}
 use Rattle.ang_meaning.specs.declared.routine.Routine.{Routine}
 use Rattle.ang_meaning.specs.World.{World, with_inputs}
-use Rattle.ang_meaning.specs.Setting.{Setting, use_at, may_call, may_access}
+use Rattle.ang_meaning.specs.Environment.{Environment, use_at, may_call, may_access}
 use Rattle.ang_meaning.specs.Hosts.{is_reply_to}
 use Rattle.ang_code.specs.Machine.{Texts, Config, At, Over, Finished, Faulted, Stuck, steps, call_begins, initializer_begins}
-use Rattle.ang_code.specs.Runs.{Runs, Ending}
+use Rattle.ang_code.specs.Runs.{Runs, Completion}
 
 -- there is such an entity, and its role is to be called, or to be read and written as a property
-abbrev pub MayBeAsked : Setting → ℕ → EntityNo → Type 0
+abbrev pub MayBeAsked : Environment → ℕ → EntityNo → Type 0
 MayBeAsked z m e = (may_call (z.host m e.0) ≡ true) ⊎ (may_access (z.host m e.0) ≡ true)
 
 -- what an entity is asked with: as many arguments as it declares; a property with none where it is read, and with one where it is written, and then it is
@@ -34,19 +34,19 @@ pub record FitsUse (u : HostUse) (object : Option ℕ) (args : List Value) : Typ
 
 -- the event is a host call by a module, of an entity that this module sees, of its driver, as it is declared, and its reply is of the kind that its role gives;
 -- or an object's end
-abbrev pub IsAskedBy : Setting → HostEvent → Type 0
+abbrev pub IsAskedBy : Environment → HostEvent → Type 0
 IsAskedBy z (Called caller entity driver object args reply) =
     (m : ℕ) × (caller ≡ z.name m) × MayBeAsked z m entity × (driver ≡ (use_at z m entity).driver) × FitsUse (use_at z m entity) object args × (is_reply_to (use_at z m entity).role reply ≡ true)
 IsAskedBy z (Ended driver key) = Unit {0}
 
 -- what a run listed since
-pub record Asks (z : Setting) (before after : World) : Type 0 where
+pub record Asks (z : Environment) (before after : World) : Type 0 where
   pub more : List HostEvent
   pub events : after.events ≡ before.events ++ more
   pub askings : AllByRecursion (IsAskedBy z) more
 
 -- a configuration to which a run has come from a world
-abbrev pub AsksFrom : Setting → World → Config → Type 0
+abbrev pub AsksFrom : Environment → World → Config → Type 0
 AsksFrom z w (At f pc room s fr t w') = Asks z w w'
 AsksFrom z w (Over (Finished v t w')) = Asks z w w'
 AsksFrom z w (Over (Faulted x w')) = Asks z w w'
@@ -54,16 +54,16 @@ AsksFrom z w (Over Stuck) = Unit {0}
 
 -- each run of a command's call, as far as it has come
 abbrev pub CallsAsk : Type 0
-CallsAsk = (z : Setting) (code : Texts) (n budget : ℕ) (g : Routine) (vs : List Slot) (w : World) → AsksFrom z w (steps z code n (call_begins z code budget g vs w))
+CallsAsk = (z : Environment) (code : Texts) (n budget : ℕ) (g : Routine) (vs : List Slot) (w : World) → AsksFrom z w (steps z code n (call_begins z code budget g vs w))
 
 -- and of an initializer
 abbrev pub InitializersAsk : Type 0
-InitializersAsk = (z : Setting) (code : Texts) (n t : ℕ) (g : Routine) (w : World) → AsksFrom z w (steps z code n (initializer_begins z code t g w))
+InitializersAsk = (z : Environment) (code : Texts) (n t : ℕ) (g : Routine) (w : World) → AsksFrom z w (steps z code n (initializer_begins z code t g w))
 
 -- each whole run of a command's call, told the inputs that it takes
 abbrev pub CallRunsAsk : Type 0
-CallRunsAsk = (z : Setting) (code : Texts) (budget : ℕ) (g : Routine) (vs : List Slot) (w w' : World) (end : Ending) → Runs z code (λ is. call_begins z code budget g vs (with_inputs is w)) end w' → Asks z w w'
+CallRunsAsk = (z : Environment) (code : Texts) (budget : ℕ) (g : Routine) (vs : List Slot) (w w' : World) (end : Completion) → Runs z code (λ is. call_begins z code budget g vs (with_inputs is w)) end w' → Asks z w w'
 
 -- and of an initializer
 abbrev pub InitializerRunsAsk : Type 0
-InitializerRunsAsk = (z : Setting) (code : Texts) (t : ℕ) (g : Routine) (w w' : World) (end : Ending) → Runs z code (λ is. initializer_begins z code t g (with_inputs is w)) end w' → Asks z w w'
+InitializerRunsAsk = (z : Environment) (code : Texts) (t : ℕ) (g : Routine) (w w' : World) (end : Completion) → Runs z code (λ is. initializer_begins z code t g (with_inputs is w)) end w' → Asks z w w'

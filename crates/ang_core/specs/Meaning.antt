@@ -7,13 +7,13 @@ use Rattle.ang_meaning.specs.declared.slot.Slot.TheVariants.{Bits, Script}
 use Rattle.ang_meaning.specs.declared.routine.Routine.{Routine}
 use Rattle.ang_meaning.specs.declared.routine.Callee.{Callee}
 use Rattle.ang_meaning.specs.World.{World, give, give_all, memory_step, or_else}
-use Rattle.ang_meaning.specs.Setting.{Setting, params_of}
+use Rattle.ang_meaning.specs.Environment.{Environment, params_of}
 use Rattle.ang_meaning.specs.Perform.{perform}
 use Rattle.ang_meaning.specs.Results.{Evaluated, Gave, Gathered, Ready, Ran, Went, Returned, Halted, Broken, Continued, Reply, Yields, Raises, Calls, local_at, on_test, ticked, loaded, applied, assigned, altered, chosen, then_rest, called, leave, with_value, then_run, caught, finished, enter}
-use Rattle.ang_core.specs.declared.tree.Expression.{Expression, Row_of-Expression, end_of-Expression, more_of-Expression}
-use Rattle.ang_core.specs.declared.tree.Expression.TheVariants.{Number, Null as Nothing, Local, Assign', Change', Apply', Call', Choose'}
-use Rattle.ang_core.specs.declared.tree.Statement.{Statement, Row_of-Statement, end_of-Statement, more_of-Statement}
-use Rattle.ang_core.specs.declared.tree.Statement.TheVariants.{Skip, Evaluate, Declare, Block', If', While', DoWhile', Return, Break, Continue}
+use Rattle.ang_core.specs.declared.tree.CoreExpression.{CoreExpression, Row_of-CoreExpression, end_of-CoreExpression, more_of-CoreExpression}
+use Rattle.ang_core.specs.declared.tree.CoreExpression.TheVariants.{Number, Null as Nothing, Local, Assign', Update', Apply', Call', Choose'}
+use Rattle.ang_core.specs.declared.tree.CoreStatement.{CoreStatement, Row_of-CoreStatement, end_of-CoreStatement, more_of-CoreStatement}
+use Rattle.ang_core.specs.declared.tree.CoreStatement.TheVariants.{Skip, Evaluate, Declare, Block', If', While', DoWhile', Return, Break, Continue}
 
 -- the calls that a body makes
 abbrev pub Callees : Type 0
@@ -21,23 +21,23 @@ Callees = Callee → List Slot → ℕ → World → Reply
 
 -- one pass of a loop, its tick taken: the test, the body and the step
 abbrev pub Passes : Type 0
-Passes = Expression → Statement → Statement → List Slot → ℕ → World → Ran
+Passes = CoreExpression → CoreStatement → CoreStatement → List Slot → ℕ → World → Ran
 
 -- An expression in module m.
 abbrev mutual
-  pub eval : Setting → ℕ → Callees → Expression → List Slot → ℕ → World → Evaluated
+  pub eval : Environment → ℕ → Callees → CoreExpression → List Slot → ℕ → World → Evaluated
   eval z m c (Number n) ls t w = Gave (Bits n) ls t w
   eval z m c Nothing ls t w = Gave (Script None) ls t w
   eval z m c (Local i) ls t w = loaded (local_at ls i) ls t w
   eval z m c (Assign' i p e) ls t w = assigned i (eval z m c e ls t w)
-  eval z m c (Change' i by p e) ls t w = altered i by (eval z m c e ls t w)
+  eval z m c (Update' i by p e) ls t w = altered i by (eval z m c e ls t w)
   eval z m c (Apply' o shape args) ls t w = applied (perform z m o) (eval_args z m c args [] ls t w)
   eval z m c (Call' f shape args outs) ls t w = called m (c f) outs.items (eval_args z m c args [] ls t w)
   eval z m c (Choose' p a q b s d) ls t w = chosen (eval z m c a ls t w) (eval z m c b) (eval z m c d)
 
-  pub eval_args : {k : _} → Setting → ℕ → Callees → Row_of-Expression k → List Slot → List Slot → ℕ → World → Gathered
-  eval_args z m c end_of-Expression vs ls t w = Ready vs ls t w
-  eval_args z m c (more_of-Expression e rest) vs ls t w =
+  pub eval_args : {k : _} → Environment → ℕ → Callees → Row_of-CoreExpression k → List Slot → List Slot → ℕ → World → Gathered
+  eval_args z m c end_of-CoreExpression vs ls t w = Ready vs ls t w
+  eval_args z m c (more_of-CoreExpression e rest) vs ls t w =
       then_rest vs (eval z m c e ls t w) (λ v ls' t' w'. eval_args z m c rest (v ∷ vs) ls' t' w')
 
 -- the rest of a loop's pass after its test, where it leaves n locals: the body, the step, and the tick of the next pass
@@ -46,7 +46,7 @@ turned n body step next =
     caught n body (λ ls t w. then_run (leave (length ls) (step ls t w)) (λ ls' t' w'. ticked t' (Halted Budget ls' w') (λ t''. next ls' t'' w')))
 
 abbrev mutual
-  pub run : Setting → ℕ → Callees → Passes → Statement → List Slot → ℕ → World → Ran
+  pub run : Environment → ℕ → Callees → Passes → CoreStatement → List Slot → ℕ → World → Ran
   run z m c p Skip ls t w = Went ls t w
   run z m c p (Evaluate e) ls t w = with_value (eval z m c e.value ls t w) (λ v ls' t' w'. Went ls' t' (give v w'))
   run z m c p (Declare e) ls t w = with_value (eval z m c e.value ls t w) (λ v ls' t' w'. Went (v ∷ ls') t' w')
@@ -61,12 +61,12 @@ abbrev mutual
   run z m c p Break ls t w = Broken ls t w
   run z m c p Continue ls t w = Continued ls t w
 
-  pub run_row : {k : _} → Setting → ℕ → Callees → Passes → Row_of-Statement k → List Slot → ℕ → World → Ran
-  run_row z m c p end_of-Statement ls t w = Went ls t w
-  run_row z m c p (more_of-Statement s rest) ls t w = then_run (run z m c p s ls t w) (λ ls' t' w'. run_row z m c p rest ls' t' w')
+  pub run_row : {k : _} → Environment → ℕ → Callees → Passes → Row_of-CoreStatement k → List Slot → ℕ → World → Ran
+  run_row z m c p end_of-CoreStatement ls t w = Went ls t w
+  run_row z m c p (more_of-CoreStatement s rest) ls t w = then_run (run z m c p s ls t w) (λ ls' t' w'. run_row z m c p rest ls' t' w')
 
 -- one pass of a loop
-abbrev pub pass : Setting → ℕ → Callees → Passes → Passes
+abbrev pub pass : Environment → ℕ → Callees → Passes → Passes
 pass z m c p e s step ls t w =
     with_value (eval z m c e ls t w)
     (λ v ls' t' w'. on_test v (Halted Null ls' (give v w')) (Went ls' t' w')
@@ -74,30 +74,30 @@ pass z m c p e s step ls t w =
 
 -- the statement of each function's body
 abbrev pub Bodies : Type 0
-Bodies = Routine → Statement
+Bodies = Routine → CoreStatement
 
 -- Bodies and loops where fewer than n ticks are left; d counts the callers of the body. With no n left a run has used up its ticks before.
 abbrev mutual
-  pub body_at : Setting → Bodies → ℕ → ℕ → Calls
+  pub body_at : Environment → Bodies → ℕ → ℕ → Calls
   body_at z bodies zero d g vs t w = Raises Budget w
   body_at z bodies (suc n) d g vs t w =
       finished (params_of z g) (run z g.home (enter z (body_at z bodies n (suc d)) d g.home) (pass_at z bodies n d g.home) (bodies g) vs t w)
 
-  pub pass_at : Setting → Bodies → ℕ → ℕ → ℕ → Passes
+  pub pass_at : Environment → Bodies → ℕ → ℕ → ℕ → Passes
   pass_at z bodies zero d m e s step ls t w = Halted Budget ls w
   pass_at z bodies (suc n) d m e s step ls t w =
       pass z m (enter z (body_at z bodies n (suc d)) d m) (pass_at z bodies n d m) e s step ls t w
 
 -- the entry of a body that wants memory for its frame
-abbrev pub begun : Setting → Bodies → Routine → List Slot → ℕ → World → Reply
+abbrev pub begun : Environment → Bodies → Routine → List Slot → ℕ → World → Reply
 begun z bodies g vs t w = or_else (memory_step w) (λ w'. Raises Memory (give_all vs w')) (λ w'. body_at z bodies (suc t) 0 g vs t w')
 
 -- A command's call of a function with a budget of ticks: its entry takes one.
-abbrev pub called_with : Setting → Bodies → ℕ → Routine → List Slot → World → Reply
+abbrev pub called_with : Environment → Bodies → ℕ → Routine → List Slot → World → Reply
 called_with z bodies budget g vs w = ticked budget (Raises Budget (give_all vs w)) (λ t. begun z bodies g vs t w)
 
 -- An initializer's run, with t ticks left: its entry takes none.
-abbrev pub initialized : Setting → Bodies → ℕ → Routine → World → Reply
+abbrev pub initialized : Environment → Bodies → ℕ → Routine → World → Reply
 initialized z bodies t g w = begun z bodies g [] t w
 
 -- what follows an initializer
@@ -106,6 +106,6 @@ then_initialized (Yields v outs t w) go = go t (give v w)
 then_initialized (Raises f w) go = Raises f w
 
 -- A build's initializers in order of declaration, on one budget: each stores into its global, and a fault ends them.
-abbrev pub initialized_all : Setting → Bodies → List Routine → ℕ → World → Reply
+abbrev pub initialized_all : Environment → Bodies → List Routine → ℕ → World → Reply
 initialized_all z bodies [] t w = Yields (Bits 0) [] t w
 initialized_all z bodies (g ∷ gs) t w = then_initialized (initialized z bodies t g w) (λ t' w'. initialized_all z bodies gs t' w')

@@ -4,4 +4,4 @@
 
 mod tree;
 
-pub use tree::{Body, Expression, Statement};
+pub use tree::{CoreBody, CoreExpression, CoreStatement};

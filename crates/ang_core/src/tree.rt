@@ -1,10 +1,10 @@
 //! Bodies of script functions and of initializers.
 use ang_kinds::Prim;
-use ang_meaning::{Callee, Change, Operation, Passing, Target};
+use ang_meaning::{Callee, Update, Operation, Passing, Target};
 
 /// An expression. A local is counted from the innermost one, which is 0; parameters are locals.
 #[derive(Drop)]
-pub enum Expression {
+pub enum CoreExpression {
     /// A number or truth value in its canonical form.
     Number(u64),
     /// Null.
@@ -12,39 +12,39 @@ pub enum Expression {
     /// The value of a local.
     Local(usize),
     /// Stores the value into a local; its value is what was stored.
-    Assign(usize, Box<Expression>),
+    Assign(usize, Box<CoreExpression>),
     /// Changes a local by the value.
-    Change(usize, Change, Box<Expression>),
+    Update(usize, Update, Box<CoreExpression>),
     /// A strict operation on its operands, in the order in which they are evaluated.
-    Apply(Operation, Vec<Expression>),
+    Apply(Operation, Vec<CoreExpression>),
     /// A call of a script function with all its arguments, in order, and the variables that its `&out`
     /// parameters' values move into, the last one first. The argument of an `&out` parameter is 0, false
     /// or null.
-    Call(Callee, Vec<Expression>, Vec<Target>),
+    Call(Callee, Vec<CoreExpression>, Vec<Target>),
     /// The second where the first is true, and else the third.
-    Choose(Box<Expression>, Box<Expression>, Box<Expression>),
+    Choose(Box<CoreExpression>, Box<CoreExpression>, Box<CoreExpression>),
 }
 
 /// A statement.
 #[derive(Drop)]
-pub enum Statement {
+pub enum CoreStatement {
     /// Nothing.
     Skip,
     /// Gives up the expression's value.
-    Evaluate(Box<Expression>),
+    Evaluate(Box<CoreExpression>),
     /// A new innermost local with that value.
-    Declare(Box<Expression>),
+    Declare(Box<CoreExpression>),
     /// Statements in turn, whose locals are given up at its end.
-    Block(Vec<Statement>),
+    Block(Vec<CoreStatement>),
     /// The first where the test is true, and else the second; each is a block.
-    If(Box<Expression>, Box<Statement>, Box<Statement>),
+    If(Box<CoreExpression>, Box<CoreStatement>, Box<CoreStatement>),
     /// A loop: a tick and the test, then the first, which is a block, and the second, which is the loop's
     /// step.
-    While(Box<Expression>, Box<Statement>, Box<Statement>),
+    While(Box<CoreExpression>, Box<CoreStatement>, Box<CoreStatement>),
     /// A loop whose first pass has no test and no tick before it.
-    DoWhile(Box<Expression>, Box<Statement>),
+    DoWhile(Box<CoreExpression>, Box<CoreStatement>),
     /// Leaves the body with that value; 0 where it has no result.
-    Return(Box<Expression>),
+    Return(Box<CoreExpression>),
     /// Leaves the innermost loop.
     Break,
     /// Goes on with the step of the innermost loop.
@@ -53,11 +53,11 @@ pub enum Statement {
 
 /// A function, or an initializer's body, which has no parameters.
 #[derive(Drop)]
-pub struct Body {
+pub struct CoreBody {
     /// How each parameter takes its argument, the last parameter first.
     pub params: Vec<Passing>,
     /// The primitive type of its value, if it is of one. An initializer's value is of none.
     pub result: Option<Prim>,
     /// What it does.
-    pub statement: Statement,
+    pub statement: CoreStatement,
 }

@@ -10,7 +10,7 @@ use Rattle.ang_kinds.specs.declared.value.Value.TheVariants.{Int, Uint, Bool as 
 use Rattle.ang_view.specs.Registration.{RegistrationList}
 use Rattle.ang_types.specs.declared.arg_type.ArgType.{ArgType}
 use Rattle.ang_types.specs.declared.arg_type.ArgType.TheVariants.{Void, Null, Plain, Enumeration, Object, Handle}
-use Rattle.ang_typed.specs.declared.program.Parameter.{Parameter}
+use Rattle.ang_typed.specs.declared.program.TypedParameter.{TypedParameter}
 use Rattle.ang_typed.specs.Typed as t
 use Rattle.ang_names_known.specs.declared.names.Names.{Names}
 use Rattle.ang_names_known.specs.declared.names.ScriptFunction.{ScriptFunction}
@@ -20,7 +20,7 @@ use Rattle.ang_check.specs.Typing.{typed_parameter, typed_parameters}
 use Rattle.ang_check_sound.specs.Checked.{HasNames, module_in}
 use Rattle.ang_meaning.specs.declared.slot.Slot.{Slot}
 use Rattle.ang_meaning.specs.declared.slot.Slot.TheVariants.{Bits}
-use Rattle.ang_meaning.specs.declared.host.HostType.TheVariants.{Plain as PlainType}
+use Rattle.ang_meaning.specs.declared.host.HostValueType.TheVariants.{Plain as PlainType}
 use Rattle.ang_meaning.specs.Hosts.{if_within, slot_of}
 use Rattle.ang_meaning.specs.Counting.{Thing, names as names_in, how_many}
 use Rattle.ang_meaning.specs.World.{Input, World as RunWorld, with_inputs}
@@ -176,9 +176,9 @@ reverse-plain vs h = λ x. many_reverse x vs ∙ h x
 pub takes-named : (V : RegistrationList) (names : Names) (ss : List Source) (ms : List Module) (m n : ℕ) (f : ScriptFunction) (slots : List Slot)
     → HasNames V names ss (module_at ms m).tree → IsOneOf names.functions n f slots → TakesSoMany ms m n (length slots)
 takes-named V names ss ms m n f slots has one =
-    let ps : List Parameter = typed_parameters f in
+    let ps : List TypedParameter = typed_parameters f in
     let named : slice_get (module_in V names).parameters n ≡ Some ps = get-front (map typed_parameters names.functions) _ n ps (get-map typed_parameters names.functions n f one.at) in
-    let here = map-get (λ (g : t.Function). g.parameters) (module_at ms m).tree.functions n ps (ap (λ xs. slice_get xs n) has.parameters ∙ named) in
+    let here = map-get (λ (g : t.TypedFunction). g.parameters) (module_at ms m).tree.functions n ps (ap (λ xs. slice_get xs n) has.parameters ∙ named) in
     record {
       function = here.item;
       at = here.at;
@@ -204,10 +204,10 @@ pub typed-named : (V : RegistrationList) (names : Names) (ss : List Source) (ms 
     → HasNames V names ss (module_at ms m).tree → slice_get names.functions n ≡ Some f → IsTyped ms names m n
 typed-named V names ss ms m n f has at =
     let named : slice_get (map (λ (h : ScriptFunction). h.result.ty) names.functions) n ≡ Some f.result.ty = get-map (λ (h : ScriptFunction). h.result.ty) names.functions n f at in
-    let front : slice_get (take (length names.functions) (map (λ (g : t.Function). g.result) (module_at ms m).tree.functions)) n ≡ Some f.result.ty =
+    let front : slice_get (take (length names.functions) (map (λ (g : t.TypedFunction). g.result) (module_at ms m).tree.functions)) n ≡ Some f.result.ty =
     ap (λ xs. slice_get xs n) has.results ∙ named in
-    let here = map-get (λ (g : t.Function). g.result) (module_at ms m).tree.functions n f.result.ty
-    (taken-at (length names.functions) n (map (λ (g : t.Function). g.result) (module_at ms m).tree.functions) f.result.ty front) in
+    let here = map-get (λ (g : t.TypedFunction). g.result) (module_at ms m).tree.functions n f.result.ty
+    (taken-at (length names.functions) n (map (λ (g : t.TypedFunction). g.result) (module_at ms m).tree.functions) f.result.ty front) in
     record {
       function = f;
       at = at;

@@ -5,7 +5,7 @@ use Rattle.std.proofs.lemmas.Slice.Eq.{bytes_eq-Decides}
 use Rattle.ang_kinds.specs.declared.error.Error.{Error}
 use Rattle.ang_view.specs.Registration.{RegistrationList}
 use Rattle.ang_typed.specs.declared.program.Heading.{Heading}
-use Rattle.ang_typed.specs.declared.program.Parameter.{Parameter}
+use Rattle.ang_typed.specs.declared.program.TypedParameter.{TypedParameter}
 use Rattle.ang_typed.specs.Typed as t
 use Rattle.ang_typed.specs.View.{view_typed}
 use Rattle.ang_names_known.specs.declared.names.ScriptFunction.{ScriptFunction}
@@ -57,7 +57,7 @@ program_imports V sections r is = imports_after V (sources_of 0 sections) r is
 abbrev way_of : Passed → Passing
 way_of q = passing_by q.pass q.written.ty
 
-ways : (ps : List ScriptParameter) → map (λ (p : Parameter). passing_of p) (map typed_parameter ps) ≡ map way_of (map passed_of ps)
+ways : (ps : List ScriptParameter) → map (λ (p : TypedParameter). passing_of p) (map typed_parameter ps) ≡ map way_of (map passed_of ps)
 ways [] = refl
 ways (p ∷ ps) = ap (λ l. passing_by p.pass p.written.ty ∷ l) (ways ps)
 
@@ -112,13 +112,13 @@ module _ (xs : List (Option LoadedModule)) (m i j n : ℕ) (p q : LoadedModule) 
 
   function_so : (ss : List Source) → HasNames q.view q.names ss (view_typed q.tree) → slice_get (passings_in (module_at (modules_of xs) j).tree) n ≡ Some ways_taken
   function_so ss has =
-      let ps : List Parameter = typed_parameters g.function in
+      let ps : List TypedParameter = typed_parameters g.function in
       let tree : t.Program = view_typed q.tree in
       let named : slice_get (module_in q.view q.names).parameters n ≡ Some ps = get-front (map typed_parameters q.names.functions) _ n ps (get-map typed_parameters q.names.functions n g.function g.at) in
-      let here = map-get (λ (f : t.Function). f.parameters) tree.functions n ps (ap (λ l. slice_get l n) has.parameters ∙ named) in
+      let here = map-get (λ (f : t.TypedFunction). f.parameters) tree.functions n ps (ap (λ l. slice_get l n) has.parameters ∙ named) in
       ap (λ x. slice_get (passings_in x.tree) n) (module_loaded xs j ∙ ap module_of exporter)
-      ∙ get-front (map (λ (f : t.Function). passings_of f.parameters) tree.functions) (map (λ c. []) (initializers_from 0 tree.globals)) n (passings_of here.item.parameters)
-      (get-map (λ (f : t.Function). passings_of f.parameters) tree.functions n here.item here.at)
+      ∙ get-front (map (λ (f : t.TypedFunction). passings_of f.parameters) tree.functions) (map (λ c. []) (initializers_from 0 tree.globals)) n (passings_of here.item.parameters)
+      (get-map (λ (f : t.TypedFunction). passings_of f.parameters) tree.functions n here.item here.at)
       ∙ ap (λ l. Some (passings_of l)) here.same
       ∙ ap (λ l. Some l) (sym (takes_alike import g.function g.same))
 

@@ -11,7 +11,7 @@ use Rattle.ang_typed.specs.Typed as t
 use Rattle.ang_meaning.specs.declared.class.ValueKind.{ValueKind}
 use Rattle.ang_meaning.specs.declared.class.ValueKind.TheVariants.{Number, Handle}
 use Rattle.ang_meaning.specs.declared.slot.Slot.{Slot}
-use Rattle.ang_meaning.specs.Setting.{default_of}
+use Rattle.ang_meaning.specs.Environment.{default_of}
 use Rattle.ang_meaning.specs.Counting.{Thing, names, how_many, IsCounted}
 use Rattle.ang_meaning.specs.World.{World as RunWorld}
 use Rattle.ang_meaning.specs.Told.{answers_listed}

@@ -10,8 +10,8 @@ use Rattle.ang_check.specs.Denials.{AreErrors}
 use Rattle.ang_engine_build.specs.declared.program.NoProgram.{NoProgram}
 use Rattle.ang_engine_build.specs.declared.program.NoProgram.TheVariants as no
 use Rattle.ang_engine_build.specs.declared.program.Program.{Program}
-use Rattle.ang_engine_build.specs.declared.stop.Stop.{Stop}
-use Rattle.ang_engine_build.specs.declared.stop.Stop.TheVariants as stop
+use Rattle.ang_engine_build.specs.declared.stop.SourceError.{SourceError}
+use Rattle.ang_engine_build.specs.declared.stop.SourceError.TheVariants as stop
 use Rattle.ang_engine_build.specs.Build.{Built, Errors, Compiled, resolved_of}
 
 -- the program or the errors, unless memory was refused
@@ -27,7 +27,7 @@ HasDenials (Err (no.Errors es ds)) denials = ds ≡ denials
 HasDenials (Err no.Memory) denials = Unit {0}
 
 -- the one error, without denials, unless memory was refused
-abbrev pub IsOneError : NoProgram → Stop → Type 0
+abbrev pub IsOneError : NoProgram → SourceError → Type 0
 IsOneError (no.Errors es ds) (stop.Fault e) = (es ≡ e ∷ []) × (ds ≡ [])
 IsOneError (no.Errors es ds) stop.Memory = ⊥
 IsOneError no.Memory u = Unit {0}

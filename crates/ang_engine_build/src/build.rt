@@ -8,7 +8,7 @@ ghost use Rattle.ang_engine_build.specs.Answer.{IsBuilt, HasDenials, IsOneError,
 
 use crate::program::{NoProgram, Program};
 use crate::section::read_sections;
-use crate::stop::Stop;
+use crate::stop::SourceError;
 use ang_check::{check, denials};
 use ang_kinds::{List, Mask, Unbuilt};
 use ang_names::declare;
@@ -19,10 +19,10 @@ use ang_view::View;
 use std::alloc::Global;
 
 /// The one error at which a build stops. It has no denials.
-fn one_error(alloc: Global, stop: Stop) -> NoProgram
+fn one_error(alloc: Global, stop: SourceError) -> NoProgram
     ensures exact { IsOneError result stop }
 {
-    let Stop::Fault(error) = stop else {
+    let SourceError::Fault(error) = stop else {
         return NoProgram::Memory;
     };
     let mut errors = Vec::new(alloc);

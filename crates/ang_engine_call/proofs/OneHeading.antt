@@ -12,14 +12,14 @@ use Rattle.ang_names_known.specs.Items.{each_after, list_or}
 use Rattle.ang_names_known.specs.Spaces.{Space}
 use Rattle.ang_names_listed.specs.Sources.{Source}
 use Rattle.ang_names_listed.specs.Spellings.{same_spellings}
-use Rattle.ang_names_listed.specs.declared.listed.Declared.{Declared}
+use Rattle.ang_names_listed.specs.declared.listed.ListedDeclaration.{ListedDeclaration}
 use Rattle.ang_names_listed.specs.declared.listed.Part.{Part}
 use Rattle.ang_names_listed.specs.declared.listed.Part.TheVariants as part
 use Rattle.ang_names_listed.specs.Declarations.{Declaring, declarations_of, declared_name, families_of}
 use Rattle.ang_names_listed.specs.Taken.{excludes, clashes, clashes_with_host, is_taken, is_first_above, name_refusal}
 use Rattle.ang_names.specs.Phases as phase
 use Rattle.ang_names.specs.Refusals.{parameter_limit, parameters_refusal, parameter_list_refusal, part_refusal, type_refusal, type_refusal_of}
-use Rattle.ang_names_listed.specs.declared.role.Role.TheVariants as role
+use Rattle.ang_names_listed.specs.declared.role.TypePosition.TheVariants as role
 use Rattle.ang_names.specs.Phases.{first_refusals, refusals, refusals_of}
 use Rattle.ang_names_classes.specs.Headings.{heading_of as meant_heading}
 use Rattle.ang_names_classes.specs.Resolved.{function_by, function_of, names_of, space_of_declared}
@@ -31,7 +31,7 @@ use Rattle.ang_engine_call.proofs.Spelled.{same_lists, both_none}
 -- ---- two declarations
 
 -- A function and one of the same heading, which no phase refuses, can't stand beside each other.
-no_clash : (E : Space) (fs : List Declaring) (d x : Declared) (p q : Part) (f g : ScriptFunction) → length E.view ≤ 1024
+no_clash : (E : Space) (fs : List Declaring) (d x : ListedDeclaration) (p q : Part) (f g : ScriptFunction) → length E.view ≤ 1024
     → (bytes_eq (declared_name x) (declared_name d) && excludes x.text q d.text p) ≡ false → part_refusal E fs d p ≡ None → part_refusal E fs x q ≡ None
     → function_by E d p ≡ Some f → function_by E x q ≡ Some g → heading_of f ≡ heading_of g → ⊥
 no_clash E fs d x (part.Family s) q f g small apart a b e h same = cc
@@ -77,27 +77,27 @@ right_false : (b c : Bool) → (b || c) ≡ false → c ≡ false
 right_false true c h = cc
 right_false false c h = h
 
-free_name : (V : RegistrationList) (before : List Declared) (x : Declared) → name_refusal V before x ≡ None → list_any (clashes x) before ≡ false
+free_name : (V : RegistrationList) (before : List ListedDeclaration) (x : ListedDeclaration) → name_refusal V before x ≡ None → list_any (clashes x) before ≡ false
 unfolding name_refusal is_taken
 free_name V before x e =
     left_false (list_any (clashes x) before) (list_any (clashes_with_host x) V) (untaken (list_any (clashes x) before || list_any (clashes_with_host x) V) (is_first_above before x.part) _ _ e)
 
 -- ---- a declaration among those that stand before others
 
-Stands : Declared → List Declared → Type 0
-Stands d before = (x : Declared) → list_any (clashes x) before ≡ false → clashes x d ≡ false
+Stands : ListedDeclaration → List ListedDeclaration → Type 0
+Stands d before = (x : ListedDeclaration) → list_any (clashes x) before ≡ false → clashes x d ≡ false
 
-stands_last : (d : Declared) (before : List Declared) → Stands d (before ++ d ∷ [])
+stands_last : (d : ListedDeclaration) (before : List ListedDeclaration) → Stands d (before ++ d ∷ [])
 unfolding Stands
 stands_last d before x e =
     left_false (clashes x d) false (right_false (list_any (clashes x) before) (clashes x d || false) (sym (list_any-append (clashes x) before (d ∷ [])) ∙ e))
 
-stands_more : (d y : Declared) (before : List Declared) → Stands d before → Stands d (before ++ y ∷ [])
+stands_more : (d y : ListedDeclaration) (before : List ListedDeclaration) → Stands d before → Stands d (before ++ y ∷ [])
 unfolding Stands
 stands_more d y before h x e =
     h x (left_false (list_any (clashes x) before) (clashes x y || false) (sym (list_any-append (clashes x) before (y ∷ [])) ∙ e))
 
-stands_apart : (d x : Declared) (before : List Declared) → Stands d before → list_any (clashes x) before ≡ false → clashes x d ≡ false
+stands_apart : (d x : ListedDeclaration) (before : List ListedDeclaration) → Stands d before → list_any (clashes x) before ≡ false → clashes x d ≡ false
 unfolding Stands
 stands_apart d x before h e = h x e
 
@@ -110,18 +110,18 @@ at_or_behind (Some f) rest zero g e P now later = now e
 at_or_behind (Some f) rest (suc k) g e P now later = later k e
 
 -- What the first two phases refuse of a list, after these declarations.
-abbrev names_behind : RegistrationList → List Declared → List Declared → List Refused
+abbrev names_behind : RegistrationList → List ListedDeclaration → List ListedDeclaration → List Refused
 names_behind V before xs = each_after (λ before d. option_to_list (name_refusal V before d)) before xs
 
-abbrev types_behind : RegistrationList → List Declared → List Declared → List Declared → List Refused
+abbrev types_behind : RegistrationList → List ListedDeclaration → List ListedDeclaration → List ListedDeclaration → List Refused
 types_behind V all before xs = each_after (λ before d. option_to_list (type_refusal (space_of_declared V all) all d)) before xs
 
-module _ (V : RegistrationList) (small : length V ≤ 1024) (all : List Declared) where
+module _ (V : RegistrationList) (small : length V ≤ 1024) (all : List ListedDeclaration) where
   abbrev E : Space
   E = space_of_declared V all
 
   -- none after a function has its heading
-  apart_from : (d : Declared) (f : ScriptFunction) → function_of E d ≡ Some f → type_refusal E all d ≡ None → (before typed xs : List Declared) → Stands d before
+  apart_from : (d : ListedDeclaration) (f : ScriptFunction) → function_of E d ≡ Some f → type_refusal E all d ≡ None → (before typed xs : List ListedDeclaration) → Stands d before
       → names_behind V before xs ≡ [] → types_behind V all typed xs ≡ [] → (k : ℕ) (g : ScriptFunction) → slice_get (filter_map (function_of E) xs) k ≡ Some g → heading_of f ≡ heading_of g → ⊥
   unfolding function_of type_refusal
   apart_from d f is fine before typed [] stands names types k g at same = cc
@@ -145,7 +145,7 @@ module _ (V : RegistrationList) (small : length V ≤ 1024) (all : List Declared
   differ_with (Some x) rest h apart (suc n) zero f g e i same = absurd (apart g i n f e (sym same))
   differ_with (Some x) rest h apart (suc n) (suc k) f g e i same = ap suc (h n k f g e i same)
 
-  differ : (before typed ds : List Declared) → names_behind V before ds ≡ [] → types_behind V all typed ds ≡ [] → Differ (filter_map (function_of E) ds)
+  differ : (before typed ds : List ListedDeclaration) → names_behind V before ds ≡ [] → types_behind V all typed ds ≡ [] → Differ (filter_map (function_of E) ds)
   unfolding Differ
   differ before typed [] names types = λ n k f g e i same. cc
   differ before typed (d ∷ ds) names types =

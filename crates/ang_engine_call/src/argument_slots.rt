@@ -4,7 +4,7 @@ ghost use Rattle.ang_engine_call.specs.Calls as spec;
 
 use crate::callable::{NO_DRIVER, primitive_of};
 use ang_kinds::Value;
-use ang_meaning::{HostType, Slot};
+use ang_meaning::{HostValueType, Slot};
 use ang_names_known::{ScriptFunction, ScriptParameter};
 use ang_vm_numbers::slot_from;
 use std::alloc::{AllocError, Global};
@@ -14,7 +14,7 @@ fn argument_of(param: &ScriptParameter, value: &Value) -> Option<Slot>
     ensures exact { result ≡ spec.argument_of param.now value.now }
 {
     match primitive_of(param.written.ty) {
-        Some(of) => slot_from(NO_DRIVER, HostType::Plain(of), value),
+        Some(of) => slot_from(NO_DRIVER, HostValueType::Plain(of), value),
         None => None,
     }
 }

@@ -8,7 +8,7 @@ use Rattle.ang_view.specs.declared.entry.Entry.{Entry}
 use Rattle.ang_meaning.specs.declared.slot.Slot.{Slot}
 use Rattle.ang_meaning.specs.World.{World, give}
 use Rattle.ang_meaning.specs.Told.{answers_listed}
-use Rattle.ang_meaning.specs.Setting.{may_call, may_access}
+use Rattle.ang_meaning.specs.Environment.{may_call, may_access}
 use Rattle.ang_meaning.proofs.Moving.{give_moves}
 use Rattle.ang_code_laws.specs.Asked.{IsAskedBy, Asks}
 use Rattle.ang_lower.specs.Hosts.{asked_as}

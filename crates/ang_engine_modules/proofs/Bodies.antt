@@ -9,18 +9,18 @@ use Rattle.ang_source.specs.Meaning.{Code, passings_of, passings_in, primitive_o
 use Rattle.ang_engine_modules.specs.Executed.{routines_from, initializers_of}
 
 -- how a function takes its arguments
-abbrev taken : tree.Function → List Passing
+abbrev taken : tree.TypedFunction → List Passing
 taken f = passings_of f.parameters
 
 abbrev nothing_taken : List Code → List (List Passing)
 nothing_taken cs = map (λ c. []) cs
 
-function_at : (fs : List tree.Function) (cs : List Code) (n : ℕ) (f : tree.Function) → slice_get fs n ≡ Some f → slice_get (map taken fs ++ nothing_taken cs) n ≡ Some (taken f)
+function_at : (fs : List tree.TypedFunction) (cs : List Code) (n : ℕ) (f : tree.TypedFunction) → slice_get fs n ≡ Some f → slice_get (map taken fs ++ nothing_taken cs) n ≡ Some (taken f)
 function_at [] cs n f at = absurd (cc)
 function_at (g ∷ fs) cs zero f at = let same : g ≡ f = cc in ap (λ h. Some (taken h)) same
 function_at (g ∷ fs) cs (suc n) f at = function_at fs cs n f at
 
-pub takes_as : (p : tree.Program) (n : ℕ) (f : tree.Function) → slice_get p.functions n ≡ Some f → slice_get (passings_in p) n ≡ Some (passings_of f.parameters)
+pub takes_as : (p : tree.Program) (n : ℕ) (f : tree.TypedFunction) → slice_get p.functions n ≡ Some f → slice_get (passings_in p) n ≡ Some (passings_of f.parameters)
 takes_as p n f at = function_at p.functions (initializers_from 0 p.globals) n f at
 
 none_taken : (cs : List Code) (k : ℕ) → k < length cs → slice_get (nothing_taken cs) k ≡ Some []
@@ -28,19 +28,19 @@ none_taken [] k h = absurd (omega arith)
 none_taken (c ∷ cs) zero h = refl
 none_taken (c ∷ cs) (suc k) h = none_taken cs k (omega arith)
 
-initializer_at : (fs : List tree.Function) (cs : List Code) (k n : ℕ) → n ≡ length fs + k → k < length cs → slice_get (map taken fs ++ nothing_taken cs) n ≡ Some []
+initializer_at : (fs : List tree.TypedFunction) (cs : List Code) (k n : ℕ) → n ≡ length fs + k → k < length cs → slice_get (map taken fs ++ nothing_taken cs) n ≡ Some []
 initializer_at [] cs k n at h = let same : n ≡ k = omega arith in ap (λ i. slice_get (nothing_taken cs) i) same ∙ none_taken cs k h
 initializer_at (f ∷ fs) cs k zero at h = absurd (omega arith)
 initializer_at (f ∷ fs) cs k (suc n) at h = initializer_at fs cs k n (omega arith) h
 
 -- the primitive type of a function's value
-typed_at : (fs : List tree.Function) (cs : List Code) (n : ℕ) (f : tree.Function) → slice_get fs n ≡ Some f
-    → slice_get (map (λ (x : tree.Function). primitive_of x.result) fs ++ map {B = Option Primitive} (λ c. None) cs) n ≡ Some (primitive_of f.result)
+typed_at : (fs : List tree.TypedFunction) (cs : List Code) (n : ℕ) (f : tree.TypedFunction) → slice_get fs n ≡ Some f
+    → slice_get (map (λ (x : tree.TypedFunction). primitive_of x.result) fs ++ map {B = Option Primitive} (λ c. None) cs) n ≡ Some (primitive_of f.result)
 typed_at [] cs n f at = absurd (cc)
-typed_at (g ∷ fs) cs zero f at = let same : g ≡ f = cc in ap (λ (h : tree.Function). Some (primitive_of h.result)) same
+typed_at (g ∷ fs) cs zero f at = let same : g ≡ f = cc in ap (λ (h : tree.TypedFunction). Some (primitive_of h.result)) same
 typed_at (g ∷ fs) cs (suc n) f at = typed_at fs cs n f at
 
-pub gives_as : (p : tree.Program) (n : ℕ) (f : tree.Function) → slice_get p.functions n ≡ Some f → slice_get (results_in p) n ≡ Some (primitive_of f.result)
+pub gives_as : (p : tree.Program) (n : ℕ) (f : tree.TypedFunction) → slice_get p.functions n ≡ Some f → slice_get (results_in p) n ≡ Some (primitive_of f.result)
 gives_as p n f at = typed_at p.functions (initializers_from 0 p.globals) n f at
 
 -- the place of a routine among those that are counted from a number on

@@ -7,11 +7,11 @@ use Rattle.ang_typed.specs.Typed as tree
 use Rattle.ang_meaning.specs.declared.slot.Slot.{Slot}
 use Rattle.ang_meaning.specs.World.{World, Input, with_inputs, give}
 use Rattle.ang_meaning.specs.Counting.{IsCounted}
-use Rattle.ang_meaning.specs.Setting.{Setting}
+use Rattle.ang_meaning.specs.Environment.{Environment}
 use Rattle.ang_meaning.specs.Results.{Reply}
 use Rattle.ang_meaning.proofs.Counted.{give_counted}
 use Rattle.ang_code.specs.Machine.{Config, Over, Stuck, steps, call_begins}
-use Rattle.ang_code.specs.Runs.{Runs, Ending, Gives, Stops, ended}
+use Rattle.ang_code.specs.Runs.{Runs, Completion, Gives, Stops, ended}
 use Rattle.ang_code.specs.Told.{ComesFrom}
 use Rattle.ang_code.proofs.Telling.{calls_come_from}
 use Rattle.ang_code_laws.proofs.Whole.{call_runs_ask}
@@ -35,11 +35,11 @@ use Rattle.ang_engine_modules.proofs.Asking.{asks_more, gives_more}
 use Rattle.ang_engine_modules.proofs.Bodies.{takes_as}
 
 -- the arguments are as many as the function's parameters
-counted : (f : tree.Function) (args : List Slot) → length f.parameters ≡ length args → length (passings_of f.parameters) ≡ length (reverse args)
+counted : (f : tree.TypedFunction) (args : List Slot) → length f.parameters ≡ length args → length (passings_of f.parameters) ≡ length (reverse args)
 counted f args e = passings_count f.parameters ∙ e ∙ sym (length-reverse args)
 
 module _ (t : Table) (ms : List Module) (is : IsTableOf t ms) (budget m n : ℕ) (args : List Slot) (takes : TakesSoMany ms m n (length args)) (before : World) where
-  abbrev z : Setting
+  abbrev z : Environment
   z = setting_for ms 200
 
   abbrev from : List Input → Config
@@ -58,7 +58,7 @@ module _ (t : Table) (ms : List Module) (is : IsTableOf t ms) (budget m n : ℕ)
   told : (k : ℕ) (inputs : List Input) → ComesFrom (with_inputs inputs before) (steps z (texts_of t) k (from inputs))
   told k inputs = calls_come_from z (texts_of t) k budget (routine m n) (reverse args) (with_inputs inputs before)
 
-  ended_as : (end : Ending) (w : World) (run : Runs z (texts_of t) from end w) (rest : List Input) → outcome_of (reply (run.told.used ++ rest)) ≡ ended end (with_inputs rest w)
+  ended_as : (end : Completion) (w : World) (run : Runs z (texts_of t) from end w) (rest : List Input) → outcome_of (reply (run.told.used ++ rest)) ≡ ended end (with_inputs rest w)
   ended_as end w run rest = ends_as z (texts_of t) from reply comes end w run rest
 
   -- such code is never lost

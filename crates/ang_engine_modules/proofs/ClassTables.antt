@@ -4,11 +4,11 @@ use Rattle.std.specs.Prelude.{Bool, true, false, cond, nat_eq, ◌==◌, if◌th
 use Rattle.std.specs.Option.{option_or}
 use Rattle.std.proofs.lemmas.Bool.{eq-eqb}
 use Rattle.std.proofs.lemmas.List.Folds.{find-append}
-use Rattle.ang_typed.specs.declared.program.Class as families
+use Rattle.ang_typed.specs.declared.program.TypedClass as families
 use Rattle.ang_meaning.specs.declared.class.Class.{Class}
 use Rattle.ang_source.specs.Meaning.{class_of as class_in, class_among, own_body, body_by, method_among, routine}
 use Rattle.ang_vm_stack.specs.declared.table.ClassCode.{ClassCode}
-use Rattle.ang_vm_stack.specs.declared.methods.Method.{Method}
+use Rattle.ang_vm_stack.specs.declared.methods.MethodEntry.{MethodEntry}
 use Rattle.ang_vm_stack.specs.Tables.{numbered, methods_in, method_in}
 use Rattle.ang_engine_modules.specs.Loaded.{class_of}
 use Rattle.ang_engine_modules.specs.Trees.{own_methods, methods_by, ScriptClass, script_class, classes_from}
@@ -16,7 +16,7 @@ use Rattle.ang_engine_modules.specs.Trees.{own_methods, methods_by, ScriptClass,
 -- ---- methods
 
 row_method : (m s : ℕ) (r : ℕ × ℕ) (rows : List (ℕ × ℕ)) (here : Bool) → method_in (own_methods m rows) s ≡ option_map (routine m) (own_body s rows)
-    → option_map (λ (x : Method). x.function) (cond here (Some (record { slot = r.0; function = routine m r.1 })) (find (λ (x : Method). nat_eq x.slot s) (own_methods m rows)))
+    → option_map (λ (x : MethodEntry). x.function) (cond here (Some (record { slot = r.0; function = routine m r.1 })) (find (λ (x : MethodEntry). nat_eq x.slot s) (own_methods m rows)))
     ≡ option_map (routine m) (option_map (λ (q : ℕ × ℕ). q.1) (cond here (Some r) (find (λ (q : ℕ × ℕ). q.0 == s) rows)))
 row_method m s r rows true rest = refl
 row_method m s r rows false rest = rest
@@ -25,7 +25,7 @@ own_method : (m s : ℕ) (rows : List (ℕ × ℕ)) → method_in (own_methods m
 own_method m s [] = refl
 own_method m s (r ∷ rows) = row_method m s r rows (nat_eq r.0 s) (own_method m s rows)
 
-first_method : (x y : Option Method) → option_map (λ (r : Method). r.function) (option_or x y) ≡ option_or (option_map (λ (r : Method). r.function) x) (option_map (λ (r : Method). r.function) y)
+first_method : (x y : Option MethodEntry) → option_map (λ (r : MethodEntry). r.function) (option_or x y) ≡ option_or (option_map (λ (r : MethodEntry). r.function) x) (option_map (λ (r : MethodEntry). r.function) y)
 first_method None y = refl
 first_method (Some r) y = refl
 
@@ -33,13 +33,13 @@ first_body : (m : ℕ) (x y : Option ℕ) → option_or (option_map (routine m) 
 first_body m None y = refl
 first_body m (Some b) y = refl
 
-method_by : (m : ℕ) (cs : List families.Class) (s n : ℕ) (c : Option families.Class) → method_in (methods_by m cs n c) s ≡ option_map (routine m) (body_by cs s n c)
+method_by : (m : ℕ) (cs : List families.TypedClass) (s n : ℕ) (c : Option families.TypedClass) → method_in (methods_by m cs n c) s ≡ option_map (routine m) (body_by cs s n c)
 method_by m cs s n None = refl
 method_by m cs s zero (Some c) = own_method m s c.chosen
 method_by m cs s (suc n) (Some c) =
-    let above : List Method = methods_by m cs n (option_and_then (slice_get cs) c.base) in
-    let p : Method → Bool = λ x. nat_eq x.slot s in
-    ap (option_map (λ (r : Method). r.function)) (find-append p (own_methods m c.chosen) above)
+    let above : List MethodEntry = methods_by m cs n (option_and_then (slice_get cs) c.base) in
+    let p : MethodEntry → Bool = λ x. nat_eq x.slot s in
+    ap (option_map (λ (r : MethodEntry). r.function)) (find-append p (own_methods m c.chosen) above)
     ∙ first_method (find p (own_methods m c.chosen)) (find p above)
     ∙ ap (λ o. option_or o (method_in above s)) (own_method m s c.chosen)
     ∙ ap (option_or (option_map (routine m) (own_body s c.chosen))) (method_by m cs s n (option_and_then (slice_get cs) c.base))
@@ -47,7 +47,7 @@ method_by m cs s (suc n) (Some c) =
 
 -- ---- a class by its number
 
-class_from : (m : ℕ) (all cs : List families.Class) (first i n : ℕ) → n ≡ first + i → slice_get (classes_from m all first cs) i ≡ option_map (script_class m all n) (slice_get cs i)
+class_from : (m : ℕ) (all cs : List families.TypedClass) (first i n : ℕ) → n ≡ first + i → slice_get (classes_from m all first cs) i ≡ option_map (script_class m all n) (slice_get cs i)
 class_from m all [] first i n at = refl
 class_from m all (c ∷ cs) first zero n at = let same : first ≡ n = omega (arith, at) in ap (λ k. Some (script_class m all k c)) same
 class_from m all (c ∷ cs) first (suc i) n at = class_from m all cs (suc first) i n (omega (arith, at))
@@ -63,7 +63,7 @@ in_place n x y same at =
     ap (λ (k : Class). if nat_eq k.number n then Some k else None) same
     ∙ ap (λ b. if b then Some y else None) (eq-eqb y.number n at)
 
-class_as : (m n : ℕ) (all : List families.Class) (o : Option ClassCode) (q : Option families.Class) → option_map class_of o ≡ option_map (script_class m all n) q
+class_as : (m n : ℕ) (all : List families.TypedClass) (o : Option ClassCode) (q : Option families.TypedClass) → option_map class_of o ≡ option_map (script_class m all n) q
     → numbered n o ≡ option_map (class_in n) q
 class_as m n all None None e = refl
 class_as m n all None (Some c) e = absurd (cc)
@@ -72,7 +72,7 @@ class_as m n all (Some y) (Some c) e =
     let same : class_of y ≡ script_class m all n c = cc in
     in_place n y.class (class_in n c) (ap (λ (x : ScriptClass). x.class) same) refl
 
-methods_as : (m n s : ℕ) (all : List families.Class) (o : Option ClassCode) (q : Option families.Class) → option_map class_of o ≡ option_map (script_class m all n) q
+methods_as : (m n s : ℕ) (all : List families.TypedClass) (o : Option ClassCode) (q : Option families.TypedClass) → option_map class_of o ≡ option_map (script_class m all n) q
     → method_in (methods_in o) s ≡ method_in (methods_by m all (length all) q) s
 methods_as m n s all None None e = refl
 methods_as m n s all None (Some c) e = absurd (cc)
@@ -81,7 +81,7 @@ methods_as m n s all (Some y) (Some c) e =
     let same : class_of y ≡ script_class m all n c = cc in
     ap (λ (x : ScriptClass). x.method s) same
 
-module _ (m : ℕ) (all : List families.Class) (ys : List ClassCode) (same : list_map class_of ys ≡ classes_from m all 0 all) where
+module _ (m : ℕ) (all : List families.TypedClass) (ys : List ClassCode) (same : list_map class_of ys ≡ classes_from m all 0 all) where
   there : (n : ℕ) → option_map class_of (slice_get ys n) ≡ option_map (script_class m all n) (slice_get all n)
   there n = class_item ys n ∙ ap (λ l. slice_get l n) same ∙ class_from m all all 0 n n (omega arith)
 

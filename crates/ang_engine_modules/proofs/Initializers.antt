@@ -11,12 +11,12 @@ use Rattle.ang_meaning.specs.declared.routine.Passing.{Passing}
 use Rattle.ang_meaning.specs.World.{World, Input, Tried, Yes, No, with_inputs, give, give_all, memory_step, or_else}
 use Rattle.ang_meaning.specs.Told.{has_room, stopped_by, answers_told, answers_listed}
 use Rattle.ang_meaning.specs.Counting.{IsCounted}
-use Rattle.ang_meaning.specs.Setting.{Setting, params_in}
+use Rattle.ang_meaning.specs.Environment.{Environment, params_in}
 use Rattle.ang_meaning.specs.Results.{Reply, Yields, Raises, Ran, Went, Returned, Halted, Broken, Continued, finished, enter}
 use Rattle.ang_meaning.proofs.Counted.{give_counted}
 use Rattle.ang_meaning.proofs.Giving.{give_bits}
 use Rattle.ang_code.specs.Machine.{Texts, Config, Over, Stuck, steps, initializer_begins}
-use Rattle.ang_code.specs.Runs.{Runs, Ending, Gives, Stops, ended}
+use Rattle.ang_code.specs.Runs.{Runs, Completion, Gives, Stops, ended}
 use Rattle.ang_code.specs.Told.{ComesFrom}
 use Rattle.ang_code.proofs.Telling.{initializers_come_from}
 use Rattle.ang_code_laws.proofs.Whole.{initializer_runs_ask}
@@ -54,7 +54,7 @@ none_begun : (o : Tried) (out go : World → Reply) → ((w : World) → NoOuts 
 none_begun (No w) out go p q = p w
 none_begun (Yes w) out go p q = q w
 
-none_initialized : (z : Setting) (codes : Codes) (ticks : ℕ) (g : Routine) (w : World) → z.params g ≡ Some [] → NoOuts (initialized z codes ticks g w)
+none_initialized : (z : Environment) (codes : Codes) (ticks : ℕ) (g : Routine) (w : World) → z.params g ≡ Some [] → NoOuts (initialized z codes ticks g w)
 none_initialized z codes ticks g w known =
     none_begun (memory_step w) (λ w'. Raises Memory (give_all [] w')) (λ w'. body_at z codes (suc ticks) 0 g [] ticks w') (λ w'. tt)
     (λ w'. no_outs (z.params g) (run_code z g.home (enter z (body_at z codes ticks 1) 0 g.home) (pass_at z codes ticks 0 g.home) (codes g) [] ticks w') known)
@@ -62,7 +62,7 @@ none_initialized z codes ticks g w known =
 -- ---- one initializer
 
 module _ (t : Table) (ms : List Module) (is : IsTableOf t ms) (ticks m n : ℕ) (known : slice_get (passings_in (module_at ms m).tree) n ≡ Some []) (now : World) where
-  abbrev z : Setting
+  abbrev z : Environment
   z = setting_for ms 201
 
   abbrev code : Texts
@@ -84,7 +84,7 @@ module _ (t : Table) (ms : List Module) (is : IsTableOf t ms) (ticks m n : ℕ) 
   told : (k : ℕ) (inputs : List Input) → ComesFrom (with_inputs inputs now) (steps z code k (from inputs))
   told k inputs = initializers_come_from z code k ticks (routine m n) (with_inputs inputs now)
 
-  ended_as : (end : Ending) (w : World) (run : Runs z code from end w) (rest : List Input) → outcome_of (reply (run.told.used ++ rest)) ≡ ended end (with_inputs rest w)
+  ended_as : (end : Completion) (w : World) (run : Runs z code from end w) (rest : List Input) → outcome_of (reply (run.told.used ++ rest)) ≡ ended end (with_inputs rest w)
   ended_as end w run rest = ends_as z code from reply comes end w run rest
 
   -- such code is never lost
@@ -92,7 +92,7 @@ module _ (t : Table) (ms : List Module) (is : IsTableOf t ms) (ticks m n : ℕ) 
   initializer_stands k inputs = (never t ms is 201).initializers ticks (routine m n) (with_inputs inputs now) known k
 
   -- it asks what its module may ask
-  pub initializer_asks : (end : Ending) (w : World) → Runs z code from end w → AllByRecursion (IsAskedIn ms) now.events → AllByRecursion (IsAskedIn ms) w.events
+  pub initializer_asks : (end : Completion) (w : World) → Runs z code from end w → AllByRecursion (IsAskedIn ms) now.events → AllByRecursion (IsAskedIn ms) w.events
   initializer_asks end w run asked = asks_more ms 201 now w asked (initializer_runs_ask z code ticks (routine m n) now w end run)
 
   pub initializer_gives_asks : (v : Slot) (left : ℕ) (w : World) → Runs z code from (Gives v left) w → AllByRecursion (IsAskedIn ms) now.events → AllByRecursion (IsAskedIn ms) (give v w).events
@@ -142,7 +142,7 @@ module _ (t : Table) (ms : List Module) (is : IsTableOf t ms) (ticks m n : ℕ) 
       }
 
 -- each leaves what is held by globals and fields alone, and as many globals as there were, whatever its code is
-module _ (z : Setting) (code : Texts) (ticks : ℕ) (g : Routine) (now w : World) where
+module _ (z : Environment) (code : Texts) (ticks : ℕ) (g : Routine) (now w : World) where
   abbrev first : List Input → Config
   first inputs = initializer_begins z code ticks g (with_inputs inputs now)
 

@@ -5,10 +5,10 @@ use Rattle.ang_kinds.specs.declared.fault.Fault.{Fault}
 use Rattle.ang_meaning.specs.declared.slot.Slot.{Slot}
 use Rattle.ang_meaning.specs.World.{World, Input, with_inputs, give, give_all}
 use Rattle.ang_meaning.specs.Told.{has_room, stopped_by, answers_told, answers_listed, Moves, GoesOn, Faults}
-use Rattle.ang_meaning.specs.Setting.{Setting}
+use Rattle.ang_meaning.specs.Environment.{Environment}
 use Rattle.ang_meaning.specs.Results.{Reply, Yields, Raises}
 use Rattle.ang_code.specs.Machine.{Texts, Config, Over, Finished, Faulted, steps}
-use Rattle.ang_code.specs.Runs.{Runs, Ending, Gives, Stops, ended}
+use Rattle.ang_code.specs.Runs.{Runs, Completion, Gives, Stops, ended}
 use Rattle.ang_code.specs.Told.{ComesFrom}
 use Rattle.ang_code_laws.proofs.Determined.{has_one_end}
 use Rattle.ang_gen.specs.BodyBehaves.{outcome_of}
@@ -70,10 +70,10 @@ listed_by used again v w m =
 
 -- ---- runs
 
-module _ (z : Setting) (code : Texts) (from : List Input → Config) where
+module _ (z : Environment) (code : Texts) (from : List Input → Config) where
   -- the outcome is the run's end, whatever inputs are left
   pub ends_as : (reply : List Input → Reply) → ((is : List Input) → (n : ℕ) × (steps z code n (from is) ≡ Over (outcome_of (reply is))))
-      → (end : Ending) (w : World) (run : Runs z code from end w) (rest : List Input) → outcome_of (reply (run.told.used ++ rest)) ≡ ended end (with_inputs rest w)
+      → (end : Completion) (w : World) (run : Runs z code from end w) (rest : List Input) → outcome_of (reply (run.told.used ++ rest)) ≡ ended end (with_inputs rest w)
   ends_as reply comes end w run rest =
       let is = run.told.used ++ rest in
       let b = comes is in

@@ -10,7 +10,7 @@ use Rattle.ang_meaning.specs.declared.slot.Slot.TheVariants.{Bits}
 use Rattle.ang_meaning.specs.declared.routine.Routine.{Routine}
 use Rattle.ang_meaning.specs.World.{World, Input, with_inputs}
 use Rattle.ang_meaning.specs.Counting.{IsCounted}
-use Rattle.ang_meaning.specs.Setting.{Setting}
+use Rattle.ang_meaning.specs.Environment.{Environment}
 use Rattle.ang_code.specs.Machine.{Config, call_begins, initializer_begins}
 use Rattle.ang_code.specs.Runs.{Stops}
 use Rattle.ang_code_laws.specs.Globals.{globals_of_each}
@@ -36,10 +36,10 @@ module _ (t : Table) where
   -- ---- calls
 
   -- the first configuration of a call, and of an initializer, in a setting
-  abbrev calling : Setting → ℕ → ℕ → ℕ → List Slot → World → List Input → Config
+  abbrev calling : Environment → ℕ → ℕ → ℕ → List Slot → World → List Input → Config
   calling z budget m n args w is = call_begins z (texts_of t) budget (routine m n) (reverse args) (with_inputs is w)
 
-  abbrev beginning : Setting → ℕ → ℕ → ℕ → World → List Input → Config
+  abbrev beginning : Environment → ℕ → ℕ → ℕ → World → List Input → Config
   beginning z ticks m n w is = initializer_begins z (texts_of t) ticks (routine m n) (with_inputs is w)
 
   module _ (ms : List Module) (is : IsTableOf t ms) (budget m n : ℕ) (args : List Slot) (takes : TakesSoMany ms m n (length args)) (before after : World) (count : IsCounted (reverse args) before) where
@@ -108,7 +108,7 @@ module _ (t : Table) (budget m first end : ℕ) (before : World) where
     comes lt ms is all = subst (λ gs. HaveComeTo ms budget m before gs ticks now) (next_routine m n end lt) (at.come ms is all)
 
     module _ (ms : List Module) (is : IsTableOf t ms) (all : Numbered ms) (lt : n < end) where
-      abbrev begun : Setting → List Input → Config
+      abbrev begun : Environment → List Input → Config
       begun z = beginning t z ticks m n now
 
       known : slice_get (passings_in (module_at ms m).tree) n ≡ Some []

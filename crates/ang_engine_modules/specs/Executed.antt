@@ -6,7 +6,7 @@ use Rattle.ang_typed.specs.Typed as t
 use Rattle.ang_meaning.specs.declared.slot.Slot.{Slot}
 use Rattle.ang_meaning.specs.declared.routine.Routine.{Routine}
 use Rattle.ang_meaning.specs.World.{World}
-use Rattle.ang_meaning.specs.Setting.{Setting}
+use Rattle.ang_meaning.specs.Environment.{Environment}
 use Rattle.ang_meaning.specs.Results.{Reply}
 use Rattle.ang_source.specs.Meaning.{Code, default_in, codes_in, called_with, initialized_all, initializers_from, passings_in, routine, heading_among, class_among, method_among}
 use Rattle.ang_lower.specs.Hosts.{use_in}
@@ -17,7 +17,7 @@ use Rattle.ang_engine_modules.specs.Modules.{Module, module_at, trees_of}
 -- Modules run in a setting of their own: each has its name, may ask what its view has, and has its
 -- functions, its classes and its imports, each of which leads where it is bound. At most `nesting`
 -- functions may stand one inside the other.
-abbrev pub setting_for : List Module → ℕ → Setting
+abbrev pub setting_for : List Module → ℕ → Environment
 setting_for ms nesting =
     record {
       name = λ m. (module_at ms m).name;

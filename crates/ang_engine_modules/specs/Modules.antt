@@ -82,7 +82,7 @@ IsAskedIn ms (Called caller entity driver object args reply) =
 IsAskedIn ms (Ended driver key) = Unit {0}
 
 -- the primitive type of a function's value, where there is the function and its value is of one
-abbrev pub result_in : Option t.Function → Option Primitive
+abbrev pub result_in : Option t.TypedFunction → Option Primitive
 result_in None = None
 result_in (Some f) = primitive_of f.result
 
@@ -91,6 +91,6 @@ result_at ms m n = result_in (slice_get (module_at ms m).tree.functions n)
 
 -- the function of that number in module m takes n arguments
 pub record TakesSoMany (ms : List Module) (m n count : ℕ) : Type 0 where
-  pub function : t.Function
+  pub function : t.TypedFunction
   pub at : slice_get (module_at ms m).tree.functions n ≡ Some function
   pub params : length function.parameters ≡ count

@@ -7,9 +7,9 @@ ghost use Rattle.ang_engine_modules.specs.Trees.{own_methods, methods_by, script
 use ang_kinds::List;
 use ang_meaning as meaning;
 use ang_meaning::{Routine, ValueKind};
-use ang_typed::Class;
+use ang_typed::TypedClass;
 use ang_types::ArgType;
-use ang_vm_stack::methods::{Method, Methods};
+use ang_vm_stack::methods::{MethodEntry, Methods};
 use ang_vm_stack::table::ClassCode;
 use std::alloc::{AllocError, Global};
 
@@ -44,7 +44,7 @@ fn numbers_of(alloc: Global, number: usize, above: &[usize]) -> Result<Vec<usize
 }
 
 /// The class of a number as its objects have it.
-fn class_in(alloc: Global, number: usize, class: &Class) -> Result<meaning::Class, AllocError>
+fn class_in(alloc: Global, number: usize, class: &TypedClass) -> Result<meaning::Class, AllocError>
     ensures exact { IfOk result (λ c. c ≡ class_in number class.now) }
 {
     let fields = kinds_of(alloc, class.fields.as_slice())?;
@@ -61,7 +61,7 @@ fn class_in(alloc: Global, number: usize, class: &Class) -> Result<meaning::Clas
 fn add_methods(
     home: u32,
     rows: &[(usize, usize)],
-    found: &mut Vec<Method>,
+    found: &mut Vec<MethodEntry>,
 ) -> Result<(), AllocError>
     ensures added { OnOk result (found.new.items ≡ found.old.items ++ own_methods home rows.now) }
 {
@@ -70,7 +70,7 @@ fn add_methods(
             home,
             number: row.1,
         };
-        found.push(Method {
+        found.push(MethodEntry {
             slot: row.0,
             function,
         })?;
@@ -79,7 +79,7 @@ fn add_methods(
 }
 
 /// The base class of a class, where it has one that is there.
-fn base_of<'a>(classes: &'a [Class], class: &Class) -> Option<&'a Class>
+fn base_of<'a>(classes: &'a [TypedClass], class: &TypedClass) -> Option<&'a TypedClass>
     ensures exact { MatchOption result
         (option_and_then (slice_get classes.now) class.now.base ≡ None)
         (λ base. option_and_then (slice_get classes.now) class.now.base ≡ Some base.now) }
@@ -90,10 +90,10 @@ fn base_of<'a>(classes: &'a [Class], class: &Class) -> Option<&'a Class>
 /// The methods of a class and of up to `left` classes above it, after those that there are.
 fn add_chain(
     home: u32,
-    classes: &[Class],
+    classes: &[TypedClass],
     left: usize,
-    class: &Class,
-    found: &mut Vec<Method>,
+    class: &TypedClass,
+    found: &mut Vec<MethodEntry>,
 ) -> Result<(), AllocError>
     ensures added { OnOk result
         (found.new.items ≡ found.old.items ++ methods_by home classes.now left (Some class.now)) }
@@ -112,9 +112,9 @@ fn add_chain(
 fn class_code(
     alloc: Global,
     home: u32,
-    classes: &[Class],
+    classes: &[TypedClass],
     number: usize,
-    class: &Class,
+    class: &TypedClass,
 ) -> Result<ClassCode, AllocError>
     ensures exact { IfOk result
         (λ code. spec.class_of code ≡ script_class home classes.now number class.now) }
@@ -130,7 +130,7 @@ fn class_code(
 ///
 /// # Errors
 /// Want of memory.
-pub fn classes_of(alloc: Global, home: u32, classes: &[Class]) -> Result<Vec<ClassCode>, AllocError>
+pub fn classes_of(alloc: Global, home: u32, classes: &[TypedClass]) -> Result<Vec<ClassCode>, AllocError>
     ensures exact { IfOk result (λ codes.
         list_map spec.class_of codes.items ≡ classes_from home classes.now 0 classes.now) }
 {

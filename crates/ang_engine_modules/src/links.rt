@@ -7,7 +7,7 @@ ghost use Rattle.ang_engine_modules.specs.Relinked.{bounds_of, IsRelinked, HasLi
 use crate::modules::LoadedModule;
 use ang_kinds::List;
 use ang_meaning::Routine;
-use ang_vm_stack::table::{Import, ModuleCode};
+use ang_vm_stack::table::{LinkedImport, ModuleCode};
 use std::alloc::Global;
 use std::mem;
 
@@ -57,7 +57,7 @@ fn unbind_links(alloc: Global, home: u32, links: &mut List<Option<Routine>>)
 }
 
 /// Binds an import of a module's code, or unbinds it.
-fn put_bound(imports: &mut Vec<Import>, index: usize, link: Option<Routine>)
+fn put_bound(imports: &mut Vec<LinkedImport>, index: usize, link: Option<Routine>)
     ensures bound { list_map (λ y. y.bound) imports.new.items
         ≡ slice_set (list_map (λ y. y.bound) imports.old.items) index link }
     ensures params { list_map (λ y. y.params.items) imports.new.items
@@ -69,7 +69,7 @@ fn put_bound(imports: &mut Vec<Import>, index: usize, link: Option<Routine>)
 }
 
 /// Unbinds the imports of a module's code that lead to the module `home`.
-fn unbind_imports(home: u32, imports: &mut Vec<Import>)
+fn unbind_imports(home: u32, imports: &mut Vec<LinkedImport>)
     ensures bound { list_map (λ y. y.bound) imports.new.items
         ≡ unbound_links home (list_map (λ y. y.bound) imports.old.items) }
     ensures params { list_map (λ y. y.params.items) imports.new.items

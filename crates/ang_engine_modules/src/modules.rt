@@ -60,8 +60,8 @@ pub struct Modules {
 impl Model for Modules {
     ghost use Rattle.std.specs.Prelude.{List, Option};
     ghost use Rattle.std.specs.Coded.{codes};
-    ghost use Rattle.ang_typed.specs.contracts.statement.Statement as statement;
-    ghost use Rattle.ang_typed.specs.contracts.expression.Expression as expression;
+    ghost use Rattle.ang_typed.specs.contracts.statement.TypedStatement as statement;
+    ghost use Rattle.ang_typed.specs.contracts.expression.TypedExpression as expression;
     ghost use Rattle.ang_engine_modules.specs.declared.modules.LoadedModule.{LoadedModule};
     ghost use Rattle.ang_engine_modules.specs.Loaded.{IsLoaded};
 

@@ -11,20 +11,20 @@ use ang_lower::passings;
 use ang_meaning::Passing;
 use ang_typed::{Heading, Typed};
 use ang_view::View;
-use ang_vm_stack::body::Body;
-use ang_vm_stack::table::{Import, ModuleCode};
+use ang_vm_stack::body::LoadedBody;
+use ang_vm_stack::table::{LinkedImport, ModuleCode};
 use std::alloc::{AllocError, Global};
 
 /// The code of bodies, each with its steps.
 ///
 /// # Errors
 /// Want of memory.
-fn bodies_of(alloc: Global, codes: Vec<RoutineCode>) -> Result<Vec<Body>, AllocError>
+fn bodies_of(alloc: Global, codes: Vec<RoutineCode>) -> Result<Vec<LoadedBody>, AllocError>
     ensures same { IfOk result (λ bodies. bodies.items ≡ codes.items) }
 {
     let mut bodies = Vec::new(alloc);
     for code in codes {
-        bodies.push(Body::new(alloc, code)?)?;
+        bodies.push(LoadedBody::new(alloc, code)?)?;
     }
     Ok(bodies)
 }
@@ -67,7 +67,7 @@ fn slots_of(alloc: Global, headings: &[Heading]) -> Result<Vec<Vec<Passing>>, Al
 ///
 /// # Errors
 /// Want of memory.
-fn imports_of(alloc: Global, headings: &[Heading]) -> Result<Vec<Import>, AllocError>
+fn imports_of(alloc: Global, headings: &[Heading]) -> Result<Vec<LinkedImport>, AllocError>
     ensures params { IfOk result
         (λ imports. list_map (λ y. y.params.items) imports.items ≡ headings_in headings.now) }
     ensures bound { IfOk result
@@ -76,7 +76,7 @@ fn imports_of(alloc: Global, headings: &[Heading]) -> Result<Vec<Import>, AllocE
     let mut imports = Vec::with_capacity(alloc, headings.len())?;
     for heading in headings {
         let params = passings(alloc, heading.parameters.as_slice())?;
-        imports.push(Import {
+        imports.push(LinkedImport {
             params,
             bound: None,
         })?;

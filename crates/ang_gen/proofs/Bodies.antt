@@ -8,16 +8,16 @@ use Rattle.ang_meaning.specs.declared.routine.Routine.{Routine}
 use Rattle.ang_meaning.specs.declared.routine.Callee.{Callee}
 use Rattle.ang_meaning.specs.declared.routine.Passing.{Passing}
 use Rattle.ang_meaning.specs.World.{World, Tried, Yes, No, give, give_all, memory_step, or_else}
-use Rattle.ang_meaning.specs.Setting.{Setting, params_in, params_of}
+use Rattle.ang_meaning.specs.Environment.{Environment, params_in, params_of}
 use Rattle.ang_meaning.specs.Results.{Ran, Went, Returned, Halted, Broken, Continued, Reply, Yields, Raises, Calls, drop_some, on_test, ticked, leave, then_run, yielded, finished, enter}
-use Rattle.ang_core.specs.declared.tree.Expression.{Expression}
-use Rattle.ang_core.specs.declared.tree.Statement.{Statement, Row_of-Statement, end_of-Statement, more_of-Statement}
-use Rattle.ang_core.specs.declared.tree.Statement.TheVariants.{Skip, Evaluate, Declare, Block', If', While', DoWhile', Return as ReturnOf, Break, Continue}
+use Rattle.ang_core.specs.declared.tree.CoreExpression.{CoreExpression}
+use Rattle.ang_core.specs.declared.tree.CoreStatement.{CoreStatement, Row_of-CoreStatement, end_of-CoreStatement, more_of-CoreStatement}
+use Rattle.ang_core.specs.declared.tree.CoreStatement.TheVariants.{Skip, Evaluate, Declare, Block', If', While', DoWhile', Return as ReturnOf, Break, Continue}
 use Rattle.ang_core.specs.Meaning.{Bodies, Passes, eval, turned, run, run_row, pass, body_at, pass_at, called_with}
 use Rattle.ang_core.specs.Sound.{out_count, declared, row_declared, Sound, SoundStatement, SoundRow, LinksFit, AreSound}
 use Rattle.ang_code.specs.declared.instruction.Frame.{Frame}
 use Rattle.ang_code.specs.declared.instruction.Instruction.{Instruction}
-use Rattle.ang_code.specs.declared.instruction.Instruction.TheVariants.{PushBits, Drop, SkipIfFalse, GoOn, Tick, Back, Return}
+use Rattle.ang_code.specs.declared.instruction.Instruction.TheVariants.{PushBits, Drop, JumpIfFalse, Jump, Tick, LoopBack, Return}
 use Rattle.ang_code.specs.Machine.{Texts, Config, At, Over, Finished, Faulted, fault, call_begins}
 use Rattle.ang_code.proofs.Steps.{HasAt, has_front, has_back, has_all, Comes, here, comes_to, one_step, then_step, roomy_on}
 use Rattle.ang_gen.specs.Code.{past_code, either_code, expr_code, leave_code, block_code, stmt_code, row_code, loop_code, body_code}
@@ -33,7 +33,7 @@ abbrev pub no_loop_at : ℕ → Exits
 no_loop_at place = record { loop = false; alive = 0; out = place; again = place }
 
 -- a loop stands at a place where n locals are alive
-pub record LoopStands (z : Setting) (code : Texts) (r : Running) (q h : ℕ) (e : Expression) (s step : Statement) (pc n : ℕ) : Type 0 where
+pub record LoopStands (z : Environment) (code : Texts) (r : Running) (q h : ℕ) (e : CoreExpression) (s step : CoreStatement) (pc n : ℕ) : Type 0 where
   pub has : HasAt (code.text r.of) pc (loop_code q n e s step)
   pub params : q ≤ n
   pub sound_test : Sound z r.of.home n e
@@ -43,23 +43,23 @@ pub record LoopStands (z : Setting) (code : Texts) (r : Running) (q h : ℕ) (e 
   pub sound_step : SoundStatement z r.of.home false n step
   pub low_step : BelowStatement h n step
 
-module _ (z : Setting) (code : Texts) (r : Running) (ps : List Passing) (ps_is : params_of z r.of ≡ ps) (h : ℕ) (room_is : r.room ≡ length r.below + h) (counted : h < 2 ^ 64) (links : LinksFit z) (body : Calls) (passes : Passes) (fuel : ℕ)
+module _ (z : Environment) (code : Texts) (r : Running) (ps : List Passing) (ps_is : params_of z r.of ≡ ps) (h : ℕ) (room_is : r.room ≡ length r.below + h) (counted : h < 2 ^ 64) (links : LinksFit z) (body : Calls) (passes : Passes) (fuel : ℕ)
     (bodies_go : (g : Routine) (qs : List Passing) (vs s : List Slot) (fr2 : List Frame) (t : ℕ) (w : World) → length fr2 ≡ suc (length r.callers) → z.params g ≡ Some qs → length qs ≡ length vs → t < fuel → ReplyGoes z code (At g 0 (length (vs ++ s) + code.height g) (vs ++ s) fr2 t w) fr2 s (out_count qs) t (body g vs t w))
-    (passes_go : (y : Exits) (n : ℕ) (e : Expression) (s step : Statement) (pc : ℕ) (ls : List Slot) (t : ℕ) (w : World) → length ls ≡ n → LoopStands z code r (length ps) h e s step pc n → t < fuel → RunGoes z code r ps (at r (pc + 1) (ls ++ r.below) t w) (pc + length (loop_code (length ps) n e s step)) y n n t (passes e s step ls t w)) where
+    (passes_go : (y : Exits) (n : ℕ) (e : CoreExpression) (s step : CoreStatement) (pc : ℕ) (ls : List Slot) (t : ℕ) (w : World) → length ls ≡ n → LoopStands z code r (length ps) h e s step pc n → t < fuel → RunGoes z code r ps (at r (pc + 1) (ls ++ r.below) t w) (pc + length (loop_code (length ps) n e s step)) y n n t (passes e s step ls t w)) where
   abbrev calls : Callee → List Slot → ℕ → World → Reply
   calls = enter z body (length r.callers) r.of.home
 
   abbrev q : ℕ
   q = length ps
 
-  expr_runs : (e : Expression) (pc n : ℕ) (ls : List Slot) (t : ℕ) (w : World) → length ls ≡ n → HasAt (code.text r.of) pc (expr_code 0 e) → Sound z r.of.home n e → Below h n e → t ≤ fuel → EvalGoes z code r (at r pc (ls ++ r.below) t w) (pc + length (expr_code 0 e)) [] n t (eval z r.of.home calls e ls t w)
+  expr_runs : (e : CoreExpression) (pc n : ℕ) (ls : List Slot) (t : ℕ) (w : World) → length ls ≡ n → HasAt (code.text r.of) pc (expr_code 0 e) → Sound z r.of.home n e → Below h n e → t ≤ fuel → EvalGoes z code r (at r pc (ls ++ r.below) t w) (pc + length (expr_code 0 e)) [] n t (eval z r.of.home calls e ls t w)
   expr_runs e pc n ls t w n_is has ok low le =
       let none : n ≡ 0 + length ls = omega (arith, n_is) in
       subst (λ m. EvalGoes z code r (at r pc (ls ++ r.below) t w) (pc + length (expr_code 0 e)) [] m t (eval z r.of.home calls e ls t w)) n_is
       (eval_runs z code r h room_is counted links body fuel bodies_go e pc [] ls t w has (subst (λ m. Sound z r.of.home m e) (sym n_is) ok) (subst (λ m. Below h m e) none low) le)
 
   -- the rest of a loop's pass, from the body's first instruction
-  turn_runs : (y : Exits) (n : ℕ) (e : Expression) (s step : Statement) (pc : ℕ) (ls : List Slot) (t : ℕ) (w : World) (inside : Ran) (steps_of : List Slot → ℕ → World → Ran) → LoopStands z code r q h e s step pc n → t ≤ fuel →
+  turn_runs : (y : Exits) (n : ℕ) (e : CoreExpression) (s step : CoreStatement) (pc : ℕ) (ls : List Slot) (t : ℕ) (w : World) (inside : Ran) (steps_of : List Slot → ℕ → World → Ran) → LoopStands z code r q h e s step pc n → t ≤ fuel →
       (let ss = stmt_code q n n (length (leave_code (declared s)) + length (block_code (stmt_code q n 0 0 0 step) (declared step)) + 1) (length (leave_code (declared s))) s in let p1 = pc + 1 + length (expr_code 0 e) + 1 in let p3 = p1 + length ss + length (leave_code (declared s)) in let end = pc + length (loop_code q n e s step) in let x : Exits = record { loop = true; alive = n; out = end; again = p3 } in
       (Stands code r q ss p1 (length (leave_code (declared s)) + length (block_code (stmt_code q n 0 0 0 step) (declared step)) + 1) (length (leave_code (declared s))) n x → RunGoes z code r ps (at r p1 (ls ++ r.below) t w) (p1 + length ss) x n (declared s + n) t inside) →
       ((ls2 : List Slot) (t2 : ℕ) (w2 : World) → length ls2 ≡ n → t2 ≤ t → Stands code r q (stmt_code q n 0 0 0 step) p3 0 0 n (no_loop_at (p3 + length (stmt_code q n 0 0 0 step) + 0)) → RunGoes z code r ps (at r p3 (ls2 ++ r.below) t2 w2) (p3 + length (stmt_code q n 0 0 0 step)) (no_loop_at (p3 + length (stmt_code q n 0 0 0 step) + 0)) n (declared step + n) t2 (steps_of ls2 t2 w2)) →
@@ -80,11 +80,11 @@ module _ (z : Setting) (code : Texts) (r : Running) (ps : List Passing) (ps_is :
       let h2 = has_back (code.text r.of) p1 cs _ h1.1 in
       let cs_len = length-append ss lb in
       let p3_is : p1 + length cs ≡ p3 = omega (arith, cs_len) in
-      let h3 = subst (λ j. HasAt (code.text r.of) j (cp ++ Back back_by ∷ [])) p3_is h2 in
+      let h3 = subst (λ j. HasAt (code.text r.of) j (cp ++ LoopBack back_by ∷ [])) p3_is h2 in
       let in_body = has_front (code.text r.of) p1 cs _ h1.1 in
-      let end_len1 = length-append ce (SkipIfFalse (length cs + length cp + 1) ∷ (cs ++ (cp ++ Back back_by ∷ []))) in
-      let end_len2 = length-append cs (cp ++ Back back_by ∷ []) in
-      let end_len3 = length-append cp (Back back_by ∷ []) in
+      let end_len1 = length-append ce (JumpIfFalse (length cs + length cp + 1) ∷ (cs ++ (cp ++ LoopBack back_by ∷ []))) in
+      let end_len2 = length-append cs (cp ++ LoopBack back_by ∷ []) in
+      let end_len3 = length-append cp (LoopBack back_by ∷ []) in
       let p4 = p3 + length cp in
       let end_is : p4 + 1 ≡ end = omega (arith, end_len1, end_len2, end_len3, cs_len) in
       let start_is : p4 - back_by ≡ pc + 1 = omega (arith, cs_len) in
@@ -102,7 +102,7 @@ module _ (z : Setting) (code : Texts) (r : Running) (ps : List Passing) (ps_is :
       seq_goes z code r ps y _ p4 end n n n n t2 (leave (length ls2) (steps_of ls2 t2 w2)) again (omega arith) block3
       (λ ls3 t3 w3 n3_is lt3.
       tick_run z code r ps y _ end n n t3 ls3 w3 (λ t4. at r (p4 - back_by) (ls3 ++ r.below) t4 w3) (λ t4. passes e s step ls3 t4 w3)
-      (one_step z code r.of p4 r.room (ls3 ++ r.below) r.callers t3 w3 (Back back_by) (has_back (code.text r.of) p3 cp _ h3).0)
+      (one_step z code r.of p4 r.room (ls3 ++ r.below) r.callers t3 w3 (LoopBack back_by) (has_back (code.text r.of) p3 cp _ h3).0)
       (λ t4 lt4.
       subst (λ j. RunGoes z code r ps (at r j (ls3 ++ r.below) t4 w3) end y n n t4 (passes e s step ls3 t4 w3)) (sym start_is)
       (passes_go y n e s step pc ls3 t4 w3 n3_is st (omega arith)))))
@@ -114,7 +114,7 @@ module _ (z : Setting) (code : Texts) (r : Running) (ps : List Passing) (ps_is :
   block_goes_from_0 x cs d start pc n t o pa al has p = to_0 x start (pc + length (block_code cs d)) n t (leave n o) (block_goes z code r ps x cs d start pc n t o pa al has p)
 
   mutual
-    stmt_runs : (s : Statement) (x : Exits) (kb kc pc n : ℕ) (ls : List Slot) (t : ℕ) (w : World) → length ls ≡ n → Stands code r q (stmt_code q n x.alive kb kc s) pc kb kc n x → SoundStatement z r.of.home x.loop n s → BelowStatement h n s → t ≤ fuel → RunGoes z code r ps (at r pc (ls ++ r.below) t w) (pc + length (stmt_code q n x.alive kb kc s)) x n (declared s + n) t (run z r.of.home calls passes s ls t w)
+    stmt_runs : (s : CoreStatement) (x : Exits) (kb kc pc n : ℕ) (ls : List Slot) (t : ℕ) (w : World) → length ls ≡ n → Stands code r q (stmt_code q n x.alive kb kc s) pc kb kc n x → SoundStatement z r.of.home x.loop n s → BelowStatement h n s → t ≤ fuel → RunGoes z code r ps (at r pc (ls ++ r.below) t w) (pc + length (stmt_code q n x.alive kb kc s)) x n (declared s + n) t (run z r.of.home calls passes s ls t w)
     stmt_runs Skip x kb kc pc n ls t w n_is st ok low le =
         (comes_to z code _ _ _ (here z code _) (let e : pc ≡ pc + 0 = omega arith in ap (λ j. at r j (ls ++ r.below) t w) e), omega (arith, n_is), omega arith)
     stmt_runs (Evaluate e) x kb kc pc n ls t w n_is st ok low le =
@@ -153,7 +153,7 @@ module _ (z : Setting) (code : Texts) (r : Running) (ps : List Passing) (ps_is :
         let h2 = has_back (code.text r.of) (p + 1) ca _ h1.1 in
         let at_past = has_front (code.text r.of) p1 cp cb h2 in
         let at_b = has_back (code.text r.of) p1 cp cb h2 in
-        let len1 = length-append ce (SkipIfFalse (length ca + length cp) ∷ (ca ++ (cp ++ cb))) in
+        let len1 = length-append ce (JumpIfFalse (length ca + length cp) ∷ (ca ++ (cp ++ cb))) in
         let len2 = length-append ca (cp ++ cb) in
         let len3 = length-append cp cb in
         let end_is : p2 + length cb ≡ end = omega (arith, len1, len2, len3) in
@@ -172,7 +172,7 @@ module _ (z : Setting) (code : Texts) (r : Running) (ps : List Passing) (ps_is :
         let b2 = block_goes_from_0 x sb (declared b) _ p2 n t' two st.params st.alive at_b (stmt_runs b x (kb + lb) (kc + lb) p2 n ls' t' w' n2_is st_b ok.2 low.2 (omega arith)) in
         subst (λ m. RunGoes z code r ps (at r p (v ∷ (ls' ++ r.below)) t' w') end x n (0 + n) t' (on_test v (Halted NullFault ls' (give v w')) (leave m two) (leave m one))) (sym n2_is)
         (branch_run z code r ps x _ end n (0 + n) t' ls' w' v _ _ (leave n two) (leave n one)
-        (one_step z code r.of p r.room (v ∷ (ls' ++ r.below)) r.callers t' w' (SkipIfFalse (length ca + length cp)) h1.0)
+        (one_step z code r.of p r.room (v ∷ (ls' ++ r.below)) r.callers t' w' (JumpIfFalse (length ca + length cp)) h1.0)
         (subst (λ j. RunGoes z code r ps (at r j (ls' ++ r.below) t' w') end x n (0 + n) t' (leave n two)) to_else
         (run_ends z code r ps x _ _ _ n (0 + n) t' (leave n two) end_is b2))
         (run_ends z code r ps x _ _ _ n (0 + n) t' (leave n one) end_is
@@ -190,15 +190,15 @@ module _ (z : Setting) (code : Texts) (r : Running) (ps : List Passing) (ps_is :
         let p1 = pc + 1 + 1 + length ce + 1 in
         let loop : LoopStands z code r q h e.value s Skip (pc + 1) n = record { has = st.has.1; params = st.params; sound_test = ok.0; low_test = low.0; sound_body = ok.1; low_body = low.1; sound_step = tt; low_step = tt } in
         let there : pc + 1 + (length ce + 2) ≡ p1 = omega arith in
-        let p = comes_to z code _ _ _ (one_step z code r.of pc r.room (ls ++ r.below) r.callers t w (GoOn (length ce + 2)) st.has.0) (ap (λ j. at r j (ls ++ r.below) t w) there) in
+        let p = comes_to z code _ _ _ (one_step z code r.of pc r.room (ls ++ r.below) r.callers t w (Jump (length ce + 2)) st.has.0) (ap (λ j. at r j (ls ++ r.below) t w) there) in
         let inside = run z r.of.home calls passes s ls t w in
         let nothing = λ (ls' : List Slot) (t' : ℕ) (w' : World). Went ls' t' w' in
         let turn = turn_runs x n e.value s Skip (pc + 1) ls t w inside nothing loop le
         (λ body_st. stmt_runs s _ _ _ p1 n ls t w n_is body_st ok.1 low.1 le)
         (λ ls2 t2 w2 n2_is lt2 step_st. (comes_to z code _ _ _ (here z code _) (let e2 : p1 + length (stmt_code q n n (length (leave_code (declared s)) + 0 + 1) (length (leave_code (declared s))) s) + length (leave_code (declared s)) ≡ p1 + length (stmt_code q n n (length (leave_code (declared s)) + 0 + 1) (length (leave_code (declared s))) s) + length (leave_code (declared s)) + 0 = omega arith in ap (λ j. at r j (ls2 ++ r.below) t2 w2) e2), omega (arith, n2_is), omega arith)) in
-        let len : pc + 1 + length c ≡ pc + length (GoOn (length ce + 2) ∷ c) = omega arith in
+        let len : pc + 1 + length c ≡ pc + length (Jump (length ce + 2) ∷ c) = omega arith in
         let go = λ (m : ℕ). turned m inside nothing (λ ls' t' w'. passes e.value s Skip ls' t' w') in
-        to_0 x _ (pc + length (GoOn (length ce + 2) ∷ c)) n t _
+        to_0 x _ (pc + length (Jump (length ce + 2) ∷ c)) n t _
         (run_ends z code r ps x _ _ _ n n t (go (length ls)) len
         (after_run z code r ps x _ _ (pc + 1 + length c) n n n n t t (go (length ls)) p (omega arith) refl (omega arith)
         (subst (λ m. RunGoes z code r ps (at r p1 (ls ++ r.below) t w) (pc + 1 + length c) x n n t (go m)) (sym n_is) turn)))
@@ -209,17 +209,17 @@ module _ (z : Setting) (code : Texts) (r : Running) (ps : List Passing) (ps_is :
         (return_goes z code r ps _ (pc + length ce) (n - q) t' v ls' w' ps_is (has_back (code.text r.of) pc ce _ st.has).0 (omega (arith, n2_is)) (omega (arith, n2_is, st.params)) (here z code _), omega arith, omega (arith, n2_is)))
     stmt_runs Break x kb kc pc n ls t w n_is st ok low le =
         let i_is : n - x.alive ≡ length ls - x.alive = omega (arith, n_is) in
-        let long = length-append (leave_code (n - x.alive)) (GoOn kb ∷ []) in
-        (exit_goes z code r ps x x.out pc kb x.alive t ls w (subst (λ i. HasAt (code.text r.of) pc (leave_code i ++ GoOn kb ∷ [])) i_is st.has) (subst (λ i. x.out ≡ pc + length (leave_code i) + 1 + kb) i_is (omega (arith, st.out, long))), omega arith, omega (arith, n_is), ok)
+        let long = length-append (leave_code (n - x.alive)) (Jump kb ∷ []) in
+        (exit_goes z code r ps x x.out pc kb x.alive t ls w (subst (λ i. HasAt (code.text r.of) pc (leave_code i ++ Jump kb ∷ [])) i_is st.has) (subst (λ i. x.out ≡ pc + length (leave_code i) + 1 + kb) i_is (omega (arith, st.out, long))), omega arith, omega (arith, n_is), ok)
     stmt_runs Continue x kb kc pc n ls t w n_is st ok low le =
         let i_is : n - x.alive ≡ length ls - x.alive = omega (arith, n_is) in
-        let long = length-append (leave_code (n - x.alive)) (GoOn kc ∷ []) in
-        (exit_goes z code r ps x x.again pc kc x.alive t ls w (subst (λ i. HasAt (code.text r.of) pc (leave_code i ++ GoOn kc ∷ [])) i_is st.has) (subst (λ i. x.again ≡ pc + length (leave_code i) + 1 + kc) i_is (omega (arith, st.again, long))), omega arith, omega (arith, n_is), ok)
+        let long = length-append (leave_code (n - x.alive)) (Jump kc ∷ []) in
+        (exit_goes z code r ps x x.again pc kc x.alive t ls w (subst (λ i. HasAt (code.text r.of) pc (leave_code i ++ Jump kc ∷ [])) i_is st.has) (subst (λ i. x.again ≡ pc + length (leave_code i) + 1 + kc) i_is (omega (arith, st.again, long))), omega arith, omega (arith, n_is), ok)
 
-    row_runs : {k : _} → (row : Row_of-Statement k) (x : Exits) (kb kc pc n : ℕ) (ls : List Slot) (t : ℕ) (w : World) → length ls ≡ n → Stands code r q (row_code q n x.alive kb kc row) pc kb kc n x → SoundRow z r.of.home x.loop n row → BelowRow h n row → t ≤ fuel → RunGoes z code r ps (at r pc (ls ++ r.below) t w) (pc + length (row_code q n x.alive kb kc row)) x n (row_declared row + n) t (run_row z r.of.home calls passes row ls t w)
-    row_runs end_of-Statement x kb kc pc n ls t w n_is st ok low le =
+    row_runs : {k : _} → (row : Row_of-CoreStatement k) (x : Exits) (kb kc pc n : ℕ) (ls : List Slot) (t : ℕ) (w : World) → length ls ≡ n → Stands code r q (row_code q n x.alive kb kc row) pc kb kc n x → SoundRow z r.of.home x.loop n row → BelowRow h n row → t ≤ fuel → RunGoes z code r ps (at r pc (ls ++ r.below) t w) (pc + length (row_code q n x.alive kb kc row)) x n (row_declared row + n) t (run_row z r.of.home calls passes row ls t w)
+    row_runs end_of-CoreStatement x kb kc pc n ls t w n_is st ok low le =
         (comes_to z code _ _ _ (here z code _) (let e : pc ≡ pc + 0 = omega arith in ap (λ j. at r j (ls ++ r.below) t w) e), omega (arith, n_is), omega arith)
-    row_runs (more_of-Statement s rest) x kb kc pc n ls t w n_is st ok low le =
+    row_runs (more_of-CoreStatement s rest) x kb kc pc n ls t w n_is st ok low le =
         let m = declared s + n in
         let cr = row_code q m x.alive kb kc rest in
         let cs = stmt_code q n x.alive (kb + length cr) (kc + length cr) s in
@@ -228,14 +228,14 @@ module _ (z : Setting) (code : Texts) (r : Running) (ps : List Passing) (ps_is :
         let st1 : Stands code r q cs pc (kb + length cr) (kc + length cr) n x = record { has = has_front (code.text r.of) pc cs cr st.has; params = st.params; alive = st.alive; out = omega (arith, st.out, len); again = omega (arith, st.again, len) } in
         let st2 : Stands code r q cr (pc + length cs) kb kc m x = record { has = has_back (code.text r.of) pc cs cr st.has; params = omega (arith, st.params); alive = omega (arith, st.alive); out = omega (arith, st.out, len); again = omega (arith, st.again, len) } in
         let total : row_declared rest + m ≡ row_declared rest + declared s + n = omega arith in
-        subst (λ k2. RunGoes z code r ps (at r pc (ls ++ r.below) t w) (pc + length (cs ++ cr)) x n k2 t (run_row z r.of.home calls passes (more_of-Statement s rest) ls t w)) total
+        subst (λ k2. RunGoes z code r ps (at r pc (ls ++ r.below) t w) (pc + length (cs ++ cr)) x n k2 t (run_row z r.of.home calls passes (more_of-CoreStatement s rest) ls t w)) total
         (run_ends z code r ps x _ _ _ n (row_declared rest + m) t _ end_is
         (seq_goes z code r ps x _ (pc + length cs) (pc + length cs + length cr) n m m (row_declared rest + m) t (run z r.of.home calls passes s ls t w) (λ ls' t' w'. run_row z r.of.home calls passes rest ls' t' w') (omega arith)
         (stmt_runs s x (kb + length cr) (kc + length cr) pc n ls t w n_is st1 ok.0 low.0 le)
         (λ ls' t' w' n2_is lt. row_runs rest x kb kc (pc + length cs) m ls' t' w' n2_is st2 ok.1 low.1 (omega arith))))
 
   -- one pass of a loop, its tick taken
-  pass_runs : (y : Exits) (n : ℕ) (e : Expression) (s step : Statement) (pc : ℕ) (ls : List Slot) (t : ℕ) (w : World) → length ls ≡ n → LoopStands z code r q h e s step pc n → t ≤ fuel → RunGoes z code r ps (at r (pc + 1) (ls ++ r.below) t w) (pc + length (loop_code q n e s step)) y n n t (pass z r.of.home calls passes e s step ls t w)
+  pass_runs : (y : Exits) (n : ℕ) (e : CoreExpression) (s step : CoreStatement) (pc : ℕ) (ls : List Slot) (t : ℕ) (w : World) → length ls ≡ n → LoopStands z code r q h e s step pc n → t ≤ fuel → RunGoes z code r ps (at r (pc + 1) (ls ++ r.below) t w) (pc + length (loop_code q n e s step)) y n n t (pass z r.of.home calls passes e s step ls t w)
   pass_runs y n e s step pc ls t w n_is st le =
       let ce = expr_code 0 e in
       let cp = block_code (stmt_code q n 0 0 0 step) (declared step) in
@@ -245,9 +245,9 @@ module _ (z : Setting) (code : Texts) (r : Running) (ps : List Passing) (ps_is :
       let end = pc + length (loop_code q n e s step) in
       let p0 = pc + 1 + length ce in
       let h1 = has_back (code.text r.of) (pc + 1) ce _ st.has.1 in
-      let end_len1 = length-append ce (SkipIfFalse skip ∷ (cs ++ (cp ++ Back (length ce + 1 + length cs + length cp) ∷ []))) in
-      let end_len2 = length-append cs (cp ++ Back (length ce + 1 + length cs + length cp) ∷ []) in
-      let end_len3 = length-append cp (Back (length ce + 1 + length cs + length cp) ∷ []) in
+      let end_len1 = length-append ce (JumpIfFalse skip ∷ (cs ++ (cp ++ LoopBack (length ce + 1 + length cs + length cp) ∷ []))) in
+      let end_len2 = length-append cs (cp ++ LoopBack (length ce + 1 + length cs + length cp) ∷ []) in
+      let end_len3 = length-append cp (LoopBack (length ce + 1 + length cs + length cp) ∷ []) in
       let out_is : p0 + 1 + skip ≡ end = omega (arith, end_len1, end_len2, end_len3) in
       let next = λ (ls' : List Slot) (t' : ℕ) (w' : World). passes e s step ls' t' w' in
       value_goes z code r ps y _ p0 end n n n t (eval z r.of.home calls e ls t w)
@@ -259,7 +259,7 @@ module _ (z : Setting) (code : Texts) (r : Running) (ps : List Passing) (ps_is :
       (λ body_st. stmt_runs s _ _ _ (p0 + 1) n ls' t' w' n2_is body_st st.sound_body st.low_body (omega arith))
       (λ ls2 t2 w2 n3_is lt2 step_st. stmt_runs step _ 0 0 _ n ls2 t2 w2 n3_is step_st st.sound_step st.low_step (omega arith)) in
       branch_run z code r ps y _ end n n t' ls' w' v _ _ (Went ls' t' w') (turned (length ls') inside (run z r.of.home calls passes step) next)
-      (one_step z code r.of p0 r.room (v ∷ (ls' ++ r.below)) r.callers t' w' (SkipIfFalse skip) h1.0)
+      (one_step z code r.of p0 r.room (v ∷ (ls' ++ r.below)) r.callers t' w' (JumpIfFalse skip) h1.0)
       (comes_to z code _ _ _ (here z code _) (ap (λ j. at r j (ls' ++ r.below) t' w') out_is), n2_is, omega arith)
       (subst (λ m. RunGoes z code r ps (at r (p0 + 1) (ls' ++ r.below) t' w') end y n n t' (turned m inside (run z r.of.home calls passes step) next)) (sym n2_is) turn))
 
@@ -271,7 +271,7 @@ module _ (z : Setting) (code : Texts) (r : Running) (ps : List Passing) (ps_is :
       (p, le, length_outs ps (drop_some i ls) len)
 
   -- a whole body, which is in no loop
-  finish_goes : (x : Exits) (start : Config) (pc n t : ℕ) (s : Statement) (o : Ran) → x.loop ≡ false → n ≡ declared s + q → n < h → HasAt (code.text r.of) pc (PushBits 0 ∷ Return (declared s) ∷ []) → RunGoes z code r ps start pc x q n t o → ReplyGoes z code start r.callers r.below (out_count ps) t (finished ps o)
+  finish_goes : (x : Exits) (start : Config) (pc n t : ℕ) (s : CoreStatement) (o : Ran) → x.loop ≡ false → n ≡ declared s + q → n < h → HasAt (code.text r.of) pc (PushBits 0 ∷ Return (declared s) ∷ []) → RunGoes z code r ps start pc x q n t o → ReplyGoes z code start r.callers r.below (out_count ps) t (finished ps o)
   finish_goes x start pc n t s (Went ls t' w) no_loop n_is low has p =
       let stack = ls ++ r.below in
       let fits : length stack < r.room = omega (arith, room_is, p.1, low, length-append ls r.below) in
@@ -284,7 +284,7 @@ module _ (z : Setting) (code : Texts) (r : Running) (ps : List Passing) (ps_is :
   finish_goes x start pc n t s (Broken ls t' w) no_loop n_is low has p = absurd (no_true x.loop no_loop p.3)
   finish_goes x start pc n t s (Continued ls t' w) no_loop n_is low has p = absurd (no_true x.loop no_loop p.3)
 
-  body_runs : (s : Statement) (vs : List Slot) (t : ℕ) (w : World) → length vs ≡ q → code.text r.of ≡ body_code q s → SoundStatement z r.of.home false q s → BelowBody h q s → t ≤ fuel → ReplyGoes z code (at r 0 (vs ++ r.below) t w) r.callers r.below (out_count ps) t (finished ps (run z r.of.home calls passes s vs t w))
+  body_runs : (s : CoreStatement) (vs : List Slot) (t : ℕ) (w : World) → length vs ≡ q → code.text r.of ≡ body_code q s → SoundStatement z r.of.home false q s → BelowBody h q s → t ≤ fuel → ReplyGoes z code (at r 0 (vs ++ r.below) t w) r.callers r.below (out_count ps) t (finished ps (run z r.of.home calls passes s vs t w))
   body_runs s vs t w vs_is text ok low le =
       let sc = stmt_code q q 0 0 0 s in
       let tail = PushBits 0 ∷ Return (declared s) ∷ [] in
@@ -295,10 +295,10 @@ module _ (z : Setting) (code : Texts) (r : Running) (ps : List Passing) (ps_is :
       finish_goes x _ (0 + length sc) (declared s + q) t s (run z r.of.home calls passes s vs t w) refl refl low.at_end (has_back (code.text r.of) 0 sc tail has) p
 
 -- The program's code is the code of each body, and each body is sound.
-module _ (z : Setting) (bodies : Bodies) (code : Texts) (sound : AreSound z bodies) (is_code : IsCode z bodies code) where
+module _ (z : Environment) (bodies : Bodies) (code : Texts) (sound : AreSound z bodies) (is_code : IsCode z bodies code) where
   record Follows (n : ℕ) : Type 0 where
     bodies_go : (g : Routine) (ps : List Passing) (vs s : List Slot) (fr : List Frame) (t : ℕ) (w : World) → z.params g ≡ Some ps → length ps ≡ length vs → t < n → ReplyGoes z code (At g 0 (length (vs ++ s) + code.height g) (vs ++ s) fr t w) fr s (out_count ps) t (body_at z bodies n (length fr) g vs t w)
-    passes_go : (r : Running) (ps : List Passing) (h : ℕ) (y : Exits) (n1 : ℕ) (e : Expression) (s step : Statement) (pc : ℕ) (ls : List Slot) (t : ℕ) (w : World) → params_of z r.of ≡ ps → r.room ≡ length r.below + h → h < 2 ^ 64 → length ls ≡ n1 → LoopStands z code r (length ps) h e s step pc n1 → t < n → RunGoes z code r ps (at r (pc + 1) (ls ++ r.below) t w) (pc + length (loop_code (length ps) n1 e s step)) y n1 n1 t (pass_at z bodies n (length r.callers) r.of.home e s step ls t w)
+    passes_go : (r : Running) (ps : List Passing) (h : ℕ) (y : Exits) (n1 : ℕ) (e : CoreExpression) (s step : CoreStatement) (pc : ℕ) (ls : List Slot) (t : ℕ) (w : World) → params_of z r.of ≡ ps → r.room ≡ length r.below + h → h < 2 ^ 64 → length ls ≡ n1 → LoopStands z code r (length ps) h e s step pc n1 → t < n → RunGoes z code r ps (at r (pc + 1) (ls ++ r.below) t w) (pc + length (loop_code (length ps) n1 e s step)) y n1 n1 t (pass_at z bodies n (length r.callers) r.of.home e s step ls t w)
 
   follows : (n : ℕ) → Follows n
   follows zero = record { bodies_go = λ g ps vs s fr t w known count lt. absurd (omega arith); passes_go = λ r ps h y n1 e s step pc ls t w ps_is room_is counted n_is st lt. absurd (omega arith) }

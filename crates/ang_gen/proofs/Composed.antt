@@ -9,9 +9,9 @@ use Rattle.ang_view.specs.Registration.{RegistrationList}
 use Rattle.ang_typed.specs.Typed as tree
 use Rattle.ang_meaning.specs.declared.routine.Routine.{Routine}
 use Rattle.ang_meaning.specs.declared.routine.Passing.{Passing}
-use Rattle.ang_meaning.specs.Setting.{Setting}
+use Rattle.ang_meaning.specs.Environment.{Environment}
 use Rattle.ang_meaning.specs.Results.{Reply, Yields, Raises}
-use Rattle.ang_core.specs.declared.tree.Body.{Body}
+use Rattle.ang_core.specs.declared.tree.CoreBody.{CoreBody}
 use Rattle.ang_core.specs.Meaning.{Bodies}
 use Rattle.ang_core.specs.Sound.{LinksFit, AreSound}
 use Rattle.ang_code.specs.declared.instruction.RoutineCode.{RoutineCode}
@@ -34,7 +34,7 @@ use Rattle.ang_gen.specs.Behaves.{HasCodes, IsModule, RunsCode, sources_of, Beha
 -- ---- the codes of one module
 
 -- codes take their arguments as their bodies do
-params_same : (bs : List Body) (cs : List RoutineCode) → AllZip IsBodyCode bs cs → map (λ c. c.params.items) cs ≡ map (λ b. b.params.items) bs
+params_same : (bs : List CoreBody) (cs : List RoutineCode) → AllZip IsBodyCode bs cs → map (λ c. c.params.items) cs ≡ map (λ b. b.params.items) bs
 params_same [] [] all = refl
 params_same [] (c ∷ cs) all = absurd all
 params_same (b ∷ bs) [] all = absurd all
@@ -44,7 +44,7 @@ pub takes : (p : tree.Program) (codes : List RoutineCode) → IsCompiled p codes
 takes p codes is = params_same is.bodies codes is.code ∙ params_are p is.bodies is.lowered
 
 -- and their values are of the types of their bodies'
-results_same : (bs : List Body) (cs : List RoutineCode) → AllZip IsBodyCode bs cs → map (λ c. c.result) cs ≡ map (λ b. b.result) bs
+results_same : (bs : List CoreBody) (cs : List RoutineCode) → AllZip IsBodyCode bs cs → map (λ c. c.result) cs ≡ map (λ b. b.result) bs
 results_same [] [] all = refl
 results_same [] (c ∷ cs) all = absurd all
 results_same (b ∷ bs) [] all = absurd all
@@ -54,15 +54,15 @@ pub gives : (p : tree.Program) (codes : List RoutineCode) → IsCompiled p codes
 gives p codes is = results_same is.bodies codes is.code ∙ results_are p is.bodies is.lowered
 
 -- a body that takes these arguments, with its code
-record CodeAt (bs : List Body) (cs : List RoutineCode) (k : ℕ) (ps : List Passing) : Type 0 where
-  body : Body
+record CodeAt (bs : List CoreBody) (cs : List RoutineCode) (k : ℕ) (ps : List Passing) : Type 0 where
+  body : CoreBody
   body_at : slice_get bs k ≡ Some body
   code : RoutineCode
   code_at : slice_get cs k ≡ Some code
   is : IsBodyCode body code
   params : body.params.items ≡ ps
 
-found : (bs : List Body) (cs : List RoutineCode) (k : ℕ) (ps : List Passing) → AllZip IsBodyCode bs cs → slice_get (map (λ b. b.params.items) bs) k ≡ Some ps → CodeAt bs cs k ps
+found : (bs : List CoreBody) (cs : List RoutineCode) (k : ℕ) (ps : List Passing) → AllZip IsBodyCode bs cs → slice_get (map (λ b. b.params.items) bs) k ≡ Some ps → CodeAt bs cs k ps
 found [] cs k ps all e = absurd (cc)
 found (b ∷ bs) [] k ps all e = absurd all
 found (b ∷ bs) (c ∷ cs) zero ps all e =
@@ -81,7 +81,7 @@ texts_there modules m codes there = record {
 
 -- ---- all modules
 
-module _ (z : Setting) (V : ℕ → RegistrationList) (program : ℕ → tree.Program) (code : Texts) (ms : (m : ℕ) → IsModule z m (V m) (program m) code) (links : LinksFit z) where
+module _ (z : Environment) (V : ℕ → RegistrationList) (program : ℕ → tree.Program) (code : Texts) (ms : (m : ℕ) → IsModule z m (V m) (program m) code) (links : LinksFit z) where
   -- the core bodies of all modules
   abbrev bodies : Bodies
   bodies g = statement_in (slice_get (ms g.home).compiled.bodies g.number)
@@ -146,7 +146,7 @@ module _ (z : Setting) (V : ℕ → RegistrationList) (program : ℕ → tree.Pr
 -- ---- one module among others
 
 module _ (p : tree.Program) (codes : List RoutineCode) (compiled : IsCompiled p codes) where
-  module _ (z : Setting) (V : ℕ → RegistrationList) (program : ℕ → tree.Program) (code : Texts) (m : ℕ) (same : program m ≡ p) (own : IsModule z m (V m) p code)
+  module _ (z : Environment) (V : ℕ → RegistrationList) (program : ℕ → tree.Program) (code : Texts) (m : ℕ) (same : program m ≡ p) (own : IsModule z m (V m) p code)
       (others : (k : ℕ) → k ≢ m → IsModule z k (V k) (program k) code) where
     module_by : (k : ℕ) (b : Bool) → (k == m) ≡ b → IsModule z k (V k) (program k) code
     module_by k true e = subst (λ i. IsModule z i (V i) (program i) code) (sym (eqb-true k m e)) (subst (λ q. IsModule z m (V m) q code) (sym same) own)
@@ -165,7 +165,7 @@ module _ (p : tree.Program) (codes : List RoutineCode) (compiled : IsCompiled p 
 -- ---- where no import is bound
 
 -- methods fit their slots
-pub modules_fit : (z : Setting) (V : ℕ → RegistrationList) (program : ℕ → tree.Program) (code : Texts) → ((m : ℕ) → IsModule z m (V m) (program m) code)
+pub modules_fit : (z : Environment) (V : ℕ → RegistrationList) (program : ℕ → tree.Program) (code : Texts) → ((m : ℕ) → IsModule z m (V m) (program m) code)
     → ((m i : ℕ) → z.linked m i ≡ None) → LinksFit z
 modules_fit z V program code ms none = record {
   same = λ m i g there. let e : None ≡ Some g = sym (none m i) ∙ there in absurd (cc);
@@ -179,10 +179,10 @@ not_stuck : (r : Reply) → Over (outcome_of r) ≢ Over Stuck
 not_stuck (Yields v outs t w) e = absurd (cc)
 not_stuck (Raises x w) e = absurd (cc)
 
-never : (z : Setting) (code : Texts) (m n : ℕ) (c : Config) (r : Reply) → steps z code m c ≡ Over (outcome_of r) → steps z code n c ≢ Over Stuck
+never : (z : Environment) (code : Texts) (m n : ℕ) (c : Config) (r : Reply) → steps z code m c ≡ Over (outcome_of r) → steps z code n c ≢ Over Stuck
 never z code m n c r e h = not_stuck r (one_end z code m n c (outcome_of r) Stuck e h)
 
-pub never_stuck : (z : Setting) (sources : Codes) (code : Texts) → BehavesAsSource z sources code → NeverStuck z code
+pub never_stuck : (z : Environment) (sources : Codes) (code : Texts) → BehavesAsSource z sources code → NeverStuck z code
 never_stuck z sources code b = record {
   calls = λ budget g ps vs w known count n.
       let p = b.calls budget g ps vs w known count in
@@ -193,7 +193,7 @@ never_stuck z sources code b = record {
 }
 
 -- nor is well-formed code
-pub none_lost : (z : Setting) (codes : ℕ → List RoutineCode) (code : Texts) → ((m : ℕ) → RunsCode z m (codes m) code) → LinksFit z → NeverStuck z code
+pub none_lost : (z : Environment) (codes : ℕ → List RoutineCode) (code : Texts) → ((m : ℕ) → RunsCode z m (codes m) code) → LinksFit z → NeverStuck z code
 none_lost z codes code runs links =
     never_stuck z (sources_of (λ m. (runs m).well_formed.program)) code
     (behaves_as_source z (λ m. (runs m).well_formed.view) (λ m. (runs m).well_formed.program) code

@@ -5,23 +5,23 @@ use Rattle.ang_kinds.specs.declared.fault.Fault.TheVariants.{Null as NullFault, 
 use Rattle.ang_meaning.specs.declared.slot.Slot.{Slot}
 use Rattle.ang_meaning.specs.declared.slot.Slot.TheVariants.{Bits, Script, Host}
 use Rattle.ang_meaning.specs.declared.operation.Operation.{Operation}
-use Rattle.ang_meaning.specs.declared.operation.Change.{Change as ChangeBy}
+use Rattle.ang_meaning.specs.declared.operation.Update.{Update as ChangeBy}
 use Rattle.ang_meaning.specs.declared.routine.Routine.{Routine}
 use Rattle.ang_meaning.specs.declared.routine.Callee.{Callee}
 use Rattle.ang_meaning.specs.declared.routine.Passing.{Passing}
 use Rattle.ang_meaning.specs.declared.routine.Target.{Target}
 use Rattle.ang_meaning.specs.Numbers.{Changed, Into, Never}
 use Rattle.ang_meaning.specs.World.{World, Tried, Yes, No, hold, give, give_all, memory_step, or_else}
-use Rattle.ang_meaning.specs.Setting.{Setting, Found, Enters, Misses, target, has_objects, params_in, params_of, is_fit}
+use Rattle.ang_meaning.specs.Environment.{Environment, Found, Enters, Misses, target, has_objects, params_in, params_of, is_fit}
 use Rattle.ang_meaning.specs.Hosts.{Done, Fine, Fails}
 use Rattle.ang_meaning.specs.Perform.{perform, operands, change_of}
 use Rattle.ang_meaning.specs.Results.{Evaluated, Gave, Failed, Gathered, Ready, Broke, Reply, Yields, Raises, Calls, local_at, local_set, drop_some, at_zero, on_test, ticked, performed, applied, assigned, altered_by, altered, chosen, then_rest, settled, with_outs, replied, called, may_nest, found_entered, enter}
-use Rattle.ang_core.specs.declared.tree.Expression.{Expression, Row_of-Expression, end_of-Expression, more_of-Expression}
-use Rattle.ang_core.specs.declared.tree.Expression.TheVariants.{Number, Null as Nothing, Local, Assign', Change', Apply', Call', Choose'}
+use Rattle.ang_core.specs.declared.tree.CoreExpression.{CoreExpression, Row_of-CoreExpression, end_of-CoreExpression, more_of-CoreExpression}
+use Rattle.ang_core.specs.declared.tree.CoreExpression.TheVariants.{Number, Null as Nothing, Local, Assign', Update', Apply', Call', Choose'}
 use Rattle.ang_core.specs.Meaning.{eval, eval_args}
 use Rattle.ang_core.specs.Sound.{row_count, out_count, Takes, Fits, LinksFit, AreSpots, Sound, SoundArgs}
 use Rattle.ang_code.specs.declared.instruction.Frame.{Frame}
-use Rattle.ang_code.specs.declared.instruction.Instruction.TheVariants.{PushBits, PushNull, Load, Store, Change, Do, SkipIfFalse, GoOn, Enter}
+use Rattle.ang_code.specs.declared.instruction.Instruction.TheVariants.{PushBits, PushNull, Load, Store, Update, Apply, JumpIfFalse, Jump, Enter}
 use Rattle.ang_code.specs.Machine.{Texts, Config, At, Over, Faulted, fault, roomy, did, changed_into, begins, found_enters, take_some}
 use Rattle.ang_code.proofs.Steps.{HasAt, has_front, has_back, Comes, here, comes_on, comes_to, one_step, then_step, roomy_on, within_on, enough_on, fitting_on}
 use Rattle.ang_gen.specs.Code.{place_above, if_code, outs_code, expr_code, args_code}
@@ -32,7 +32,7 @@ use Rattle.ang_gen.proofs.Counted.{placed, beneath}
 use Rattle.ang_gen.proofs.Outs.{outs_go}
 use Rattle.ang_gen.proofs.Leads.{target_front, leads}
 
-module _ (z : Setting) (code : Texts) (r : Running) where
+module _ (z : Environment) (code : Texts) (r : Running) where
   -- the place at the end, under another name
   pub eval_ends : (start : Config) (pc1 pc2 : ℕ) (s : List Slot) (n t : ℕ) (o : Evaluated) → pc1 ≡ pc2 → EvalGoes z code r start pc1 s n t o → EvalGoes z code r start pc2 s n t o
   eval_ends start pc1 pc2 s n t o e p = subst (λ j. EvalGoes z code r start j s n t o) e p
@@ -77,12 +77,12 @@ module _ (z : Setting) (code : Texts) (r : Running) where
       let p = comes_to z code start _ _ (then_step z code start r.of pc r.room (v ∷ stack) r.callers t' w (Store d) has q.0) (within_on d stack _ (local_there i d s ls inside e)) in
       after_eval start start (pc + 1) s n (length ls) t t' _ (here z code start) q.1 q.2 (store_goes start pc i d s ls t' v (hold v w) inside e p)
 
-  alter_goes : (start : Config) (pc i d : ℕ) (by : ChangeBy) (s : List Slot) (n t : ℕ) (o : Evaluated) → slice_get (code.text r.of) pc ≡ Some (Change by d) → i < n → d ≡ length s + i → EvalGoes z code r start pc s n t o → EvalGoes z code r start (pc + 1) s n t (altered i by o)
+  alter_goes : (start : Config) (pc i d : ℕ) (by : ChangeBy) (s : List Slot) (n t : ℕ) (o : Evaluated) → slice_get (code.text r.of) pc ≡ Some (Update by d) → i < n → d ≡ length s + i → EvalGoes z code r start pc s n t o → EvalGoes z code r start (pc + 1) s n t (altered i by o)
   alter_goes start pc i d by s n t (Failed x ls w) has h e q = q
   alter_goes start pc i d by s n t (Gave v ls t' w) has h e q =
       let stack = s ++ (ls ++ r.below) in
       let inside : i < length ls = omega (arith, q.1) in
-      let p = comes_to z code start _ _ (then_step z code start r.of pc r.room (v ∷ stack) r.callers t' w (Change by d) has q.0) (within_on d stack _ (local_there i d s ls inside e)) in
+      let p = comes_to z code start _ _ (then_step z code start r.of pc r.room (v ∷ stack) r.callers t' w (Update by d) has q.0) (within_on d stack _ (local_there i d s ls inside e)) in
       let p' = comes_to z code start _ _ p (ap (λ x. changed_into (change_of by x v) (v ∷ stack) w (λ stored given. at r (pc + 1) (Bits given ∷ local_set stack d (Bits stored)) t' w)) (local_under s ls r.below i d inside e)) in
       after_eval start start (pc + 1) s n (length ls) t t' _ (here z code start) q.1 q.2 (change_goes start pc i d s ls t' w v (change_of by (local_at ls i) v) inside e p')
 
@@ -90,9 +90,9 @@ module _ (z : Setting) (code : Texts) (r : Running) where
   did_goes start pc vs s ls t (Fine v w) p = (p, refl, omega arith)
   did_goes start pc vs s ls t (Fails x w) p = comes_to z code start _ _ p (ap (λ y. Over (Faulted x y)) (give_two vs s (ls ++ r.below) w))
 
-  jump_goes : (start : Config) (pc k : ℕ) (s : List Slot) (n t : ℕ) (o : Evaluated) → slice_get (code.text r.of) pc ≡ Some (GoOn k) → EvalGoes z code r start pc s n t o → EvalGoes z code r start (pc + 1 + k) s n t o
+  jump_goes : (start : Config) (pc k : ℕ) (s : List Slot) (n t : ℕ) (o : Evaluated) → slice_get (code.text r.of) pc ≡ Some (Jump k) → EvalGoes z code r start pc s n t o → EvalGoes z code r start (pc + 1 + k) s n t o
   jump_goes start pc k s n t (Failed x ls w) has q = q
-  jump_goes start pc k s n t (Gave v ls t' w) has q = (then_step z code start r.of pc r.room (v ∷ (s ++ (ls ++ r.below))) r.callers t' w (GoOn k) has q.0, q.1, q.2)
+  jump_goes start pc k s n t (Gave v ls t' w) has q = (then_step z code start r.of pc r.room (v ∷ (s ++ (ls ++ r.below))) r.callers t' w (Jump k) has q.0, q.1, q.2)
 
   zero_goes : (start : Config) (pc' n t x : ℕ) (s : List Slot) (off_at on_at : Config) (off on : Evaluated) → Comes z code start (at_zero x off_at on_at) → EvalGoes z code r off_at pc' s n t off → EvalGoes z code r on_at pc' s n t on → EvalGoes z code r start pc' s n t (at_zero x off on)
   zero_goes start pc' n t zero s off_at on_at off on p q1 q2 = after_eval start off_at pc' s n n t t off p refl (omega arith) q1
@@ -103,12 +103,12 @@ module _ (z : Setting) (code : Texts) (r : Running) where
   branch_goes start pc' n t s ls w (Script k) off_at on_at off on p q1 q2 = p
   branch_goes start pc' n t s ls w (Host d k) off_at on_at off on p q1 q2 = p
 
-  choose_goes : (start : Config) (pc pc' k : ℕ) (s : List Slot) (n t : ℕ) (o : Evaluated) (one two : List Slot → ℕ → World → Evaluated) → slice_get (code.text r.of) pc ≡ Some (SkipIfFalse k) → EvalGoes z code r start pc s n t o → ((ls : List Slot) (t' : ℕ) (w : World) → length ls ≡ n → t' ≤ t → EvalGoes z code r (at r (pc + 1) (s ++ (ls ++ r.below)) t' w) pc' s (length ls) t' (one ls t' w)) → ((ls : List Slot) (t' : ℕ) (w : World) → length ls ≡ n → t' ≤ t → EvalGoes z code r (at r (pc + 1 + k) (s ++ (ls ++ r.below)) t' w) pc' s (length ls) t' (two ls t' w)) → EvalGoes z code r start pc' s n t (chosen o one two)
+  choose_goes : (start : Config) (pc pc' k : ℕ) (s : List Slot) (n t : ℕ) (o : Evaluated) (one two : List Slot → ℕ → World → Evaluated) → slice_get (code.text r.of) pc ≡ Some (JumpIfFalse k) → EvalGoes z code r start pc s n t o → ((ls : List Slot) (t' : ℕ) (w : World) → length ls ≡ n → t' ≤ t → EvalGoes z code r (at r (pc + 1) (s ++ (ls ++ r.below)) t' w) pc' s (length ls) t' (one ls t' w)) → ((ls : List Slot) (t' : ℕ) (w : World) → length ls ≡ n → t' ≤ t → EvalGoes z code r (at r (pc + 1 + k) (s ++ (ls ++ r.below)) t' w) pc' s (length ls) t' (two ls t' w)) → EvalGoes z code r start pc' s n t (chosen o one two)
   choose_goes start pc pc' k s n t (Failed x ls w) one two has q on off = q
   choose_goes start pc pc' k s n t (Gave v ls t' w) one two has q on off =
       after_eval start start pc' s n (length ls) t t' _ (here z code start) q.1 q.2
       (branch_goes start pc' (length ls) t' s ls w v _ _ (two ls t' w) (one ls t' w)
-      (then_step z code start r.of pc r.room (v ∷ (s ++ (ls ++ r.below))) r.callers t' w (SkipIfFalse k) has q.0) (off ls t' w q.1 q.2) (on ls t' w q.1 q.2))
+      (then_step z code start r.of pc r.room (v ∷ (s ++ (ls ++ r.below))) r.callers t' w (JumpIfFalse k) has q.0) (off ls t' w q.1 q.2) (on ls t' w q.1 q.2))
 
   then_args : (start : Config) (pc pc' : ℕ) (vs s : List Slot) (n m t : ℕ) (o : Evaluated) (go : Slot → List Slot → ℕ → World → Gathered) → EvalGoes z code r start pc (vs ++ s) n t o → ((v : Slot) (ls : List Slot) (t' : ℕ) (w : World) → length ls ≡ n → t' ≤ t → ArgsGo z code r (at r pc (v ∷ ((vs ++ s) ++ (ls ++ r.below))) t' w) pc' s (length ls) m t' (go v ls t' w)) → ArgsGo z code r start pc' s n m t (then_rest vs o go)
   then_args start pc pc' vs s n m t (Failed x ls w) go q k = comes_to z code start _ _ q (ap (λ y. Over (Faulted x y)) (give_two vs s (ls ++ r.below) w))
@@ -119,7 +119,7 @@ module _ (z : Setting) (code : Texts) (r : Running) where
     fits : (s ls : List Slot) → length s + length ls < h → length (s ++ (ls ++ r.below)) < r.room
     fits s ls lt = omega (arith, room_is, length-append s (ls ++ r.below), length-append ls r.below)
 
-    apply_goes : (start : Config) (pc : ℕ) (o : Operation) (s : List Slot) (n m t : ℕ) (a : Gathered) → slice_get (code.text r.of) pc ≡ Some (Do o) → m ≡ operands z r.of.home o → is_fit z r.of.home o ≡ true → length s + n < h → ArgsGo z code r start pc s n m t a → EvalGoes z code r start (pc + 1) s n t (applied (perform z r.of.home o) a)
+    apply_goes : (start : Config) (pc : ℕ) (o : Operation) (s : List Slot) (n m t : ℕ) (a : Gathered) → slice_get (code.text r.of) pc ≡ Some (Apply o) → m ≡ operands z r.of.home o → is_fit z r.of.home o ≡ true → length s + n < h → ArgsGo z code r start pc s n m t a → EvalGoes z code r start (pc + 1) s n t (applied (perform z r.of.home o) a)
     apply_goes start pc o s n m t (Broke x ls w) has e fit lt q = q
     apply_goes start pc o s n m t (Ready vs ls t' w) has e fit lt q =
         let k = operands z r.of.home o in
@@ -132,7 +132,7 @@ module _ (z : Setting) (code : Texts) (r : Running) where
         let there : k ≤ length top = omega (arith, ap length flat, length-append vs rest) in
         let roomy_here : length rest < r.room = fits s ls (omega (arith, q.1)) in
         let roomy_dropped : length (drop_some k top) < r.room = omega (arith, ap length dropped) in
-        let p = then_step z code start r.of pc r.room top r.callers t' w (Do o) has q.0 in
+        let p = then_step z code start r.of pc r.room top r.callers t' w (Apply o) has q.0 in
         let p' = comes_to z code start _ (did (perform z r.of.home o vs w) top (λ v w'. at r (pc + 1) (v ∷ rest) t' w')) p
         (fitting_on z r.of.home o _ fit
         ∙ enough_on k top _ there ∙ roomy_on r.room (drop_some k top) _ roomy_dropped
@@ -202,7 +202,7 @@ module _ (z : Setting) (code : Texts) (r : Running) where
       calls = enter z body (length r.callers) r.of.home
 
       mutual
-        pub eval_runs : (e : Expression) (pc : ℕ) (s ls : List Slot) (t : ℕ) (w : World) → HasAt (code.text r.of) pc (expr_code (length s) e) → Sound z r.of.home (length ls) e → Below h (length s + length ls) e → t ≤ fuel → EvalGoes z code r (at r pc (s ++ (ls ++ r.below)) t w) (pc + length (expr_code (length s) e)) s (length ls) t (eval z r.of.home (enter z body (length r.callers) r.of.home) e ls t w)
+        pub eval_runs : (e : CoreExpression) (pc : ℕ) (s ls : List Slot) (t : ℕ) (w : World) → HasAt (code.text r.of) pc (expr_code (length s) e) → Sound z r.of.home (length ls) e → Below h (length s + length ls) e → t ≤ fuel → EvalGoes z code r (at r pc (s ++ (ls ++ r.below)) t w) (pc + length (expr_code (length s) e)) s (length ls) t (eval z r.of.home (enter z body (length r.callers) r.of.home) e ls t w)
         eval_runs (Number n) pc s ls t w has ok low le = (comes_to z code _ _ _ (one_step z code r.of pc r.room (s ++ (ls ++ r.below)) r.callers t w (PushBits n) has.0) (roomy_on r.room (s ++ (ls ++ r.below)) _ (fits s ls low)), refl, omega arith)
         eval_runs Nothing pc s ls t w has ok low le = (comes_to z code _ _ _ (one_step z code r.of pc r.room (s ++ (ls ++ r.below)) r.callers t w PushNull has.0) (roomy_on r.room (s ++ (ls ++ r.below)) _ (fits s ls low)), refl, omega arith)
         eval_runs (Local i) pc s ls t w has ok low le =
@@ -222,18 +222,18 @@ module _ (z : Setting) (code : Texts) (r : Running) where
             eval_ends _ _ _ s (length ls) t _ len
             (assign_goes _ (pc + length ce) i d s (length ls) t (eval z r.of.home calls e ls t w) (has_back (code.text r.of) pc ce _ has).0 ok.0 d_is
             (eval_runs e pc s ls t w (has_front (code.text r.of) pc ce _ has) ok.1 low le))
-        eval_runs (Change' i by p e) pc s ls t w has ok low le =
+        eval_runs (Update' i by p e) pc s ls t w has ok low le =
             let ce = expr_code (length s) e in
             let d = place_above (length s) i in
             let d_is : d ≡ length s + i = placed (length s) i (omega (arith, ok.0, beneath h (length s + length ls) e low, counted)) in
-            let i' = Change by d in
+            let i' = Update by d in
             let len : pc + length ce + 1 ≡ pc + length (ce ++ i' ∷ []) = omega (arith, length-append ce (i' ∷ [])) in
             eval_ends _ _ _ s (length ls) t _ len
             (alter_goes _ (pc + length ce) i d by s (length ls) t (eval z r.of.home calls e ls t w) (has_back (code.text r.of) pc ce _ has).0 ok.0 d_is
             (eval_runs e pc s ls t w (has_front (code.text r.of) pc ce _ has) ok.1 low le))
         eval_runs (Apply' o shape args) pc s ls t w has ok low le =
             let ca = args_code (length s) args in
-            let i = Do o in
+            let i = Apply o in
             let len : pc + length ca + 1 ≡ pc + length (ca ++ i ∷ []) = omega (arith, length-append ca (i ∷ [])) in
             eval_ends _ _ _ s (length ls) t _ len
             (apply_goes _ (pc + length ca) o s (length ls) (row_count args + 0) t (eval_args z r.of.home calls args [] ls t w) (has_back (code.text r.of) pc ca _ has).0 (omega (arith, ok.0)) ok.1 low.0
@@ -250,7 +250,7 @@ module _ (z : Setting) (code : Texts) (r : Running) where
             let ca = expr_code (length s) a in let cc = expr_code (length s) c in let cd = expr_code (length s) d in
             let h1 = has_back (code.text r.of) pc ca _ has in
             let h2 = has_back (code.text r.of) (pc + length ca + 1) cc _ h1.1 in
-            let len : pc + length ca + 1 + length cc + 1 + length cd ≡ pc + length (if_code ca cc cd) = omega (arith, length-append ca (SkipIfFalse (length cc + 1) ∷ (cc ++ GoOn (length cd) ∷ cd)), length-append cc (GoOn (length cd) ∷ cd)) in
+            let len : pc + length ca + 1 + length cc + 1 + length cd ≡ pc + length (if_code ca cc cd) = omega (arith, length-append ca (JumpIfFalse (length cc + 1) ∷ (cc ++ Jump (length cd) ∷ cd)), length-append cc (Jump (length cd) ∷ cd)) in
             let e : pc + length ca + 1 + length cc + 1 ≡ pc + length ca + 1 + (length cc + 1) = omega arith in
             choose_goes _ (pc + length ca) _ (length cc + 1) s (length ls) t (eval z r.of.home calls a ls t w) (eval z r.of.home calls c) (eval z r.of.home calls d) h1.0
             (eval_runs a pc s ls t w (has_front (code.text r.of) pc ca _ has) ok.0 low.0 le)
@@ -261,10 +261,10 @@ module _ (z : Setting) (code : Texts) (r : Running) where
             (subst (λ q. EvalGoes z code r (at r q (s ++ (ls' ++ r.below)) t' w') (pc + length ca + 1 + length cc + 1 + length cd) s (length ls') t' (eval z r.of.home calls d ls' t' w')) e
             (eval_runs d (pc + length ca + 1 + length cc + 1) s ls' t' w' h2.1 (subst (λ n. Sound z r.of.home n d) (sym n_is) ok.2) (subst (λ n. Below h (length s + n) d) (sym n_is) low.2) (omega arith))))
 
-        pub args_runs : {k : _} → (args : Row_of-Expression k) (pc : ℕ) (vs s ls : List Slot) (t : ℕ) (w : World) → HasAt (code.text r.of) pc (args_code (length (vs ++ s)) args) → SoundArgs z r.of.home (length ls) args → BelowArgs h (length (vs ++ s) + length ls) args → t ≤ fuel → ArgsGo z code r (at r pc ((vs ++ s) ++ (ls ++ r.below)) t w) (pc + length (args_code (length (vs ++ s)) args)) s (length ls) (row_count args + length vs) t (eval_args z r.of.home (enter z body (length r.callers) r.of.home) args vs ls t w)
-        args_runs end_of-Expression pc vs s ls t w has ok low le =
+        pub args_runs : {k : _} → (args : Row_of-CoreExpression k) (pc : ℕ) (vs s ls : List Slot) (t : ℕ) (w : World) → HasAt (code.text r.of) pc (args_code (length (vs ++ s)) args) → SoundArgs z r.of.home (length ls) args → BelowArgs h (length (vs ++ s) + length ls) args → t ≤ fuel → ArgsGo z code r (at r pc ((vs ++ s) ++ (ls ++ r.below)) t w) (pc + length (args_code (length (vs ++ s)) args)) s (length ls) (row_count args + length vs) t (eval_args z r.of.home (enter z body (length r.callers) r.of.home) args vs ls t w)
+        args_runs end_of-CoreExpression pc vs s ls t w has ok low le =
             (record { count = 0; leads = let e : pc ≡ pc + 0 = omega arith in ap (λ p. at r p ((vs ++ s) ++ (ls ++ r.below)) t w) e }, refl, omega arith, omega arith)
-        args_runs (more_of-Expression e rest) pc vs s ls t w has ok low le =
+        args_runs (more_of-CoreExpression e rest) pc vs s ls t w has ok low le =
             let ce = expr_code (length (vs ++ s)) e in
             let cr = args_code (suc (length (vs ++ s))) rest in
             let len : pc + length ce + length cr ≡ pc + length (ce ++ cr) = omega (arith, length-append ce cr) in

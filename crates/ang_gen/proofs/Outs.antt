@@ -7,7 +7,7 @@ use Rattle.ang_meaning.specs.declared.routine.Spot.{Spot}
 use Rattle.ang_meaning.specs.declared.routine.Spot.TheVariants as spot
 use Rattle.ang_meaning.specs.declared.routine.Target.{Target}
 use Rattle.ang_meaning.specs.World.{World}
-use Rattle.ang_meaning.specs.Setting.{Setting}
+use Rattle.ang_meaning.specs.Environment.{Environment}
 use Rattle.ang_meaning.specs.Perform.{global_or, global_put, member_or, member_put}
 use Rattle.ang_meaning.specs.Results.{local_at, local_set, drop_some, give_back, brought, trade, Settled, settled, with_outs}
 use Rattle.ang_core.specs.Sound.{IsSpot, AreSpots}
@@ -26,10 +26,10 @@ one_more : (pre : List Slot) (o : Slot) (q : List Slot) → pre ++ (o ∷ q) ≡
 one_more pre o q = sym (append_assoc pre (o ∷ []) q)
 
 -- what was settled, below the values pre and above s
-abbrev pub SettledGoes : Setting → Texts → Running → Config → ℕ → List Slot → List Slot → ℕ → ℕ → ℕ → Settled → Type 0
+abbrev pub SettledGoes : Environment → Texts → Running → Config → ℕ → List Slot → List Slot → ℕ → ℕ → ℕ → Settled → Type 0
 SettledGoes z code r start pc' pre s n k t q = Comes z code start (at r pc' (pre ++ (q.olds ++ (s ++ (q.locals ++ r.below)))) t q.world) × (length q.locals ≡ n) × (length q.olds ≡ k)
 
-module _ (z : Setting) (code : Texts) (r : Running) where
+module _ (z : Environment) (code : Texts) (r : Running) where
   -- one value that lies below pre changes places with its target
   swap_by : (to : Option Primitive) (sp : Spot) (start : Config) (pc u base n k t : ℕ) (o : Slot) (pre s : List Slot) (q : Settled) → slice_get (code.text r.of) pc ≡ Some (swap_at to u base sp) → IsSpot n sp → base + n < 2 ^ 64 → u ≡ length pre → base ≡ length pre + 1 + k + length s → SettledGoes z code r start pc (pre ++ (o ∷ [])) s n k t q →
       SettledGoes z code r start (pc + 1) pre s n (suc k) t (record { olds = (trade r.of.home sp (brought to o) q.locals q.world).old ∷ q.olds; locals = (trade r.of.home sp (brought to o) q.locals q.world).locals; world = (trade r.of.home sp (brought to o) q.locals q.world).world })

@@ -5,7 +5,7 @@ use Rattle.ang_meaning.specs.declared.slot.Slot.{Slot}
 use Rattle.ang_meaning.specs.declared.routine.Routine.{Routine}
 use Rattle.ang_meaning.specs.declared.routine.Passing.{Passing}
 use Rattle.ang_meaning.specs.World.{World}
-use Rattle.ang_meaning.specs.Setting.{Setting}
+use Rattle.ang_meaning.specs.Environment.{Environment}
 use Rattle.ang_meaning.specs.Results.{Evaluated, Gave, Failed, Gathered, Ready, Broke, Ran, Went, Returned, Halted, Broken, Continued, Reply, Yields, Raises, drop_some, give_some, outs_of, give_others}
 use Rattle.ang_code.specs.declared.instruction.Frame.{Frame}
 use Rattle.ang_code.specs.Machine.{Texts, Config, At, fault, back}
@@ -23,17 +23,17 @@ abbrev pub at : Running → ℕ → List Slot → ℕ → World → Config
 at r pc s t w = At r.of pc r.room s r.callers t w
 
 -- an expression's code: its value on the stack above what was there, or everything given up
-abbrev pub EvalGoes : Setting → Texts → Running → Config → ℕ → List Slot → ℕ → ℕ → Evaluated → Type 0
+abbrev pub EvalGoes : Environment → Texts → Running → Config → ℕ → List Slot → ℕ → ℕ → Evaluated → Type 0
 EvalGoes z code r start pc' s n t (Gave v ls t' w) = Comes z code start (at r pc' (v ∷ (s ++ (ls ++ r.below))) t' w) × (length ls ≡ n) × (t' ≤ t)
 EvalGoes z code r start pc' s n t (Failed x ls w) = Comes z code start (fault x (s ++ (ls ++ r.below)) w)
 
 -- the code of arguments: their values on top; m of them and those that were there before
-abbrev pub ArgsGo : Setting → Texts → Running → Config → ℕ → List Slot → ℕ → ℕ → ℕ → Gathered → Type 0
+abbrev pub ArgsGo : Environment → Texts → Running → Config → ℕ → List Slot → ℕ → ℕ → ℕ → Gathered → Type 0
 ArgsGo z code r start pc' s n m t (Ready vs ls t' w) = Comes z code start (at r pc' ((vs ++ s) ++ (ls ++ r.below)) t' w) × (length ls ≡ n) × (length vs ≡ m) × (t' ≤ t)
 ArgsGo z code r start pc' s n m t (Broke x ls w) = Comes z code start (fault x (s ++ (ls ++ r.below)) w)
 
 -- a body, from its first instruction: the value and k `&out` values go to the caller, with the arguments gone
-abbrev pub ReplyGoes : Setting → Texts → Config → List Frame → List Slot → ℕ → ℕ → Reply → Type 0
+abbrev pub ReplyGoes : Environment → Texts → Config → List Frame → List Slot → ℕ → ℕ → Reply → Type 0
 ReplyGoes z code start fr s k t (Yields v outs t' w) = Comes z code start (back fr v outs s t' w) × (t' ≤ t) × (length outs ≡ k)
 ReplyGoes z code start fr s k t (Raises x w) = Comes z code start (fault x s w)
 
@@ -51,7 +51,7 @@ returning r ps v ls t w =
     (give_others ps (drop_some (length ls - length ps) ls) (give_some (length ls - length ps) ls w))
 
 -- a statement's code in a body with the parameters ps, where n0 locals were alive before it, and n are after it
-abbrev pub RunGoes : Setting → Texts → Running → List Passing → Config → ℕ → Exits → ℕ → ℕ → ℕ → Ran → Type 0
+abbrev pub RunGoes : Environment → Texts → Running → List Passing → Config → ℕ → Exits → ℕ → ℕ → ℕ → Ran → Type 0
 RunGoes z code r ps start pc' x n0 n t (Went ls t' w) = Comes z code start (at r pc' (ls ++ r.below) t' w) × (length ls ≡ n) × (t' ≤ t)
 RunGoes z code r ps start pc' x n0 n t (Returned v ls t' w) = Comes z code start (returning r ps v ls t' w) × (t' ≤ t) × (n0 ≤ length ls)
 RunGoes z code r ps start pc' x n0 n t (Halted y ls w) = Comes z code start (fault y (ls ++ r.below) w)

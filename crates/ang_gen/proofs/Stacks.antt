@@ -5,7 +5,7 @@ use Rattle.ang_meaning.specs.declared.slot.Slot.{Slot}
 use Rattle.ang_meaning.specs.declared.routine.Passing.{Passing}
 use Rattle.ang_meaning.specs.declared.routine.Passing.TheVariants.{In, Out, Object}
 use Rattle.ang_meaning.specs.World.{World, give, give_all}
-use Rattle.ang_meaning.specs.Setting.{has_objects, is_null}
+use Rattle.ang_meaning.specs.Environment.{has_objects, is_null}
 use Rattle.ang_meaning.specs.Results.{local_at, local_set, give_some, drop_some, give_back, outs_of, give_others}
 use Rattle.ang_core.specs.Sound.{out_count}
 use Rattle.ang_code.specs.Machine.{take_some}

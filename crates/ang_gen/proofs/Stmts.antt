@@ -6,10 +6,10 @@ use Rattle.ang_meaning.specs.declared.slot.Slot.{Slot}
 use Rattle.ang_meaning.specs.declared.slot.Slot.TheVariants.{Bits, Script, Host}
 use Rattle.ang_meaning.specs.declared.routine.Passing.{Passing}
 use Rattle.ang_meaning.specs.World.{World, give}
-use Rattle.ang_meaning.specs.Setting.{Setting, params_of}
+use Rattle.ang_meaning.specs.Environment.{Environment, params_of}
 use Rattle.ang_meaning.specs.Results.{Evaluated, Gave, Failed, Ran, Went, Returned, Halted, Broken, Continued, drop_some, give_some, outs_of, give_others, at_zero, on_test, ticked, leave, with_value, then_run, caught}
 use Rattle.ang_code.specs.declared.instruction.Instruction.{Instruction}
-use Rattle.ang_code.specs.declared.instruction.Instruction.TheVariants.{Leave, GoOn, Return}
+use Rattle.ang_code.specs.declared.instruction.Instruction.TheVariants.{Leave, Jump, Return}
 use Rattle.ang_code.specs.Machine.{Texts, Config, Over, Faulted, fault, back, enough}
 use Rattle.ang_code.proofs.Steps.{HasAt, has_front, has_back, Comes, here, comes_on, comes_to, then_step, enough_on}
 use Rattle.ang_gen.specs.Code.{past_code, leave_code, block_code}
@@ -28,7 +28,7 @@ pub record Stands (code : Texts) (r : Running) (q : ℕ) (c : List Instruction) 
   pub out : x.out ≡ pc + length c + kb
   pub again : x.again ≡ pc + length c + kc
 
-module _ (z : Setting) (code : Texts) (r : Running) (ps : List Passing) where
+module _ (z : Environment) (code : Texts) (r : Running) (ps : List Passing) where
   module _ (x : Exits) where
     pub after_run : (start mid : Config) (pc n0 n0' n n1 t t1 : ℕ) (o : Ran) → Comes z code start mid → n0 ≤ n0' → n1 ≡ n → t1 ≤ t → RunGoes z code r ps mid pc x n0' n1 t1 o → RunGoes z code r ps start pc x n0 n t o
     after_run start mid pc n0 n0' n n1 t t1 (Went ls t' w) p k e h q = (comes_on z code start mid _ p q.0, q.1 ∙ e, omega (arith, q.2))
@@ -110,8 +110,8 @@ module _ (z : Setting) (code : Texts) (r : Running) (ps : List Passing) where
     seq_goes start pc pc' n0 n0' n k t (Broken ls t' w) go m q h = q
     seq_goes start pc pc' n0 n0' n k t (Continued ls t' w) go m q h = q
 
-    pub jump_run : (start : Config) (pc k n0 n t : ℕ) (o : Ran) → slice_get (code.text r.of) pc ≡ Some (GoOn k) → RunGoes z code r ps start pc x n0 n t o → RunGoes z code r ps start (pc + 1 + k) x n0 n t o
-    jump_run start pc k n0 n t (Went ls t' w) has q = (then_step z code start r.of pc r.room (ls ++ r.below) r.callers t' w (GoOn k) has q.0, q.1, q.2)
+    pub jump_run : (start : Config) (pc k n0 n t : ℕ) (o : Ran) → slice_get (code.text r.of) pc ≡ Some (Jump k) → RunGoes z code r ps start pc x n0 n t o → RunGoes z code r ps start (pc + 1 + k) x n0 n t o
+    jump_run start pc k n0 n t (Went ls t' w) has q = (then_step z code start r.of pc r.room (ls ++ r.below) r.callers t' w (Jump k) has q.0, q.1, q.2)
     jump_run start pc k n0 n t (Returned v ls t' w) has q = q
     jump_run start pc k n0 n t (Halted y ls w) has q = q
     jump_run start pc k n0 n t (Broken ls t' w) has q = q
@@ -136,12 +136,12 @@ module _ (z : Setting) (code : Texts) (r : Running) (ps : List Passing) where
     tick_run start pc' n0 n (suc t) ls w to go p h = after_run start _ pc' n0 n0 n n (suc t) t (go t) p (omega arith) refl (omega arith) (h t (omega arith))
 
     -- the way out of a loop's body
-    pub exit_goes : (to pc k m t : ℕ) (ls : List Slot) (w : World) → HasAt (code.text r.of) pc (leave_code (length ls - m) ++ GoOn k ∷ []) → to ≡ pc + length (leave_code (length ls - m)) + 1 + k → Comes z code (at r pc (ls ++ r.below) t w) (at r to (drop_some (length ls - m) ls ++ r.below) t (give_some (length ls - m) ls w))
+    pub exit_goes : (to pc k m t : ℕ) (ls : List Slot) (w : World) → HasAt (code.text r.of) pc (leave_code (length ls - m) ++ Jump k ∷ []) → to ≡ pc + length (leave_code (length ls - m)) + 1 + k → Comes z code (at r pc (ls ++ r.below) t w) (at r to (drop_some (length ls - m) ls ++ r.below) t (give_some (length ls - m) ls w))
     exit_goes to pc k m t ls w has e =
         let i = length ls - m in
         let cl = leave_code i in
         let p1 = left_goes _ pc i t ls w (has_front (code.text r.of) pc cl _ has) (omega arith) (here z code _) in
-        let p2 = then_step z code _ r.of (pc + length cl) r.room _ r.callers t _ (GoOn k) (has_back (code.text r.of) pc cl _ has).0 p1 in
+        let p2 = then_step z code _ r.of (pc + length cl) r.room _ r.callers t _ (Jump k) (has_back (code.text r.of) pc cl _ has).0 p1 in
         comes_to z code _ _ _ p2 (ap (λ q. at r q (drop_some i ls ++ r.below) t (give_some i ls w)) (sym e))
 
   -- a statement that is in no loop, where another loop's exits are said

@@ -1,6 +1,6 @@
 -- What the machine is told is what bodies are told.
 use Rattle.std.proofs.Common.{subst}
-use Rattle.ang_meaning.specs.Setting.{Setting}
+use Rattle.ang_meaning.specs.Environment.{Environment}
 use Rattle.ang_core.specs.Meaning.{Bodies}
 use Rattle.ang_core.specs.Sound.{AreSound}
 use Rattle.ang_code.specs.Machine.{Texts}
@@ -10,7 +10,7 @@ use Rattle.ang_gen.specs.BodyBehaves.{IsCode}
 use Rattle.ang_gen.specs.Told.{AreTold}
 use Rattle.ang_gen.proofs.Bodies.{behaves}
 
-pub are_told : (z : Setting) (bodies : Bodies) (code : Texts) → AreSound z bodies → IsCode z bodies code → AreTold z bodies
+pub are_told : (z : Environment) (bodies : Bodies) (code : Texts) → AreSound z bodies → IsCode z bodies code → AreTold z bodies
 are_told z bodies code sound is_code =
     let same = behaves z bodies code sound is_code in
     record {

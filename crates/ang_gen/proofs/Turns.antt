@@ -11,8 +11,8 @@ use denote.Ref.{Bor}
 use denote.Param.Weighed.{most, most-append}
 use Rattle.std.proofs.Math.ListN.{drop_of_length-le}
 use Rattle.ang_meaning.specs.declared.routine.Target.{Target}
-use Rattle.ang_core.specs.declared.tree.Expression.{Expression}
-use Rattle.ang_core.specs.declared.tree.Statement.{Statement}
+use Rattle.ang_core.specs.declared.tree.CoreExpression.{CoreExpression}
+use Rattle.ang_core.specs.declared.tree.CoreStatement.{CoreStatement}
 use Rattle.ang_core.specs.Sound.{declared}
 use Rattle.ang_code.specs.declared.instruction.Instruction.{Instruction}
 use Rattle.ang_gen.specs.Code.{swap_at, swaps_code, expr_code, stmt_code}
@@ -52,7 +52,7 @@ swaps_end base u i xs text all h so_far = ap (λ l. swaps_code u base l ++ text)
 pub greater_is : (a b : ℕ) → ord_max nat_cmp a b ≡ max a b
 greater_is a b = grind (arith, common_steps)
 
-pub peak_turn : (d next i high top n all : ℕ) (xs : List Expression) (x : Expression) → i < length xs → x ≡ get_or xs i x →
+pub peak_turn : (d next i high top n all : ℕ) (xs : List CoreExpression) (x : CoreExpression) → i < length xs → x ≡ get_or xs i x →
     max high (list_peak d (drop i xs)) ≡ all → n ≡ peak d x → next ≡ d + 1 → top ≡ max high n → max top (list_peak next (drop (i + 1) xs)) ≡ all
 peak_turn d next i high top n all xs x h e so_far new there over =
     let one : next ≡ suc d = omega arith in
@@ -60,34 +60,34 @@ peak_turn d next i high top n all xs x h e so_far new there over =
     let here : list_peak d (drop i xs) ≡ max (peak d x) (list_peak (suc d) (drop (i + 1) xs)) = ap (λ l. list_peak d l) (next_of xs i x h e) in
     omega arith
 
-pub peak_end : (d i high all : ℕ) (xs : List Expression) → length xs ≤ i → max high (list_peak d (drop i xs)) ≡ all → high ≡ all
+pub peak_end : (d i high all : ℕ) (xs : List CoreExpression) → length xs ≤ i → max high (list_peak d (drop i xs)) ≡ all → high ≡ all
 peak_end d i high all xs h so_far =
     let none : list_peak d (drop i xs) ≡ 0 = ap (λ l. list_peak d l) (drop_of_length-le xs h) in omega arith
 
-pub rise_turn : (n next i high top m all : ℕ) (xs : List Statement) (x : Statement) → i < length xs → x ≡ get_or xs i x →
+pub rise_turn : (n next i high top m all : ℕ) (xs : List CoreStatement) (x : CoreStatement) → i < length xs → x ≡ get_or xs i x →
     max high (statements_peak n (drop i xs)) ≡ all → m ≡ statement_peak n x → next ≡ declared x + n → top ≡ max high m → max top (statements_peak next (drop (i + 1) xs)) ≡ all
 rise_turn n next i high top m all xs x h e so_far new there over =
     let rest : statements_peak next (drop (i + 1) xs) ≡ statements_peak (declared x + n) (drop (i + 1) xs) = ap (λ k. statements_peak k (drop (i + 1) xs)) there in
     let here : statements_peak n (drop i xs) ≡ max (statement_peak n x) (statements_peak (declared x + n) (drop (i + 1) xs)) = ap (λ l. statements_peak n l) (next_of xs i x h e) in
     omega arith
 
-pub rise_end : (n i high all : ℕ) (xs : List Statement) → length xs ≤ i → max high (statements_peak n (drop i xs)) ≡ all → high ≡ all
+pub rise_end : (n i high all : ℕ) (xs : List CoreStatement) → length xs ≤ i → max high (statements_peak n (drop i xs)) ≡ all → high ≡ all
 rise_end n i high all xs h so_far =
     let none : statements_peak n (drop i xs) ≡ 0 = ap (λ l. statements_peak n l) (drop_of_length-le xs h) in omega arith
 
 -- ---- locals
 
-pub declared_turn : (i count n : ℕ) (xs : List Statement) (x : Statement) → i < length xs → x ≡ get_or xs i x →
+pub declared_turn : (i count n : ℕ) (xs : List CoreStatement) (x : CoreStatement) → i < length xs → x ≡ get_or xs i x →
     count + declared_in (drop i xs) ≡ declared_in xs → n ≡ declared x → count + n + declared_in (drop (i + 1) xs) ≡ declared_in xs
 declared_turn i count n xs x h e so_far new =
     let here : declared_in (drop i xs) ≡ declared_in (drop (i + 1) xs) + declared x = ap (λ l. declared_in l) (next_of xs i x h e) in
     omega arith
 
-pub declared_end : (i count : ℕ) (xs : List Statement) → length xs ≤ i → count + declared_in (drop i xs) ≡ declared_in xs → count ≡ declared_in xs
+pub declared_end : (i count : ℕ) (xs : List CoreStatement) → length xs ≤ i → count + declared_in (drop i xs) ≡ declared_in xs → count ≡ declared_in xs
 declared_end i count xs h so_far =
     let none : declared_in (drop i xs) ≡ 0 = ap (λ l. declared_in l) (drop_of_length-le xs h) in omega arith
 
-pub declared_front : (a b : List Statement) → declared_in (a ++ b) ≡ declared_in b + declared_in a
+pub declared_front : (a b : List CoreStatement) → declared_in (a ++ b) ≡ declared_in b + declared_in a
 declared_front [] b = omega arith
 declared_front (s ∷ a) b = omega (arith, declared_front a b)
 
@@ -110,7 +110,7 @@ last_of xs done k x h e d =
     ∙ seam (take k (reverse xs)) x (drop (suc k) (reverse xs))
     ∙ ap (λ l. reverse (drop (suc k) (reverse xs)) ++ (x ∷ reverse l)) (sym d)
 
-pub operands_turn : (next here : ℕ) (ys : List (Bor Expression)) (y : Bor Expression) (text longer old : List Instruction) →
+pub operands_turn : (next here : ℕ) (ys : List (Bor CoreExpression)) (y : Bor CoreExpression) (text longer old : List Instruction) →
     text ≡ list_code next (reverse (map (λ z. z.now) ys)) ++ old → next ≡ suc here → longer ≡ expr_code here y.now ++ text →
     longer ≡ list_code here (reverse (map (λ z. z.now) (ys ++ y ∷ []))) ++ old
 operands_turn next here ys y text longer old so_far n_is new =
@@ -120,7 +120,7 @@ operands_turn next here ys y text longer old so_far n_is new =
     ∙ sym (append_assoc (expr_code here y.now) (list_code (suc here) done) old)
     ∙ ap (λ l. list_code here l ++ old) (sym (one_more ys y))
 
-pub row_turn : (q m here next exit again : ℕ) (ys : List (Bor Statement)) (y : Bor Statement) (text longer old : List Instruction) →
+pub row_turn : (q m here next exit again : ℕ) (ys : List (Bor CoreStatement)) (y : Bor CoreStatement) (text longer old : List Instruction) →
     text ≡ statements_code q next m (length old - exit) (length old - again) (reverse (map (λ z. z.now) ys)) ++ old → next ≡ declared y.now + here →
     exit ≤ length old → again ≤ length old → longer ≡ stmt_code q here m (length text - exit) (length text - again) y.now ++ text →
     longer ≡ statements_code q here m (length old - exit) (length old - again) (reverse (map (λ z. z.now) (ys ++ y ∷ []))) ++ old
@@ -141,7 +141,7 @@ row_turn q m here next exit again ys y text longer old so_far n_is exit_in again
     ∙ ap (λ l. statements_code q here m b c l ++ old) (sym (one_more ys y))
 
 -- the locals of what is still to be written
-pub row_room : (xs : List Statement) (ys : List (Bor Statement)) (y : Bor Statement) (locals here total : ℕ) → length ys < length (reverse xs) → y.now ≡ get_or (reverse xs) (length ys) y.now →
+pub row_room : (xs : List CoreStatement) (ys : List (Bor CoreStatement)) (y : Bor CoreStatement) (locals here total : ℕ) → length ys < length (reverse xs) → y.now ≡ get_or (reverse xs) (length ys) y.now →
     map (λ z. z.now) ys ≡ take (length ys) (reverse xs) → total ≡ declared_in xs + locals → here + declared_in (reverse (map (λ z. z.now) ys)) ≡ total → declared y.now + locals ≤ here
 row_room xs ys y locals here total h e d total_is here_is =
     let done = reverse (map (λ z. z.now) ys) in

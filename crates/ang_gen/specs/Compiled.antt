@@ -3,7 +3,7 @@ use Rattle.std.specs.Prelude.{◌≡◌, List, map}
 use Rattle.std.specs.List.{AllZip}
 use Rattle.ang_view.specs.Registration.{RegistrationList}
 use Rattle.ang_typed.specs.Typed as t
-use Rattle.ang_core.specs.declared.tree.Body.{Body}
+use Rattle.ang_core.specs.declared.tree.CoreBody.{CoreBody}
 use Rattle.ang_code.specs.declared.instruction.RoutineCode.{RoutineCode}
 use Rattle.ang_source.specs.Sound.{SoundProgram}
 use Rattle.ang_lower.specs.Plain.{plain_body}
@@ -12,7 +12,7 @@ use Rattle.ang_gen.specs.Programs.{IsBodyCode}
 
 -- There are core bodies that are lowered from the module's tree, and each code is that of the body at its place.
 pub record IsCompiled (p : t.Program) (codes : List RoutineCode) : Type 0 where
-  pub bodies : List Body
+  pub bodies : List CoreBody
   pub lowered : map plain_body bodies ≡ lowered_module p
   pub code : AllZip IsBodyCode bodies codes
 

@@ -3,25 +3,25 @@ use Rattle.std.specs.Prelude.{◌≡◌, ℕ, ◌+◌, ◌<◌, ◌≤◌, ◌^�
 use Rattle.std.specs.declared.vec.Vec.{Vec}
 use Rattle.std.specs.declared.alloc.Global.{Global}
 use Rattle.ang_meaning.specs.declared.routine.Routine.{Routine}
-use Rattle.ang_core.specs.declared.tree.Body.{Body}
-use Rattle.ang_core.specs.declared.tree.Statement.{Statement}
-use Rattle.ang_core.specs.declared.tree.Statement.TheVariants.{Skip}
+use Rattle.ang_core.specs.declared.tree.CoreBody.{CoreBody}
+use Rattle.ang_core.specs.declared.tree.CoreStatement.{CoreStatement}
+use Rattle.ang_core.specs.declared.tree.CoreStatement.TheVariants.{Skip}
 use Rattle.ang_code.specs.declared.instruction.Instruction.{Instruction}
 use Rattle.ang_code.specs.declared.instruction.RoutineCode.{RoutineCode}
 use Rattle.ang_code.specs.Machine.{Texts}
 use Rattle.ang_gen.specs.Code.{body_code}
 use Rattle.ang_gen.specs.Heights.{BelowBody}
 
-abbrev pub parameter_count : Body → ℕ
+abbrev pub parameter_count : CoreBody → ℕ
 parameter_count b = length b.params.items
 
 -- the height is enough for a body, and no smaller one is
-pub record IsHeight (height : ℕ) (b : Body) : Type 0 where
+pub record IsHeight (height : ℕ) (b : CoreBody) : Type 0 where
   pub enough : BelowBody (parameter_count b + height) (parameter_count b) b.statement
   pub least : (h : ℕ) → BelowBody (parameter_count b + h) (parameter_count b) b.statement → height ≤ h
 
 -- the code of one body, whose frame is counted in 64 bits
-pub record IsBodyCode (b : Body) (code : RoutineCode) : Type 0 where
+pub record IsBodyCode (b : CoreBody) (code : RoutineCode) : Type 0 where
   pub params : code.params.items ≡ b.params.items
   pub result : code.result ≡ b.result
   pub text : code.text.items ≡ body_code (parameter_count b) b.statement
@@ -36,7 +36,7 @@ items_in (Some v) = v.items
 abbrev pub routine_in : {A : Type 0} → List (Vec A Global) → Routine → Option A
 routine_in modules g = slice_get (items_in (slice_get modules g.home)) g.number
 
-abbrev pub statement_in : Option Body → Statement
+abbrev pub statement_in : Option CoreBody → CoreStatement
 statement_in None = Skip
 statement_in (Some b) = b.statement
 

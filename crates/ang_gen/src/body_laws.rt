@@ -1,5 +1,5 @@
 //! What holds of generated code.
-ghost use Rattle.ang_meaning.specs.Setting.{Setting};
+ghost use Rattle.ang_meaning.specs.Environment.{Environment};
 ghost use Rattle.ang_core.specs.Meaning.{Bodies};
 ghost use Rattle.ang_core.specs.Sound.{AreSound};
 ghost use Rattle.ang_code.specs.Machine.{Texts};
@@ -10,7 +10,7 @@ ghost use Rattle.ang_gen.specs.Told.{AreTold};
 /// says: for every function, budget, arguments and inputs, and for every initializer.
 #[tactic(auto, using(crate::proofs::Bodies::behaves))]
 pub fn behaves()
-    ensures same { (z : Setting) (bodies : Bodies) (code : Texts)
+    ensures same { (z : Environment) (bodies : Bodies) (code : Texts)
         → AreSound z bodies
         → IsCode z bodies code
         → Behaves z bodies code }
@@ -21,7 +21,7 @@ pub fn behaves()
 /// asks for.
 #[tactic(auto, using(crate::proofs::Telling::are_told))]
 pub fn told()
-    ensures told { (z : Setting) (bodies : Bodies) (code : Texts)
+    ensures told { (z : Environment) (bodies : Bodies) (code : Texts)
         → AreSound z bodies
         → IsCode z bodies code
         → AreTold z bodies }

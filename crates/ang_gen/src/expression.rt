@@ -5,9 +5,9 @@ ghost use Rattle.ang_gen.specs.Peaks.{peak, list_peak};
 ghost use Rattle.ang_gen.specs.Rows.{list_code};
 
 use crate::room::place_above;
-use crate::text::Text;
+use crate::text::InstructionBuffer;
 use ang_code::Instruction;
-use ang_core::Expression;
+use ang_core::CoreExpression;
 use ang_meaning::{Spot, Target};
 use std::alloc::AllocError;
 
@@ -37,7 +37,7 @@ fn swap(target: &Target, under: usize, base: usize) -> Instruction
 }
 
 // The code of all targets, after a call. The first target in the list is the last one of the call.
-fn write_swaps(text: &mut Text, base: usize, targets: &[Target]) -> Result<(), AllocError>
+fn write_swaps(text: &mut InstructionBuffer, base: usize, targets: &[Target]) -> Result<(), AllocError>
     ensures code { OnOk result (text.new ≡ swaps_code 1 base targets.now ++ text.old) }
 {
     let mut under = 1;
@@ -49,7 +49,7 @@ fn write_swaps(text: &mut Text, base: usize, targets: &[Target]) -> Result<(), A
 }
 
 // What follows a call's entry: the values of its `&out` parameters move into their targets.
-fn write_outs(text: &mut Text, above: usize, targets: &[Target]) -> Result<(), AllocError>
+fn write_outs(text: &mut InstructionBuffer, above: usize, targets: &[Target]) -> Result<(), AllocError>
     requires room { 1 + length targets.now + above < 2 ^ 64 }
     ensures code { OnOk result (text.new ≡ outs_code above targets.now ++ text.old) }
 {
@@ -63,39 +63,39 @@ fn write_outs(text: &mut Text, above: usize, targets: &[Target]) -> Result<(), A
 
 /// Writes the code of an expression, where `above` values stand on the stack above the locals.
 #[cycle(expression)]
-pub fn write_expression(text: &mut Text, above: usize, e: &Expression) -> Result<(), AllocError>
+pub fn write_expression(text: &mut InstructionBuffer, above: usize, e: &CoreExpression) -> Result<(), AllocError>
     requires room { peak above e.now < 2 ^ 64 }
     ensures code { OnOk result (text.new ≡ expr_code above e.now ++ text.old) }
 {
     match e {
-        Expression::Number(n) => text.put(Instruction::PushBits(*n)),
-        Expression::Null => text.put(Instruction::PushNull),
-        Expression::Local(i) => text.put(Instruction::Load(place_above(above, *i))),
-        Expression::Assign(i, value) => {
+        CoreExpression::Number(n) => text.put(Instruction::PushBits(*n)),
+        CoreExpression::Null => text.put(Instruction::PushNull),
+        CoreExpression::Local(i) => text.put(Instruction::Load(place_above(above, *i))),
+        CoreExpression::Assign(i, value) => {
             text.put(Instruction::Store(place_above(above, *i)))?;
             write_expression(text, above, value)
         }
-        Expression::Change(i, change, value) => {
-            text.put(Instruction::Change(*change, place_above(above, *i)))?;
+        CoreExpression::Update(i, change, value) => {
+            text.put(Instruction::Update(*change, place_above(above, *i)))?;
             write_expression(text, above, value)
         }
-        Expression::Apply(operation, operands) => {
-            text.put(Instruction::Do(*operation))?;
+        CoreExpression::Apply(operation, operands) => {
+            text.put(Instruction::Apply(*operation))?;
             write_operands(text, above, operands)
         }
-        Expression::Call(callee, operands, targets) => {
+        CoreExpression::Call(callee, operands, targets) => {
             write_outs(text, above, targets)?;
             text.put(Instruction::Enter(*callee))?;
             write_operands(text, above, operands)
         }
-        Expression::Choose(test, one, two) => {
+        CoreExpression::Choose(test, one, two) => {
             let end = text.len();
             write_expression(text, above, two)?;
             let second = text.len();
-            text.put(Instruction::GoOn(second - end))?;
+            text.put(Instruction::Jump(second - end))?;
             write_expression(text, above, one)?;
             let first = text.len();
-            text.put(Instruction::SkipIfFalse(first - second))?;
+            text.put(Instruction::JumpIfFalse(first - second))?;
             write_expression(text, above, test)
         }
     }
@@ -103,7 +103,7 @@ pub fn write_expression(text: &mut Text, above: usize, e: &Expression) -> Result
 
 // Operands in their order, each above the values of those before it.
 #[cycle(expression)]
-fn write_operands(text: &mut Text, above: usize, operands: &[Expression]) -> Result<(), AllocError>
+fn write_operands(text: &mut InstructionBuffer, above: usize, operands: &[CoreExpression]) -> Result<(), AllocError>
     requires room { list_peak above operands.now < 2 ^ 64 }
     ensures code { OnOk result (text.new ≡ list_code above operands.now ++ text.old) }
 {

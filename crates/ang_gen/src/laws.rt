@@ -4,7 +4,7 @@ ghost use Rattle.std.specs.declared.alloc.Global.{Global};
 ghost use Rattle.std.specs.declared.vec.Vec.{Vec};
 ghost use Rattle.ang_view.specs.Registration.{RegistrationList};
 ghost use Rattle.ang_typed.specs.Typed.{Program};
-ghost use Rattle.ang_meaning.specs.Setting.{Setting};
+ghost use Rattle.ang_meaning.specs.Environment.{Environment};
 ghost use Rattle.ang_core.specs.Sound.{LinksFit};
 ghost use Rattle.ang_code.specs.Machine.{Texts};
 ghost use Rattle.ang_code.specs.declared.instruction.RoutineCode.{RoutineCode};
@@ -16,12 +16,12 @@ ghost use Rattle.ang_gen.specs.Behaves.{HasCodes, IsModule, RunsCode, sources_of
 /// methods lead where they may, the machine ends as the source means: for every function, budget, arguments
 /// and inputs, and for every initializer. The modules are given by their numbers, or as a list.
 pub fn behaves()
-    ensures same { (z : Setting) (view : ℕ → RegistrationList) (program : ℕ → Program)
+    ensures same { (z : Environment) (view : ℕ → RegistrationList) (program : ℕ → Program)
         (code : Texts)
         → ((m : ℕ) → IsModule z m (view m) (program m) code)
         → LinksFit z
         → BehavesAsSource z (sources_of program) code }
-    ensures listed { (z : Setting) (view : ℕ → RegistrationList) (programs : List Program)
+    ensures listed { (z : Environment) (view : ℕ → RegistrationList) (programs : List Program)
         (code : Texts)
         → ((m : ℕ) → IsModule z m (view m) (slice_index_or programs m nothing) code)
         → LinksFit z
@@ -39,7 +39,7 @@ pub fn texts_there()
 /// In compiled modules of which no import is bound, imports and methods lead where they may: a class of a
 /// sound tree has methods that fit their slots.
 pub fn unbound_imports_fit()
-    ensures of_modules { (z : Setting) (view : ℕ → RegistrationList) (program : ℕ → Program)
+    ensures of_modules { (z : Environment) (view : ℕ → RegistrationList) (program : ℕ → Program)
         (code : Texts)
         → ((m : ℕ) → IsModule z m (view m) (program m) code)
         → ((m i : ℕ) → z.linked m i ≡ None)
@@ -49,7 +49,7 @@ pub fn unbound_imports_fit()
 /// Code that behaves as its source is never stuck: no instruction of a run finds less on the stack than it
 /// takes, or no room for what it pushes.
 pub fn never_stuck()
-    ensures never { (z : Setting) (sources : Codes) (code : Texts)
+    ensures never { (z : Environment) (sources : Codes) (code : Texts)
         → BehavesAsSource z sources code
         → NeverStuck z code }
 {}
@@ -58,7 +58,7 @@ pub fn never_stuck()
 /// instruction finds less on the stack than it takes, or no room for what it pushes, and no place has no
 /// instruction.
 pub fn no_run_is_lost()
-    ensures never { (z : Setting) (codes : ℕ → List RoutineCode) (code : Texts)
+    ensures never { (z : Environment) (codes : ℕ → List RoutineCode) (code : Texts)
         → ((m : ℕ) → RunsCode z m (codes m) code)
         → LinksFit z
         → NeverStuck z code }

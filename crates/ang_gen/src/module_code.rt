@@ -8,13 +8,13 @@ ghost use Rattle.ang_gen.specs.Programs.{IsBodyCode};
 use crate::height::statement_peak;
 use crate::room::higher;
 use crate::statement::{Exits, declared_by, write_statement};
-use crate::text::Text;
+use crate::text::InstructionBuffer;
 use ang_code::{Instruction, RoutineCode};
-use ang_core::{Body, Statement};
+use ang_core::{CoreBody, CoreStatement};
 use std::alloc::{AllocError, Global};
 
 // The instructions of a whole body with `params` parameters, into a text that is empty so far.
-fn body_text(mut text: Text, params: usize, s: &Statement) -> Result<Vec<Instruction>, AllocError>
+fn body_text(mut text: InstructionBuffer, params: usize, s: &CoreStatement) -> Result<Vec<Instruction>, AllocError>
     requires empty { text ≡ [] }
     requires room { statement_peak params s.now < 2 ^ 64 }
     ensures exact { IfOk result (λ code. code.items ≡ body_code params s.now) }
@@ -33,7 +33,7 @@ fn body_text(mut text: Text, params: usize, s: &Statement) -> Result<Vec<Instruc
 }
 
 // The greatest number of values in the frame of a whole body with `params` parameters.
-fn frame_peak(params: usize, s: &Statement) -> Option<usize>
+fn frame_peak(params: usize, s: &CoreStatement) -> Option<usize>
     ensures exact { IfSome result (λ n. n ≡ body_peak params s.now) }
 {
     let locals = higher(declared_by(s), params)?;
@@ -44,20 +44,20 @@ fn frame_peak(params: usize, s: &Statement) -> Option<usize>
 
 // The same, and an empty text. Each value above the parameters is put there by an instruction, so the text
 // begins with room for as many instructions: where the frame can't be counted, that room is refused.
-fn frame_of(alloc: Global, params: usize, s: &Statement) -> Result<(usize, Text), AllocError>
+fn frame_of(alloc: Global, params: usize, s: &CoreStatement) -> Result<(usize, InstructionBuffer), AllocError>
     ensures peak { IfOk result (λ found. found.0 ≡ body_peak params s.now) }
     ensures counted { IfOk result (λ found. found.0 < 2 ^ 64) }
     ensures empty { IfOk result (λ found. found.1 ≡ []) }
 {
     let peak = frame_peak(params, s);
     let room = peak.unwrap_or(usize::MAX);
-    let text = Text::with_room(alloc, room)?;
+    let text = InstructionBuffer::with_room(alloc, room)?;
     Ok((room, text))
 }
 
 /// Generates the code of one body: its instructions, how its parameters take their arguments, the primitive
 /// type of its value, and the least number of values above the parameters within which it always stays.
-fn generate_body(alloc: Global, body: &Body) -> Result<RoutineCode, AllocError>
+fn generate_body(alloc: Global, body: &CoreBody) -> Result<RoutineCode, AllocError>
     ensures code { IfOk result (λ code. IsBodyCode body.now code) }
 {
     let count = body.params.len();
@@ -78,7 +78,7 @@ fn generate_body(alloc: Global, body: &Body) -> Result<RoutineCode, AllocError>
 ///
 /// # Errors
 /// Want of memory.
-pub fn generate_module(alloc: Global, bodies: &[Body]) -> Result<Vec<RoutineCode>, AllocError>
+pub fn generate_module(alloc: Global, bodies: &[CoreBody]) -> Result<Vec<RoutineCode>, AllocError>
     ensures codes { IfOk result (λ codes. AllZip IsBodyCode bodies.now codes.items) }
 {
     let mut codes = Vec::new(alloc);

@@ -1,16 +1,16 @@
 //! The code of statements, written from its end.
 ghost use Rattle.std.specs.Prelude.{◌≡◌, ◌+◌, ◌-◌, ◌≤◌, ◌<◌, ◌^◌, List, [], ◌∷◌, ◌++◌, length, OnOk};
 ghost use Rattle.ang_code.specs.declared.instruction.Instruction.{Instruction};
-ghost use Rattle.ang_code.specs.declared.instruction.Instruction.TheVariants.{Back as BackBy, GoOn as GoOnBy, SkipIfFalse as SkipBy};
+ghost use Rattle.ang_code.specs.declared.instruction.Instruction.TheVariants.{LoopBack as BackBy, Jump as GoOnBy, JumpIfFalse as SkipBy};
 ghost use Rattle.ang_core.specs.Sound.{declared};
 ghost use Rattle.ang_gen.specs.Code.{expr_code, past_code, leave_code, block_code, stmt_code, while_code};
 ghost use Rattle.ang_gen.specs.Peaks.{peak, statement_peak, statements_peak};
 ghost use Rattle.ang_gen.specs.Rows.{statements_code, declared_in};
 
 use crate::expression::write_expression;
-use crate::text::Text;
+use crate::text::InstructionBuffer;
 use ang_code::Instruction;
-use ang_core::{Expression, Statement};
+use ang_core::{CoreExpression, CoreStatement};
 use std::alloc::AllocError;
 
 /// Where the statements that are being written can leave to. A place is the number of instructions that
@@ -28,26 +28,26 @@ pub struct Exits {
 }
 
 /// How many locals a statement leaves alive.
-pub fn declared_by(s: &Statement) -> usize
+pub fn declared_by(s: &CoreStatement) -> usize
     ensures count { result ≡ declared s.now }
     ensures few { result ≤ 1 }
 {
     match s {
-        Statement::Declare(_) => 1,
-        Statement::Skip => 0,
-        Statement::Evaluate(_) => 0,
-        Statement::Block(_) => 0,
-        Statement::If(_, _, _) => 0,
-        Statement::While(_, _, _) => 0,
-        Statement::DoWhile(_, _) => 0,
-        Statement::Return(_) => 0,
-        Statement::Break => 0,
-        Statement::Continue => 0,
+        CoreStatement::Declare(_) => 1,
+        CoreStatement::Skip => 0,
+        CoreStatement::Evaluate(_) => 0,
+        CoreStatement::Block(_) => 0,
+        CoreStatement::If(_, _, _) => 0,
+        CoreStatement::While(_, _, _) => 0,
+        CoreStatement::DoWhile(_, _) => 0,
+        CoreStatement::Return(_) => 0,
+        CoreStatement::Break => 0,
+        CoreStatement::Continue => 0,
     }
 }
 
 // The same of statements in turn.
-fn declared_by_all(statements: &[Statement]) -> usize
+fn declared_by_all(statements: &[CoreStatement]) -> usize
     ensures exact { result ≡ declared_in statements.now }
 {
     let mut count = 0;
@@ -58,7 +58,7 @@ fn declared_by_all(statements: &[Statement]) -> usize
 }
 
 // `n` locals are given up.
-fn write_leave(text: &mut Text, n: usize) -> Result<(), AllocError>
+fn write_leave(text: &mut InstructionBuffer, n: usize) -> Result<(), AllocError>
     ensures code { OnOk result (text.new ≡ leave_code n ++ text.old) }
 {
     if n > 0 {
@@ -68,30 +68,30 @@ fn write_leave(text: &mut Text, n: usize) -> Result<(), AllocError>
 }
 
 // A jump past `n` instructions, where there are any.
-fn write_past(text: &mut Text, n: usize) -> Result<(), AllocError>
+fn write_past(text: &mut InstructionBuffer, n: usize) -> Result<(), AllocError>
     ensures code { OnOk result (text.new ≡ past_code n ++ text.old) }
 {
     if n > 0 {
-        text.put(Instruction::GoOn(n))?;
+        text.put(Instruction::Jump(n))?;
     }
     Ok(())
 }
 
 // A test, which passes what was written since the mark where it is false.
-fn write_test(text: &mut Text, mark: usize, test: &Expression) -> Result<(), AllocError>
+fn write_test(text: &mut InstructionBuffer, mark: usize, test: &CoreExpression) -> Result<(), AllocError>
     requires room { peak 0 test.now < 2 ^ 64 }
     requires mark { mark ≤ length text.old }
     ensures code { OnOk result (text.new ≡ expr_code 0 test.now
         ++ (SkipBy (length text.old - mark) ∷ text.old)) }
 {
     let here = text.len();
-    text.put(Instruction::SkipIfFalse(here - mark))?;
+    text.put(Instruction::JumpIfFalse(here - mark))?;
     write_expression(text, 0, test)
 }
 
 // The beginning of a loop whose body and step are written, in front of its jump back, which has `behind`
 // instructions after it.
-fn begin_loop(text: &mut Text, behind: usize, test: &Expression) -> Result<(), AllocError>
+fn begin_loop(text: &mut InstructionBuffer, behind: usize, test: &CoreExpression) -> Result<(), AllocError>
     requires room { peak 0 test.now < 2 ^ 64 }
     requires behind { behind < length text.old }
     ensures code { (body step rest : List Instruction) →
@@ -107,7 +107,7 @@ fn begin_loop(text: &mut Text, behind: usize, test: &Expression) -> Result<(), A
 }
 
 // The same of a loop without a step that goes to its body first.
-fn begin_at_body(text: &mut Text, behind: usize, test: &Expression) -> Result<(), AllocError>
+fn begin_at_body(text: &mut InstructionBuffer, behind: usize, test: &CoreExpression) -> Result<(), AllocError>
     requires room { peak 0 test.now < 2 ^ 64 }
     requires behind { behind < length text.old }
     ensures code { (body rest : List Instruction) → text.old ≡ body ++ BackBy 0 ∷ rest →
@@ -118,27 +118,27 @@ fn begin_at_body(text: &mut Text, behind: usize, test: &Expression) -> Result<()
     let body = text.len();
     begin_loop(text, behind, test)?;
     let start = text.len();
-    text.put(Instruction::GoOn(start - body))
+    text.put(Instruction::Jump(start - body))
 }
 
 // `n` locals are given up, and the run goes on where `behind` instructions stand after it.
-fn write_way_out(text: &mut Text, n: usize, behind: usize) -> Result<(), AllocError>
+fn write_way_out(text: &mut InstructionBuffer, n: usize, behind: usize) -> Result<(), AllocError>
     requires behind { behind ≤ length text.old }
     ensures code { OnOk result (text.new ≡ (leave_code n ++ GoOnBy (length text.old - behind) ∷ [])
         ++ text.old) }
 {
     let here = text.len();
-    text.put(Instruction::GoOn(here - behind))?;
+    text.put(Instruction::Jump(here - behind))?;
     write_leave(text, n)
 }
 
 // A block: a statement, and what gives up its locals.
 #[cycle(statement)]
 fn write_block(
-    text: &mut Text,
+    text: &mut InstructionBuffer,
     exits: Exits,
     locals: usize,
-    s: &Statement,
+    s: &CoreStatement,
 ) -> Result<(), AllocError>
     requires room { statement_peak locals s.now < 2 ^ 64 }
     requires params { exits.params ≤ locals }
@@ -157,10 +157,10 @@ fn write_block(
 // A loop's step, which is a block that leaves no loop.
 #[cycle(statement)]
 fn write_step(
-    text: &mut Text,
+    text: &mut InstructionBuffer,
     params: usize,
     locals: usize,
-    s: &Statement,
+    s: &CoreStatement,
 ) -> Result<(), AllocError>
     requires room { statement_peak locals s.now < 2 ^ 64 }
     requires within { params ≤ locals }
@@ -181,11 +181,11 @@ fn write_step(
 // A loop's body, in front of the loop's step. `behind` instructions stand after the loop.
 #[cycle(statement)]
 fn write_body(
-    text: &mut Text,
+    text: &mut InstructionBuffer,
     params: usize,
     locals: usize,
     behind: usize,
-    s: &Statement,
+    s: &CoreStatement,
 ) -> Result<(), AllocError>
     requires room { statement_peak locals s.now < 2 ^ 64 }
     requires params { params ≤ locals }
@@ -207,10 +207,10 @@ fn write_body(
 // Statements in turn.
 #[cycle(statement)]
 fn write_row(
-    text: &mut Text,
+    text: &mut InstructionBuffer,
     exits: Exits,
     locals: usize,
-    row: &[Statement],
+    row: &[CoreStatement],
 ) -> Result<(), AllocError>
     requires room { statements_peak locals row.now < 2 ^ 64 }
     requires params { exits.params ≤ locals }
@@ -231,10 +231,10 @@ fn write_row(
 /// Writes the code of a statement where `alive` locals are alive.
 #[cycle(statement)]
 pub fn write_statement(
-    text: &mut Text,
+    text: &mut InstructionBuffer,
     exits: Exits,
     locals: usize,
-    s: &Statement,
+    s: &CoreStatement,
 ) -> Result<(), AllocError>
     requires room { statement_peak locals s.now < 2 ^ 64 }
     requires params { exits.params ≤ locals }
@@ -245,17 +245,17 @@ pub fn write_statement(
         (length text.old - exits.exit) (length text.old - exits.again) s.now ++ text.old) }
 {
     match s {
-        Statement::Skip => Ok(()),
-        Statement::Evaluate(e) => {
+        CoreStatement::Skip => Ok(()),
+        CoreStatement::Evaluate(e) => {
             text.put(Instruction::Drop)?;
             write_expression(text, 0, e)
         }
-        Statement::Declare(e) => write_expression(text, 0, e),
-        Statement::Block(row) => {
+        CoreStatement::Declare(e) => write_expression(text, 0, e),
+        CoreStatement::Block(row) => {
             write_leave(text, declared_by_all(row))?;
             write_row(text, exits, locals, row)
         }
-        Statement::If(test, one, two) => {
+        CoreStatement::If(test, one, two) => {
             let end = text.len();
             write_block(text, exits, locals, two)?;
             let second = text.len();
@@ -263,24 +263,24 @@ pub fn write_statement(
             write_block(text, exits, locals, one)?;
             write_test(text, second, test)
         }
-        Statement::While(test, body, step) => {
+        CoreStatement::While(test, body, step) => {
             let behind = text.len();
-            text.put(Instruction::Back(0))?;
+            text.put(Instruction::LoopBack(0))?;
             write_step(text, exits.params, locals, step)?;
             write_body(text, exits.params, locals, behind, body)?;
             begin_loop(text, behind, test)
         }
-        Statement::DoWhile(test, body) => {
+        CoreStatement::DoWhile(test, body) => {
             let behind = text.len();
-            text.put(Instruction::Back(0))?;
+            text.put(Instruction::LoopBack(0))?;
             write_body(text, exits.params, locals, behind, body)?;
             begin_at_body(text, behind, test)
         }
-        Statement::Return(e) => {
+        CoreStatement::Return(e) => {
             text.put(Instruction::Return(locals - exits.params))?;
             write_expression(text, 0, e)
         }
-        Statement::Break => write_way_out(text, locals - exits.alive, exits.exit),
-        Statement::Continue => write_way_out(text, locals - exits.alive, exits.again),
+        CoreStatement::Break => write_way_out(text, locals - exits.alive, exits.exit),
+        CoreStatement::Continue => write_way_out(text, locals - exits.alive, exits.again),
     }
 }

@@ -3,7 +3,7 @@
 //! So the distance of a forward jump is known when it is written.
 ghost use Rattle.std.specs.Prelude.{◌≡◌, ◌<◌, ◌^◌, List, ◌∷◌, ◌++◌, [], length, IfOk, OnOk, OnErr};
 ghost use Rattle.ang_code.specs.declared.instruction.Instruction.{Instruction};
-ghost use Rattle.ang_code.specs.declared.instruction.Instruction.TheVariants.{Back};
+ghost use Rattle.ang_code.specs.declared.instruction.Instruction.TheVariants.{LoopBack};
 
 use ang_code::Instruction;
 use std::alloc::{AllocError, Global};
@@ -11,11 +11,11 @@ use std::marker::Model;
 
 /// A body's instructions, of which the first ones are still to be written.
 #[derive(Drop)]
-pub struct Text {
+pub struct InstructionBuffer {
     reversed: Vec<Instruction>,
 }
 
-impl Model for Text {
+impl Model for InstructionBuffer {
     ghost use Rattle.std.specs.Prelude.{List, reverse};
     ghost use Rattle.ang_code.specs.declared.instruction.Instruction.{Instruction};
 
@@ -24,17 +24,17 @@ impl Model for Text {
     ghost view = { λ a. reverse a.reversed.items };
 }
 
-impl Text {
+impl InstructionBuffer {
     /// The text that is empty so far, with room for that many instructions.
     ///
     /// # Errors
     /// Want of memory: there is no room for them.
-    pub fn with_room(alloc: Global, room: usize) -> Result<Text, AllocError>
+    pub fn with_room(alloc: Global, room: usize) -> Result<InstructionBuffer, AllocError>
         ensures empty { IfOk result (λ text. text ≡ []) }
         ensures room { IfOk result (λ text. room < 2 ^ 63) }
     {
         let reversed = Vec::with_capacity(alloc, room)?;
-        Ok(Text { reversed })
+        Ok(InstructionBuffer { reversed })
     }
 
     /// How many instructions it has.
@@ -62,16 +62,16 @@ impl Text {
         requires there { behind < length self.old }
         ensures set { (front rest : List Instruction) (i : Instruction) →
             self.old ≡ front ++ i ∷ rest → length rest ≡ behind
-            → self.new ≡ front ++ Back distance ∷ rest }
+            → self.new ≡ front ++ LoopBack distance ∷ rest }
     {
-        self.reversed[behind] = Instruction::Back(distance);
+        self.reversed[behind] = Instruction::LoopBack(distance);
     }
 
     /// The instructions in their order.
     pub fn into_vec(self) -> Vec<Instruction>
         ensures same { result.items ≡ self }
     {
-        let Text { mut reversed } = self;
+        let InstructionBuffer { mut reversed } = self;
         reversed.reverse();
         reversed
     }

@@ -2,7 +2,7 @@
 ghost use Rattle.std.specs.Prelude.{◌≡◌, Some, None, IfOk, OnErr, IfSome, ◌+◌, ◌≤◌, map as list_map, slice_index_or, slice_set};
 ghost use Rattle.std.specs.FinMap as map;
 ghost use Rattle.ang_meaning.specs.Perform.{field_of, with_field, new_object};
-ghost use Rattle.ang_meaning.specs.Setting.{default_of};
+ghost use Rattle.ang_meaning.specs.Environment.{default_of};
 ghost use Rattle.slab.specs.Slab.{get as slab_get, with_value};
 ghost use Rattle.ang_heap.specs.Places.{places_of};
 ghost use Rattle.ang_heap.specs.Heaps.{IsTallied, IsLess, HasGrown, record_of, objects_in, objects_of, class_of_record, rank_of_record};

@@ -3,7 +3,7 @@ use Rattle.std.proofs.Common.{◌≡◌, ℕ, zero, suc, ◌-◌, ◌≤◌, Lis
 use Rattle.ang_kinds.specs.declared.fault.Fault.TheVariants.{Null, Tally}
 use Rattle.ang_meaning.specs.declared.slot.Slot.{Slot}
 use Rattle.ang_meaning.specs.declared.slot.Slot.TheVariants.{Bits, Script, Host}
-use Rattle.ang_meaning.specs.declared.operation.Change.{Change}
+use Rattle.ang_meaning.specs.declared.operation.Update.{Update}
 use Rattle.ang_meaning.specs.declared.routine.Spot.{Spot}
 use Rattle.ang_meaning.specs.declared.routine.Spot.TheVariants as spot
 use Rattle.ang_meaning.specs.declared.routine.Target.{Target}
@@ -88,7 +88,7 @@ changed_keeps : (n i : ℕ) (o : Changed) (v : Slot) (ls : List Slot) (t : ℕ) 
 changed_keeps n i (Into stored given) v ls t w l = length_set ls i (Bits stored) ∙ l
 changed_keeps n i (Never f) v ls t w l = l
 
-pub altered_keeps : (n i : ℕ) (c : Change) (y : Evaluated) → Keeps n y → Keeps n (altered i c y)
+pub altered_keeps : (n i : ℕ) (c : Update) (y : Evaluated) → Keeps n y → Keeps n (altered i c y)
 altered_keeps n i c (Gave v ls t w) l = changed_keeps n i (change_of c (local_at ls i) v) v ls t w l
 altered_keeps n i c (Failed f ls w) l = l
 

@@ -3,13 +3,13 @@ use Rattle.std.proofs.Common.{◌≡◌, ℕ, zero, suc, ◌+◌, List, [], ◌�
 use Rattle.std.specs.Prelude.{if◌then◌else◌, false}
 use Rattle.std.proofs.lemmas.List.{length-map, length-reverse}
 use Rattle.ang_kinds.specs.declared.fault.Fault.TheVariants.{Null, Budget, Depth, Memory}
-use Rattle.ang_typed.specs.declared.expression.Variable.TheVariants as variable
-use Rattle.ang_typed.specs.declared.program.Parameter.{Parameter}
+use Rattle.ang_typed.specs.declared.expression.TypedVariable.TheVariants as variable
+use Rattle.ang_typed.specs.declared.program.TypedParameter.{TypedParameter}
 use Rattle.ang_meaning.specs.declared.slot.Slot.{Slot}
 use Rattle.ang_meaning.specs.declared.routine.Routine.{Routine}
 use Rattle.ang_meaning.specs.declared.routine.Passing.{Passing}
 use Rattle.ang_meaning.specs.World.{World, or_else, give, give_all, memory_step}
-use Rattle.ang_meaning.specs.Setting.{Setting, Found, Enters, Misses, target, has_objects, params_of}
+use Rattle.ang_meaning.specs.Environment.{Environment, Found, Enters, Misses, target, has_objects, params_of}
 use Rattle.ang_meaning.specs.Results.{Went, Reply, Yields, Raises, Calls, ticked, with_value, finished, may_nest, entered, found_entered, enter}
 use Rattle.ang_core.specs.Meaning.{Bodies}
 use Rattle.ang_core.specs.Meaning as core
@@ -26,11 +26,11 @@ use Rattle.ang_lower.proofs.Callees.{takes}
 use Rattle.ang_lower.proofs.Values.{CalleesAgree, stored_same, value_same}
 use Rattle.ang_lower.proofs.Turns.{PassesAgree, block_same, statements_same, pass_same}
 
-pub passings_count : (ps : List Parameter) → length (passings_of ps) ≡ length ps
+pub passings_count : (ps : List TypedParameter) → length (passings_of ps) ≡ length ps
 passings_count ps = length-reverse (map (λ p. passing_of p) ps) ∙ length-map ps (λ p. passing_of p)
 
 -- what stands before a body, where the bodies do the same
-entered_same : (z : Setting) (b b' : Calls) (d : ℕ) (g : Routine) (vs : List Slot) (t : ℕ) (w : World) → ((t' : ℕ) (w' : World) → b g vs t' w' ≡ b' g vs t' w') → entered z b d g vs t w ≡ entered z b' d g vs t w
+entered_same : (z : Environment) (b b' : Calls) (d : ℕ) (g : Routine) (vs : List Slot) (t : ℕ) (w : World) → ((t' : ℕ) (w' : World) → b g vs t' w' ≡ b' g vs t' w') → entered z b d g vs t w ≡ entered z b' d g vs t w
 entered_same z b b' d g vs t w h =
     λ j. if has_objects (params_of z g) vs
     then (if may_nest z d
@@ -39,7 +39,7 @@ entered_same z b b' d g vs t w h =
     else (Raises Null (give_all vs w))
 
 -- a whole body
-code_same : (z : Setting) (m : ℕ) (M : Module) (k k' : Callees) (callees : CalleesAgree M k k') (p : plain.Passes) (p' : source.Passes) (passes : PassesAgree M p p')
+code_same : (z : Environment) (m : ℕ) (M : Module) (k k' : Callees) (callees : CalleesAgree M k k') (p : plain.Passes) (p' : source.Passes) (passes : PassesAgree M p p')
     (x : Code) (n : ℕ) (ls : List Slot) (t : ℕ) (w : World) → length ls ≡ n → SoundCode M n x → run z m k p (lowered_code n x) ls t w ≡ run_code z m k' p' x ls t w
 code_same z m M k k' callees p p' passes (of_function ss) n ls t w l h =
     (block_same z m M k k' callees p p' passes n (declared_by ss + n) (lowered_all n ss) (source.run_all z m k' p' ss) ls t w l (omega arith)
@@ -49,14 +49,14 @@ code_same z m M k k' callees p p' passes (of_global g e) n ls t w l h =
     (stored_same z m k k' n (variable.Global g) (low.lowered n e) (evaluate z m k' e ls t w) ls t w l (value_same z m M k k' callees e n ls t w l h.1)).same
 
 -- a call, where what it enters does the same
-found_same : (z : Setting) (b b' : Calls) (d : ℕ) (f : Found) (vs : List Slot) (t : ℕ) (w : World) → ((g : Routine) → f ≡ Enters g → (t' : ℕ) (w' : World) → b g vs t' w' ≡ b' g vs t' w')
+found_same : (z : Environment) (b b' : Calls) (d : ℕ) (f : Found) (vs : List Slot) (t : ℕ) (w : World) → ((g : Routine) → f ≡ Enters g → (t' : ℕ) (w' : World) → b g vs t' w' ≡ b' g vs t' w')
     → found_entered z b d f vs t w ≡ found_entered z b' d f vs t w
 found_same z b b' d (Enters g) vs t w h = entered_same z b b' d g vs t w (h g refl)
 found_same z b b' d (Misses x) vs t w h = refl
 
 -- ---- all modules: an import leads from one to another
 
-module _ (z : Setting) (M : ℕ → Module) (bodies : Bodies) (codes : Codes) (are : (m : ℕ) → AreLowered z m (M m) bodies codes) (links : LinksFit z) where
+module _ (z : Environment) (M : ℕ → Module) (bodies : Bodies) (codes : Codes) (are : (m : ℕ) → AreLowered z m (M m) bodies codes) (links : LinksFit z) where
   record Follows (n : ℕ) : Type 0 where
     bodies_go : (d : ℕ) (g : Routine) (ps : List Passing) (vs : List Slot) (t : ℕ) (w : World) → z.params g ≡ Some ps → length ps ≡ length vs
         → plain.body_at z (plain_of bodies) n d g vs t w ≡ source.body_at z codes n d g vs t w
@@ -103,7 +103,7 @@ after_one : (r : Reply) (go go' : ℕ → World → Reply) → ((t : ℕ) (w : W
 after_one (Yields v outs t w) go go' h = h t (give v w)
 after_one (Raises f w) go go' h = refl
 
-pub all_same : (z : Setting) (bodies : Bodies) (codes : Codes) (gs : List Routine) (t : ℕ) (w : World) → AllMeanSame z bodies codes gs → core.initialized_all z bodies gs t w ≡ source.initialized_all z codes gs t w
+pub all_same : (z : Environment) (bodies : Bodies) (codes : Codes) (gs : List Routine) (t : ℕ) (w : World) → AllMeanSame z bodies codes gs → core.initialized_all z bodies gs t w ≡ source.initialized_all z codes gs t w
 all_same z bodies codes [] t w h = refl
 all_same z bodies codes (g ∷ gs) t w h =
     ap (λ r. core.then_initialized r (λ t' w'. core.initialized_all z bodies gs t' w')) (h.1.initializers t w h.0)
@@ -111,7 +111,7 @@ all_same z bodies codes (g ∷ gs) t w h =
 
 -- ---- a build's initializers
 
-module _ (z : Setting) (M : ℕ → Module) (bodies : Bodies) (codes : Codes) (are : (m : ℕ) → AreLowered z m (M m) bodies codes) (links : LinksFit z) where
+module _ (z : Environment) (M : ℕ → Module) (bodies : Bodies) (codes : Codes) (are : (m : ℕ) → AreLowered z m (M m) bodies codes) (links : LinksFit z) where
   all_mean : (gs : List Routine) → TakeNothing z gs → AllMeanSame z bodies codes gs
   all_mean [] h = tt
   all_mean (g ∷ gs) h = (h.0, everywhere z M bodies codes are links g, all_mean gs h.1)

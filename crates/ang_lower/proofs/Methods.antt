@@ -4,10 +4,10 @@ use Rattle.std.specs.Prelude.{Bool, true, false, cond, find, ◌==◌, option_ma
 use Rattle.std.specs.Option.{option_or}
 use Rattle.std.proofs.lemmas.Bool.{eqb-true}
 use Rattle.ang_view.specs.Registration.{RegistrationList}
-use Rattle.ang_typed.specs.declared.program.Class.{Class}
+use Rattle.ang_typed.specs.declared.program.TypedClass.{TypedClass}
 use Rattle.ang_typed.specs.Typed as tree
 use Rattle.ang_meaning.specs.declared.routine.Routine.{Routine}
-use Rattle.ang_meaning.specs.Setting.{Setting}
+use Rattle.ang_meaning.specs.Environment.{Environment}
 use Rattle.ang_source.specs.Meaning.{own_body, body_by, routine}
 use Rattle.ang_source.specs.Sound.{Module, module_of, IsChosen, AreChosen, SoundClass, SoundClasses, SoundProgram}
 use Rattle.ang_lower.specs.Same.{HasProgram}
@@ -28,16 +28,16 @@ own_chosen M s b (r ∷ rows) h e = row_chosen M s b r rows (r.0 == s) refl h.0 
 
 -- ---- and those of the classes above it
 
-abbrev IsSoundClass : Module → Option Class → Type 0
+abbrev IsSoundClass : Module → Option TypedClass → Type 0
 IsSoundClass M None = Unit {0}
 IsSoundClass M (Some c) = SoundClass M c
 
-class_at : (M : Module) (cs : List Class) (n : ℕ) → SoundClasses M cs → IsSoundClass M (slice_get cs n)
+class_at : (M : Module) (cs : List TypedClass) (n : ℕ) → SoundClasses M cs → IsSoundClass M (slice_get cs n)
 class_at M [] n h = tt
 class_at M (c ∷ cs) zero h = h.0
 class_at M (c ∷ cs) (suc n) h = class_at M cs n h.1
 
-base_at : (M : Module) (cs : List Class) (base : Option ℕ) → SoundClasses M cs → IsSoundClass M (option_and_then (slice_get cs) base)
+base_at : (M : Module) (cs : List TypedClass) (base : Option ℕ) → SoundClasses M cs → IsSoundClass M (option_and_then (slice_get cs) base)
 base_at M cs None h = tt
 base_at M cs (Some n) h = class_at M cs n h
 
@@ -45,7 +45,7 @@ first_chosen : (M : Module) (s b : ℕ) (x y : Option ℕ) → (x ≡ Some b →
 first_chosen M s b None y one other e = other e
 first_chosen M s b (Some i) y one other e = one e
 
-body_chosen : (M : Module) (cs : List Class) (s b n : ℕ) (c : Option Class) → SoundClasses M cs → IsSoundClass M c → body_by cs s n c ≡ Some b → IsChosen M s b
+body_chosen : (M : Module) (cs : List TypedClass) (s b n : ℕ) (c : Option TypedClass) → SoundClasses M cs → IsSoundClass M c → body_by cs s n c ≡ Some b → IsChosen M s b
 body_chosen M cs s b n None h sound e = absurd (cc)
 body_chosen M cs s b zero (Some c) h sound e = own_chosen M s b c.chosen sound.chosen e
 body_chosen M cs s b (suc n) (Some c) h sound e =
@@ -59,7 +59,7 @@ chosen_of : (M : Module) (m s : ℕ) (g : Routine) (o : Option ℕ) → ((b : �
 chosen_of M m s g None h e = absurd (cc)
 chosen_of M m s g (Some b) h e = let same : routine m b ≡ g = cc in (b, same, h b refl)
 
-pub methods_fit : (V : RegistrationList) (z : Setting) (m : ℕ) (p : tree.Program) → SoundProgram V p → HasProgram z m p → (n s : ℕ) (g : Routine) → z.method m n s ≡ Some g → z.params g ≡ z.slot m s
+pub methods_fit : (V : RegistrationList) (z : Environment) (m : ℕ) (p : tree.Program) → SoundProgram V p → HasProgram z m p → (n s : ℕ) (g : Routine) → z.method m n s ≡ Some g → z.params g ≡ z.slot m s
 methods_fit V z m p sound has n s g there =
     let M = module_of V p in
     let callees = has_callees V z m p has in

@@ -6,8 +6,8 @@ use Rattle.ang_kinds.specs.declared.primitive.Primitive.{Primitive}
 use Rattle.ang_view.specs.Registration.{RegistrationList}
 use Rattle.ang_typed.specs.Typed as tree
 use Rattle.ang_meaning.specs.declared.routine.Passing.{Passing}
-use Rattle.ang_meaning.specs.Setting.{Setting}
-use Rattle.ang_core.specs.declared.tree.Body.{Body}
+use Rattle.ang_meaning.specs.Environment.{Environment}
+use Rattle.ang_core.specs.declared.tree.CoreBody.{CoreBody}
 use Rattle.ang_core.specs.Meaning.{Bodies}
 use Rattle.ang_core.specs.Sound.{LinksFit, AreSound}
 use Rattle.ang_source.specs.Meaning.{Code, of_function, Codes, passings_of, codes_of, codes_in, code_or, passings_in, primitive_of, results_in, initializer_of, initializers_from, nothing, routine}
@@ -31,7 +31,7 @@ AllFit M (ps ∷ pss) [] bs = ⊥
 AllFit M (ps ∷ pss) (x ∷ xs) [] = ⊥
 AllFit M (ps ∷ pss) (x ∷ xs) (b ∷ bs) = (b.statement ≡ lowered_code (length ps) x) × SoundCode M (length ps) x × AllFit M pss xs bs
 
-functions_fit : (M : Module) (fs : List tree.Function) (pss : List (List Passing)) (xs : List Code) (bs : List stmt.Whole) → SoundFunctions M fs → AllFit M pss xs bs
+functions_fit : (M : Module) (fs : List tree.TypedFunction) (pss : List (List Passing)) (xs : List Code) (bs : List stmt.Whole) → SoundFunctions M fs → AllFit M pss xs bs
     → AllFit M (map (λ f. passings_of f.parameters) fs ++ pss) (map (λ f. of_function f.body) fs ++ xs) (map lowered_function fs ++ bs)
 functions_fit M [] pss xs bs h k = k
 functions_fit M (f ∷ fs) pss xs bs h k =
@@ -76,20 +76,20 @@ fit_at M (q ∷ pss) (x ∷ xs) (b ∷ bs) (suc k) ps h e =
     let r = fit_at M pss xs bs k ps h.2 e in
     record { code = r.code; code_at = r.code_at; body = r.body; body_at = r.body_at; same = r.same; sound = r.sound }
 
-record PlainAt (bs : List Body) (k : ℕ) (x : stmt.Whole) : Type 0 where
-  body : Body
+record PlainAt (bs : List CoreBody) (k : ℕ) (x : stmt.Whole) : Type 0 where
+  body : CoreBody
   body_at : slice_get bs k ≡ Some body
   same : plain_body body ≡ x
 
-plain_at : (bs : List Body) (k : ℕ) (x : stmt.Whole) → slice_get (map plain_body bs) k ≡ Some x → PlainAt bs k x
+plain_at : (bs : List CoreBody) (k : ℕ) (x : stmt.Whole) → slice_get (map plain_body bs) k ≡ Some x → PlainAt bs k x
 plain_at [] k x e = absurd (cc)
 plain_at (b ∷ bs) zero x e = record { body = b; body_at = refl; same = let s : plain_body b ≡ x = cc in s }
 plain_at (b ∷ bs) (suc k) x e = let r = plain_at bs k x e in record { body = r.body; body_at = r.body_at; same = r.same }
 
 -- ---- modules
 
-module _ (p : tree.Program) (bs : List Body) (exact : map plain_body bs ≡ lowered_module p) where
-  module _ (V : RegistrationList) (z : Setting) (m : ℕ) (bodies : Bodies) (codes : Codes) (sound : SoundProgram V p) (has : HasProgram z m p) (are : AreBodies m bs bodies) (code : AreCodes m p codes) where
+module _ (p : tree.Program) (bs : List CoreBody) (exact : map plain_body bs ≡ lowered_module p) where
+  module _ (V : RegistrationList) (z : Environment) (m : ℕ) (bodies : Bodies) (codes : Codes) (sound : SoundProgram V p) (has : HasProgram z m p) (are : AreBodies m bs bodies) (code : AreCodes m p codes) where
     at : (k : ℕ) (ps : List Passing) → z.params (routine m k) ≡ Some ps → FitAt (module_of V p) (codes_of p) (lowered_module p) k ps
     at k ps known = fit_at (module_of V p) (passings_in p) (codes_of p) (lowered_module p) k ps (module_fits V p sound) (sym (has.bodies k) ∙ known)
 
@@ -109,7 +109,7 @@ module _ (p : tree.Program) (bs : List Body) (exact : map plain_body bs ≡ lowe
   lowers_program = record { lowered = λ V z m bodies codes sound has are code. are_lowered V z m bodies codes sound has are code }
 
 -- the bodies of a module that are lowered from sound code
-pub sound_in : (z : Setting) (m : ℕ) (M : Module) (bodies : Bodies) (codes : Codes) → AreLowered z m M bodies codes → HasView z m M.view → AreSoundIn z m bodies
+pub sound_in : (z : Environment) (m : ℕ) (M : Module) (bodies : Bodies) (codes : Codes) → AreLowered z m M bodies codes → HasView z m M.view → AreSoundIn z m bodies
 sound_in z m M bodies codes are view = record {
   each = λ k ps known.
       statement_is z m false (length ps) (bodies (routine m k))
@@ -120,14 +120,14 @@ sound_in z m M bodies codes are view = record {
 alone : tree.Program → Codes
 alone p g = code_or (slice_get (codes_of p) g.number)
 
-pub keeps_sound : (p : tree.Program) (bs : List Body) → map plain_body bs ≡ lowered_module p → KeepsSound p bs
+pub keeps_sound : (p : tree.Program) (bs : List CoreBody) → map plain_body bs ≡ lowered_module p → KeepsSound p bs
 unfolding alone
 keeps_sound p bs exact = record {
   sound = λ V z m bodies sound view has are.
       sound_in z m (module_of V p) bodies (alone p) (are_lowered p bs exact V z m bodies (alone p) sound has are (record { each = λ k x there. ap code_or there })) view;
 }
 
-pub sound_together : (z : Setting) (bodies : Bodies) → ((m : ℕ) → AreSoundIn z m bodies) → LinksFit z → AreSound z bodies
+pub sound_together : (z : Environment) (bodies : Bodies) → ((m : ℕ) → AreSoundIn z m bodies) → LinksFit z → AreSound z bodies
 sound_together z bodies each links = record { each = λ g ps known. (each g.home).each g.number ps known; links = links }
 
 pub codes_there : (ps : List tree.Program) (m : ℕ) (p : tree.Program) → slice_get ps m ≡ Some p → AreCodes m p (codes_in ps)
@@ -144,17 +144,17 @@ globals_take_none : (gs : List tree.Global) (g : ℕ) → map (λ b. b.params) (
 globals_take_none [] g = refl
 globals_take_none (x ∷ gs) g = one_takes_none g x.initializer (lowered_globals (suc g) gs) (initializers_from (suc g) gs) (globals_take_none gs (suc g))
 
-functions_take : (fs : List tree.Function) (bs : List stmt.Whole) (rest : List (List Passing)) → map (λ b. b.params) bs ≡ rest
+functions_take : (fs : List tree.TypedFunction) (bs : List stmt.Whole) (rest : List (List Passing)) → map (λ b. b.params) bs ≡ rest
     → map (λ b. b.params) (map lowered_function fs ++ bs) ≡ map (λ f. passings_of f.parameters) fs ++ rest
 functions_take [] bs rest e = e
 functions_take (f ∷ fs) bs rest e = ap (λ l. passings_of f.parameters ∷ l) (functions_take fs bs rest e)
 
-params_of_plain : (bs : List Body) → map (λ b. b.params.items) bs ≡ map (λ b. b.params) (map plain_body bs)
+params_of_plain : (bs : List CoreBody) → map (λ b. b.params.items) bs ≡ map (λ b. b.params) (map plain_body bs)
 params_of_plain [] = refl
 params_of_plain (b ∷ bs) = ap (λ l. b.params.items ∷ l) (params_of_plain bs)
 
 -- the bodies' parameters are those of the program
-pub params_are : (p : tree.Program) (bs : List Body) → map plain_body bs ≡ lowered_module p → map (λ b. b.params.items) bs ≡ passings_in p
+pub params_are : (p : tree.Program) (bs : List CoreBody) → map plain_body bs ≡ lowered_module p → map (λ b. b.params.items) bs ≡ passings_in p
 params_are p bs exact =
     params_of_plain bs ∙ ap (λ l. map (λ b. b.params) l) exact
     ∙ functions_take p.functions (lowered_globals 0 p.globals) (map (λ x. []) (initializers_from 0 p.globals)) (globals_take_none p.globals 0)
@@ -170,17 +170,17 @@ globals_give_none : (gs : List tree.Global) (g : ℕ) → map (λ b. b.result) (
 globals_give_none [] g = refl
 globals_give_none (x ∷ gs) g = one_gives_none g x.initializer (lowered_globals (suc g) gs) (initializers_from (suc g) gs) (globals_give_none gs (suc g))
 
-functions_give : (fs : List tree.Function) (bs : List stmt.Whole) (rest : List (Option Primitive)) → map (λ b. b.result) bs ≡ rest
+functions_give : (fs : List tree.TypedFunction) (bs : List stmt.Whole) (rest : List (Option Primitive)) → map (λ b. b.result) bs ≡ rest
     → map (λ b. b.result) (map lowered_function fs ++ bs) ≡ map (λ f. primitive_of f.result) fs ++ rest
 functions_give [] bs rest e = e
 functions_give (f ∷ fs) bs rest e = ap (λ l. primitive_of f.result ∷ l) (functions_give fs bs rest e)
 
-results_of_plain : (bs : List Body) → map (λ b. b.result) bs ≡ map (λ b. b.result) (map plain_body bs)
+results_of_plain : (bs : List CoreBody) → map (λ b. b.result) bs ≡ map (λ b. b.result) (map plain_body bs)
 results_of_plain [] = refl
 results_of_plain (b ∷ bs) = ap (λ l. b.result ∷ l) (results_of_plain bs)
 
 -- the bodies' values are of the types of the program
-pub results_are : (p : tree.Program) (bs : List Body) → map plain_body bs ≡ lowered_module p → map (λ b. b.result) bs ≡ results_in p
+pub results_are : (p : tree.Program) (bs : List CoreBody) → map plain_body bs ≡ lowered_module p → map (λ b. b.result) bs ≡ results_in p
 results_are p bs exact =
     results_of_plain bs ∙ ap (λ l. map (λ b. b.result) l) exact
     ∙ functions_give p.functions (lowered_globals 0 p.globals) (map (λ x. None) (initializers_from 0 p.globals)) (globals_give_none p.globals 0)

@@ -5,13 +5,13 @@ use Rattle.ang_meaning.specs.declared.slot.Slot.{Slot}
 use Rattle.ang_meaning.specs.declared.slot.Slot.TheVariants.{Bits, Script}
 use Rattle.ang_meaning.specs.declared.routine.Routine.{Routine}
 use Rattle.ang_meaning.specs.World.{World, give}
-use Rattle.ang_meaning.specs.Setting.{Setting, params_of}
+use Rattle.ang_meaning.specs.Environment.{Environment, params_of}
 use Rattle.ang_meaning.specs.Perform.{perform}
 use Rattle.ang_meaning.specs.Results.{Evaluated, Gave, Gathered, Ready, Ran, Went, Returned, Halted, Broken, Continued, Raises, Calls, local_at, on_test, ticked, loaded, applied, assigned, altered, chosen, then_rest, called, leave, with_value, then_run, finished, enter}
-use Rattle.ang_core.specs.declared.tree.Expression.{Expression, Row_of-Expression, end_of-Expression, more_of-Expression}
-use Rattle.ang_core.specs.declared.tree.Expression.TheVariants.{Number, Null as Nothing, Local, Assign', Change', Apply', Call', Choose'}
-use Rattle.ang_core.specs.declared.tree.Statement.{Statement, Row_of-Statement, end_of-Statement, more_of-Statement}
-use Rattle.ang_core.specs.declared.tree.Statement.TheVariants.{Skip, Evaluate, Declare, Block', If', While', DoWhile', Return, Break, Continue}
+use Rattle.ang_core.specs.declared.tree.CoreExpression.{CoreExpression, Row_of-CoreExpression, end_of-CoreExpression, more_of-CoreExpression}
+use Rattle.ang_core.specs.declared.tree.CoreExpression.TheVariants.{Number, Null as Nothing, Local, Assign', Update', Apply', Call', Choose'}
+use Rattle.ang_core.specs.declared.tree.CoreStatement.{CoreStatement, Row_of-CoreStatement, end_of-CoreStatement, more_of-CoreStatement}
+use Rattle.ang_core.specs.declared.tree.CoreStatement.TheVariants.{Skip, Evaluate, Declare, Block', If', While', DoWhile', Return, Break, Continue}
 use Rattle.ang_core.specs.Meaning.{Callees, Bodies, turned}
 use Rattle.ang_core.specs.Meaning as core
 use Rattle.ang_lower.specs.ExprTree as c
@@ -20,7 +20,7 @@ use Rattle.ang_lower.specs.PlainExpr.{plain_expr, plain_row}
 use Rattle.ang_lower.specs.Plain.{plain_stmt, plain_stmts}
 
 abbrev mutual
-  pub eval : Setting → ℕ → Callees → c.Expr → List Slot → ℕ → World → Evaluated
+  pub eval : Environment → ℕ → Callees → c.Expr → List Slot → ℕ → World → Evaluated
   eval z m k (c.number n) ls t w = Gave (Bits n) ls t w
   eval z m k c.null ls t w = Gave (Script None) ls t w
   eval z m k (c.local i) ls t w = loaded (local_at ls i) ls t w
@@ -30,7 +30,7 @@ abbrev mutual
   eval z m k (c.call f args outs) ls t w = called m (k f) outs (eval_all z m k args [] ls t w)
   eval z m k (c.choose a b d) ls t w = chosen (eval z m k a ls t w) (eval z m k b) (eval z m k d)
 
-  pub eval_all : Setting → ℕ → Callees → c.Exprs → List Slot → List Slot → ℕ → World → Gathered
+  pub eval_all : Environment → ℕ → Callees → c.Exprs → List Slot → List Slot → ℕ → World → Gathered
   eval_all z m k c.none vs ls t w = Ready vs ls t w
   eval_all z m k (c.more e rest) vs ls t w = then_rest vs (eval z m k e ls t w) (λ v ls' t' w'. eval_all z m k rest (v ∷ vs) ls' t' w')
 
@@ -38,7 +38,7 @@ abbrev pub Passes : Type 0
 Passes = c.Expr → stmt.Stmt → stmt.Stmt → List Slot → ℕ → World → Ran
 
 abbrev mutual
-  pub run : Setting → ℕ → Callees → Passes → stmt.Stmt → List Slot → ℕ → World → Ran
+  pub run : Environment → ℕ → Callees → Passes → stmt.Stmt → List Slot → ℕ → World → Ran
   run z m k p stmt.skip ls t w = Went ls t w
   run z m k p (stmt.evaluate e) ls t w = with_value (eval z m k e ls t w) (λ v ls' t' w'. Went ls' t' (give v w'))
   run z m k p (stmt.declare e) ls t w = with_value (eval z m k e ls t w) (λ v ls' t' w'. Went (v ∷ ls') t' w')
@@ -53,11 +53,11 @@ abbrev mutual
   run z m k p stmt.break ls t w = Broken ls t w
   run z m k p stmt.continue ls t w = Continued ls t w
 
-  pub run_all : Setting → ℕ → Callees → Passes → stmt.Stmts → List Slot → ℕ → World → Ran
+  pub run_all : Environment → ℕ → Callees → Passes → stmt.Stmts → List Slot → ℕ → World → Ran
   run_all z m k p stmt.end ls t w = Went ls t w
   run_all z m k p (stmt.«then» s rest) ls t w = then_run (run z m k p s ls t w) (λ ls' t' w'. run_all z m k p rest ls' t' w')
 
-abbrev pub pass : Setting → ℕ → Callees → Passes → Passes
+abbrev pub pass : Environment → ℕ → Callees → Passes → Passes
 pass z m k p e s step ls t w =
     with_value (eval z m k e ls t w)
     (λ v ls' t' w'. on_test v (Halted Null ls' (give v w')) (Went ls' t' w')
@@ -67,42 +67,42 @@ abbrev pub PlainBodies : Type 0
 PlainBodies = Routine → stmt.Stmt
 
 abbrev mutual
-  pub body_at : Setting → PlainBodies → ℕ → ℕ → Calls
+  pub body_at : Environment → PlainBodies → ℕ → ℕ → Calls
   body_at z bodies zero d g vs t w = Raises Budget w
   body_at z bodies (suc n) d g vs t w =
       finished (params_of z g) (run z g.home (enter z (body_at z bodies n (suc d)) d g.home) (pass_at z bodies n d g.home) (bodies g) vs t w)
 
-  pub pass_at : Setting → PlainBodies → ℕ → ℕ → ℕ → Passes
+  pub pass_at : Environment → PlainBodies → ℕ → ℕ → ℕ → Passes
   pass_at z bodies zero d m e s step ls t w = Halted Budget ls w
   pass_at z bodies (suc n) d m e s step ls t w = pass z m (enter z (body_at z bodies n (suc d)) d m) (pass_at z bodies n d m) e s step ls t w
 
 -- ---- a core tree does the same
 
 mutual
-  pub eval_is : (z : Setting) (m : ℕ) (k : Callees) (e : Expression) (ls : List Slot) (t : ℕ) (w : World) → core.eval z m k e ls t w ≡ eval z m k (plain_expr e) ls t w
+  pub eval_is : (z : Environment) (m : ℕ) (k : Callees) (e : CoreExpression) (ls : List Slot) (t : ℕ) (w : World) → core.eval z m k e ls t w ≡ eval z m k (plain_expr e) ls t w
   eval_is z m k (Number n) ls t w = refl
   eval_is z m k Nothing ls t w = refl
   eval_is z m k (Local i) ls t w = refl
   eval_is z m k (Assign' i p e) ls t w = λ j. assigned i (eval_is z m k e ls t w j)
-  eval_is z m k (Change' i by p e) ls t w = λ j. altered i by (eval_is z m k e ls t w j)
+  eval_is z m k (Update' i by p e) ls t w = λ j. altered i by (eval_is z m k e ls t w j)
   eval_is z m k (Apply' o shape args) ls t w = λ j. applied (perform z m o) (eval_args_is z m k args [] ls t w j)
   eval_is z m k (Call' f shape args outs) ls t w = λ j. called m (k f) outs.items (eval_args_is z m k args [] ls t w j)
   eval_is z m k (Choose' p a q b s d) ls t w =
       λ j. chosen (eval_is z m k a ls t w j) (λ ls' t' w'. eval_is z m k b ls' t' w' j) (λ ls' t' w'. eval_is z m k d ls' t' w' j)
 
-  eval_args_is : {r : _} → (z : Setting) (m : ℕ) (k : Callees) (args : Row_of-Expression r) (vs ls : List Slot) (t : ℕ) (w : World)
+  eval_args_is : {r : _} → (z : Environment) (m : ℕ) (k : Callees) (args : Row_of-CoreExpression r) (vs ls : List Slot) (t : ℕ) (w : World)
       → core.eval_args z m k args vs ls t w ≡ eval_all z m k (plain_row args) vs ls t w
-  eval_args_is z m k end_of-Expression vs ls t w = refl
-  eval_args_is z m k (more_of-Expression e rest) vs ls t w =
+  eval_args_is z m k end_of-CoreExpression vs ls t w = refl
+  eval_args_is z m k (more_of-CoreExpression e rest) vs ls t w =
       λ j. then_rest vs (eval_is z m k e ls t w j) (λ v ls' t' w'. eval_args_is z m k rest (v ∷ vs) ls' t' w' j)
 
 -- where the passes of loops are the same
 abbrev pub PassesAre : core.Passes → Passes → Type 0
-PassesAre p q = (e : Expression) (s step : Statement) (ls : List Slot) (t : ℕ) (w : World) → p e s step ls t w ≡ q (plain_expr e) (plain_stmt s) (plain_stmt step) ls t w
+PassesAre p q = (e : CoreExpression) (s step : CoreStatement) (ls : List Slot) (t : ℕ) (w : World) → p e s step ls t w ≡ q (plain_expr e) (plain_stmt s) (plain_stmt step) ls t w
 
-module _ (z : Setting) (m : ℕ) (k : Callees) (p : core.Passes) (q : Passes) (same : PassesAre p q) where
+module _ (z : Environment) (m : ℕ) (k : Callees) (p : core.Passes) (q : Passes) (same : PassesAre p q) where
   mutual
-    pub run_is : (s : Statement) (ls : List Slot) (t : ℕ) (w : World) → core.run z m k p s ls t w ≡ run z m k q (plain_stmt s) ls t w
+    pub run_is : (s : CoreStatement) (ls : List Slot) (t : ℕ) (w : World) → core.run z m k p s ls t w ≡ run z m k q (plain_stmt s) ls t w
     run_is Skip ls t w = refl
     run_is (Evaluate e) ls t w = λ j. with_value (eval_is z m k e.value ls t w j) (λ v ls' t' w'. Went ls' t' (give v w'))
     run_is (Declare e) ls t w = λ j. with_value (eval_is z m k e.value ls t w j) (λ v ls' t' w'. Went (v ∷ ls') t' w')
@@ -117,9 +117,9 @@ module _ (z : Setting) (m : ℕ) (k : Callees) (p : core.Passes) (q : Passes) (s
     run_is Break ls t w = refl
     run_is Continue ls t w = refl
 
-    run_row_is : {r : _} → (row : Row_of-Statement r) (ls : List Slot) (t : ℕ) (w : World) → core.run_row z m k p row ls t w ≡ run_all z m k q (plain_stmts row) ls t w
-    run_row_is end_of-Statement ls t w = refl
-    run_row_is (more_of-Statement s rest) ls t w = λ j. then_run (run_is s ls t w j) (λ ls' t' w'. run_row_is rest ls' t' w' j)
+    run_row_is : {r : _} → (row : Row_of-CoreStatement r) (ls : List Slot) (t : ℕ) (w : World) → core.run_row z m k p row ls t w ≡ run_all z m k q (plain_stmts row) ls t w
+    run_row_is end_of-CoreStatement ls t w = refl
+    run_row_is (more_of-CoreStatement s rest) ls t w = λ j. then_run (run_is s ls t w j) (λ ls' t' w'. run_row_is rest ls' t' w' j)
 
   pass_same : PassesAre (core.pass z m k p) (pass z m k q)
   pass_same e s step ls t w =
@@ -132,7 +132,7 @@ module _ (z : Setting) (m : ℕ) (k : Callees) (p : core.Passes) (q : Passes) (s
 abbrev pub plain_of : Bodies → PlainBodies
 plain_of bodies g = plain_stmt (bodies g)
 
-module _ (z : Setting) (bodies : Bodies) where
+module _ (z : Environment) (bodies : Bodies) where
   mutual
     pub body_is : (n d : ℕ) (g : Routine) (vs : List Slot) (t : ℕ) (w : World) → core.body_at z bodies n d g vs t w ≡ body_at z (plain_of bodies) n d g vs t w
     body_is zero d g vs t w = refl

@@ -10,25 +10,25 @@ use Rattle.ang_types.specs.declared.arg_type.ArgType.TheVariants as type
 use Rattle.ang_view.specs.declared.entry.EntryKind.{EntryKind}
 use Rattle.ang_view.specs.declared.entry.EntryKind.TheVariants as kind
 use Rattle.ang_typed.specs.declared.expression.HostEntity.{HostEntity}
-use Rattle.ang_typed.specs.declared.expression.Variable.{Variable}
-use Rattle.ang_typed.specs.declared.expression.Variable.TheVariants as variable
-use Rattle.ang_typed.specs.declared.expression.Member.{Member}
-use Rattle.ang_typed.specs.declared.expression.Member.TheVariants as member
-use Rattle.ang_typed.specs.declared.expression.Callee as typed
-use Rattle.ang_typed.specs.declared.expression.Callee.TheVariants as callee
-use Rattle.ang_typed.specs.declared.program.Parameter.{Parameter}
+use Rattle.ang_typed.specs.declared.expression.TypedVariable.{TypedVariable}
+use Rattle.ang_typed.specs.declared.expression.TypedVariable.TheVariants as variable
+use Rattle.ang_typed.specs.declared.expression.TypedMember.{TypedMember}
+use Rattle.ang_typed.specs.declared.expression.TypedMember.TheVariants as member
+use Rattle.ang_typed.specs.declared.expression.TypedCallee as typed
+use Rattle.ang_typed.specs.declared.expression.TypedCallee.TheVariants as callee
+use Rattle.ang_typed.specs.declared.program.TypedParameter.{TypedParameter}
 use Rattle.ang_typed.specs.Typed as tree
 use Rattle.ang_meaning.specs.declared.class.ValueKind.{ValueKind}
 use Rattle.ang_meaning.specs.declared.class.ValueKind.TheVariants.{Number, Handle}
-use Rattle.ang_meaning.specs.declared.operation.Change.{Change}
+use Rattle.ang_meaning.specs.declared.operation.Update.{Update}
 use Rattle.ang_meaning.specs.declared.operation.Operation.{Operation}
-use Rattle.ang_meaning.specs.declared.operation.Operation.TheVariants.{Work, Compare, Convert, Negate, Complement, Not, Same, GlobalGet, GlobalSet, GlobalChange, Ask, Read, Write, Alter, Make, FieldGet, FieldSet, FieldChange, Cast}
+use Rattle.ang_meaning.specs.declared.operation.Operation.TheVariants.{Binary, Compare, Convert, Negate, Complement, Not, Same, GlobalGet, GlobalSet, GlobalChange, Ask, Read, Write, Alter, Make, FieldGet, FieldSet, FieldChange, Cast}
 use Rattle.ang_meaning.specs.declared.routine.Callee.TheVariants.{Own}
 use Rattle.ang_meaning.specs.declared.routine.Passing.{Passing}
 use Rattle.ang_meaning.specs.declared.routine.Passing.TheVariants.{In, Out, Object}
 use Rattle.ang_meaning.specs.declared.routine.Target.{Target}
 use Rattle.ang_meaning.specs.Numbers.{is_signed, converted, negated, complemented, denied}
-use Rattle.ang_meaning.specs.Setting.{Setting, host_in, is_fit, is_called_by, is_property, may_call, may_access, may_write}
+use Rattle.ang_meaning.specs.Environment.{Environment, host_in, is_fit, is_called_by, is_property, may_call, may_access, may_write}
 use Rattle.ang_meaning.specs.Perform.{operands, member_count}
 use Rattle.ang_core.specs.Sound.{out_count, Fits, AreSpots}
 use Rattle.ang_source.specs.Meaning.{Code, of_function, of_global, callee_of, referred, passing_by, passing_of, passings_of, kind_of, work_of, test_of, compound_of, step_of}
@@ -84,14 +84,14 @@ takes_none pass.RefIn ty ps h = referred_none ty ps
 takes_none pass.RefOut ty ps h = absurd (h refl)
 takes_none pass.RefInOut ty ps h = referred_none ty ps
 
-outs_are : (M : Module) (n : ℕ) (ps : List Parameter) (args : tree.Args) → SoundArguments M n ps args → out_count (map (λ p. passing_of p) ps) ≡ outs_in args
+outs_are : (M : Module) (n : ℕ) (ps : List TypedParameter) (args : tree.Args) → SoundArguments M n ps args → out_count (map (λ p. passing_of p) ps) ≡ outs_in args
 outs_are M n [] tree.none h = refl
 outs_are M n [] (tree.more a args) h = absurd h
 outs_are M n (p ∷ ps) tree.none h = absurd h
 outs_are M n (p ∷ ps) (tree.more (tree.by_value ty e) args) h = takes_none p.pass p.ty (map (λ x. passing_of x) ps) h.0.0 ∙ outs_are M n ps args h.1
 outs_are M n (p ∷ ps) (tree.more (tree.out x from to) args) h = ap (λ q. out_count (passing_by q p.ty ∷ map (λ y. passing_of y) ps)) h.0.0 ∙ ap suc (outs_are M n ps args h.1)
 
-spots_are : (M : Module) (n : ℕ) (ps : List Parameter) (args : tree.Args) (found : List Target) → SoundArguments M n ps args → AreSpots n found → AreSpots n (low.targets_behind n args found)
+spots_are : (M : Module) (n : ℕ) (ps : List TypedParameter) (args : tree.Args) (found : List Target) → SoundArguments M n ps args → AreSpots n found → AreSpots n (low.targets_behind n args found)
 spots_are M n [] tree.none found h ok = ok
 spots_are M n [] (tree.more a args) found h ok = absurd h
 spots_are M n (p ∷ ps) tree.none found h ok = absurd h
@@ -111,7 +111,7 @@ lowered_count : (n : ℕ) (args : tree.Args) → operand_count (c.exprs (low.low
 lowered_count n tree.none = refl
 lowered_count n (tree.more a args) = ap suc (lowered_count n args)
 
-module _ (z : Setting) (m : ℕ) (M : Module) (callees : HasCallees z m M) (view : HasView z m M.view) where
+module _ (z : Environment) (m : ℕ) (M : Module) (callees : HasCallees z m M) (view : HasView z m M.view) where
   -- the host's entity is what the view has
   found : (kind : EntryKind) (h : HostEntity) (e : IsEntity M.view kind h) → is_asked kind ≡ true → z.host m h.entity.0 ≡ Some (use_of e.entry)
   found kind h e can =
@@ -158,11 +158,11 @@ module _ (z : Setting) (m : ℕ) (M : Module) (callees : HasCallees z m M) (view
   unfolding operands is_fit
   write_in_fits h w = let one = receiver_count kind.Property h w.entity refl in (omega (arith, one), may_store_in h w)
 
-  alter_fits : (h : HostEntity) (by : Change) → IsWritable M.view kind.Global h → (1 ≡ operands z m (Alter h.entity by)) × (is_fit z m (Alter h.entity by) ≡ true)
+  alter_fits : (h : HostEntity) (by : Update) → IsWritable M.view kind.Global h → (1 ≡ operands z m (Alter h.entity by)) × (is_fit z m (Alter h.entity by) ≡ true)
   unfolding operands is_fit
   alter_fits h by w = let alone = receiver_count kind.Global h w.entity refl in (omega (arith, alone), may_store h w)
 
-  alter_in_fits : (h : HostEntity) (by : Change) → IsWritable M.view kind.Property h → (2 ≡ operands z m (Alter h.entity by)) × (is_fit z m (Alter h.entity by) ≡ true)
+  alter_in_fits : (h : HostEntity) (by : Update) → IsWritable M.view kind.Property h → (2 ≡ operands z m (Alter h.entity by)) × (is_fit z m (Alter h.entity by) ≡ true)
   unfolding operands is_fit
   alter_in_fits h by w = let one = receiver_count kind.Property h w.entity refl in (omega (arith, one), may_store_in h w)
 
@@ -233,21 +233,21 @@ module _ (z : Setting) (m : ℕ) (M : Module) (callees : HasCallees z m M) (view
   this_sound : (n : ℕ) → 0 < n → IsSound z m n (low.this_at n)
   this_sound n lt = omega (arith, lt)
 
-  read_sound : (n : ℕ) (x : Variable) → IsVariable M n x → IsSound z m n (low.read n x)
+  read_sound : (n : ℕ) (x : TypedVariable) → IsVariable M n x → IsSound z m n (low.read n x)
   unfolding operands is_fit
   read_sound n (variable.Local i) h = omega arith
   read_sound n (variable.Global g) h = nullary_sound n (GlobalGet g) (refl, refl)
   read_sound n (variable.Property p) h = nullary_sound n (Read p.entity) (read_fits p h)
   read_sound n (variable.Field i) h = unary_sound n (FieldGet i) (low.this_at n) (refl, refl) (this_sound n h)
 
-  stored_sound : (n : ℕ) (x : Variable) (e : c.Expr) → IsStored M n x → IsSound z m n e → IsSound z m n (low.stored n x e)
+  stored_sound : (n : ℕ) (x : TypedVariable) (e : c.Expr) → IsStored M n x → IsSound z m n e → IsSound z m n (low.stored n x e)
   unfolding operands is_fit
   stored_sound n (variable.Local i) e h s = (omega arith, s)
   stored_sound n (variable.Global g) e h s = unary_sound n (GlobalSet g) e (refl, refl) s
   stored_sound n (variable.Property p) e h s = unary_sound n (Write p.entity) e (write_fits p h) s
   stored_sound n (variable.Field i) e h s = binary_sound n (FieldSet i) e (low.this_at n) (refl, refl) s (this_sound n h)
 
-  changed_sound : (n : ℕ) (x : Variable) (by : Change) (e : c.Expr) → IsStored M n x → IsSound z m n e → IsSound z m n (low.changed n x by e)
+  changed_sound : (n : ℕ) (x : TypedVariable) (by : Update) (e : c.Expr) → IsStored M n x → IsSound z m n e → IsSound z m n (low.changed n x by e)
   unfolding operands is_fit
   changed_sound n (variable.Local i) by e h s = (omega arith, s)
   changed_sound n (variable.Global g) by e h s = unary_sound n (GlobalChange g by) e (refl, refl) s
@@ -256,17 +256,17 @@ module _ (z : Setting) (m : ℕ) (M : Module) (callees : HasCallees z m M) (view
 
   -- members of objects
 
-  read_member_sound : (n : ℕ) (a : Member) (o : c.Expr) → IsMember M a → IsSound z m n o → IsSound z m n (low.unary (low.reading a) o)
+  read_member_sound : (n : ℕ) (a : TypedMember) (o : c.Expr) → IsMember M a → IsSound z m n o → IsSound z m n (low.unary (low.reading a) o)
   unfolding operands is_fit
   read_member_sound n (member.Field i) o h s = unary_sound n (FieldGet i) o (refl, refl) s
   read_member_sound n (member.Property p) o h s = unary_sound n (Read p.entity) o (read_of_fits p h) s
 
-  member_stored_sound : (n : ℕ) (a : Member) (e o : c.Expr) → IsStoredMember M a → IsSound z m n e → IsSound z m n o → IsSound z m n (low.binary (low.writing a) e o)
+  member_stored_sound : (n : ℕ) (a : TypedMember) (e o : c.Expr) → IsStoredMember M a → IsSound z m n e → IsSound z m n o → IsSound z m n (low.binary (low.writing a) e o)
   unfolding operands is_fit
   member_stored_sound n (member.Field i) e o h s u = binary_sound n (FieldSet i) e o (refl, refl) s u
   member_stored_sound n (member.Property p) e o h s u = binary_sound n (Write p.entity) e o (write_in_fits p h) s u
 
-  member_changed_sound : (n : ℕ) (a : Member) (by : Change) (e o : c.Expr) → IsStoredMember M a → IsSound z m n e → IsSound z m n o → IsSound z m n (low.binary (low.altering a by) e o)
+  member_changed_sound : (n : ℕ) (a : TypedMember) (by : Update) (e o : c.Expr) → IsStoredMember M a → IsSound z m n e → IsSound z m n o → IsSound z m n (low.binary (low.altering a by) e o)
   unfolding operands is_fit
   member_changed_sound n (member.Field i) by e o h s u = binary_sound n (FieldChange i by) e o (refl, refl) s u
   member_changed_sound n (member.Property p) by e o h s u = binary_sound n (Alter p.entity by) e o (alter_in_fits p by h) s u
@@ -274,17 +274,17 @@ module _ (z : Setting) (m : ℕ) (M : Module) (callees : HasCallees z m M) (view
   -- ---- calls
 
   -- as many arguments as there are parameters, and as many targets as `&out` parameters
-  values_count : (n : ℕ) (ps : List Parameter) (args : tree.Args) → SoundArguments M n ps args → length (passings_of ps) ≡ operand_count (c.exprs (low.lowered_args n args))
+  values_count : (n : ℕ) (ps : List TypedParameter) (args : tree.Args) → SoundArguments M n ps args → length (passings_of ps) ≡ operand_count (c.exprs (low.lowered_args n args))
   values_count n ps args h = passings_count ps ∙ sym (as_many M n ps args h) ∙ sym (lowered_count n args)
 
-  outs_count : (n : ℕ) (ps : List Parameter) (args : tree.Args) → SoundArguments M n ps args → out_count (passings_of ps) ≡ length (low.targets_of n args)
+  outs_count : (n : ℕ) (ps : List TypedParameter) (args : tree.Args) → SoundArguments M n ps args → out_count (passings_of ps) ≡ length (low.targets_of n args)
   outs_count n ps args h =
       let turned = out_turned (map (λ p. passing_of p) ps) in
       let outs = outs_are M n ps args h in
       let many = target_count n args [] in
       omega (arith, turned, outs, many)
 
-  call_fits : (n : ℕ) (f : typed.Callee) (ps : List Parameter) (args : tree.Args) → parameters_of M f ≡ Some ps → SoundArguments M n ps args
+  call_fits : (n : ℕ) (f : typed.TypedCallee) (ps : List TypedParameter) (args : tree.Args) → parameters_of M f ≡ Some ps → SoundArguments M n ps args
       → Fits z m (callee_of f) (operand_count (c.exprs (low.lowered_args n args))) (length (low.targets_of n args))
   call_fits n (callee.Own f) ps args at h =
       record { params = passings_of ps; known = callees.functions f ps at; count = values_count n ps args h; given = outs_count n ps args h }
@@ -292,7 +292,7 @@ module _ (z : Setting) (m : ℕ) (M : Module) (callees : HasCallees z m M) (view
   call_fits n (callee.Chosen s) ps args at h = (passings_of ps, callees.methods s ps at, values_count n ps args h, outs_count n ps args h)
 
   -- a constructor's own object is its first argument
-  make_fits : (n f : ℕ) (own : Parameter) (ps : List Parameter) (args : tree.Args) → slice_get M.parameters f ≡ Some (own ∷ ps) → (own.pass ≢ pass.RefOut) → SoundArguments M n ps args
+  make_fits : (n f : ℕ) (own : TypedParameter) (ps : List TypedParameter) (args : tree.Args) → slice_get M.parameters f ≡ Some (own ∷ ps) → (own.pass ≢ pass.RefOut) → SoundArguments M n ps args
       → Fits z m (Own f) (suc (operand_count (c.exprs (low.lowered_args n args)))) (length (low.targets_of n args))
   make_fits n f own ps args at taken h = record {
     params = passings_of (own ∷ ps);
@@ -319,7 +319,7 @@ module _ (z : Setting) (m : ℕ) (M : Module) (callees : HasCallees z m M) (view
     lowered_sound (tree.negate ty e) n h = folded_sound n (negated ty) (Negate ty) (low.lowered n e) (refl, refl) (lowered_sound e n h)
     lowered_sound (tree.complement ty e) n h = folded_sound n (complemented ty) (Complement ty) (low.lowered n e) (refl, refl) (lowered_sound e n h)
     lowered_sound (tree.not e) n h = folded_sound n denied Not (low.lowered n e) (refl, refl) (lowered_sound e n h)
-    lowered_sound (tree.operate op ty a b) n h = binary_sound n (Work (work_of op) ty) (low.lowered n a) (low.lowered n b) (refl, refl) (lowered_sound a n h.0) (lowered_sound b n h.1)
+    lowered_sound (tree.operate op ty a b) n h = binary_sound n (Binary (work_of op) ty) (low.lowered n a) (low.lowered n b) (refl, refl) (lowered_sound a n h.0) (lowered_sound b n h.1)
     lowered_sound (tree.compare op ty a b) n h = binary_sound n (Compare (test_of op) (is_signed ty)) (low.lowered n a) (low.lowered n b) (refl, refl) (lowered_sound a n h.0) (lowered_sound b n h.1)
     lowered_sound (tree.and a b) n h = (lowered_sound a n h.0, lowered_sound b n h.1, tt)
     lowered_sound (tree.or a b) n h = (lowered_sound a n h.0, tt, lowered_sound b n h.1)

@@ -5,7 +5,7 @@ use Rattle.ang_kinds.specs.declared.fault.Fault.TheVariants.{Null, Budget}
 use Rattle.ang_typed.specs.Typed as tree
 use Rattle.ang_meaning.specs.declared.slot.Slot.{Slot}
 use Rattle.ang_meaning.specs.World.{World, give}
-use Rattle.ang_meaning.specs.Setting.{Setting}
+use Rattle.ang_meaning.specs.Environment.{Environment}
 use Rattle.ang_meaning.specs.Results.{Ran, Went, Halted, ticked, with_value, then_run, leave, caught}
 use Rattle.ang_source.specs.Meaning.{Callees, evaluate, begin_local, evaluate_or, discarded, branched, run_locals, run_steps, in_block, tested, pass_of}
 use Rattle.ang_source.specs.Meaning as source
@@ -20,7 +20,7 @@ use Rattle.ang_lower.proofs.Values.{CalleesAgree, value_same, begin_same, or_sam
 
 -- ---- statements after one another
 
-module _ (z : Setting) (m : ℕ) (k : Callees) (p : plain.Passes) where
+module _ (z : Environment) (m : ℕ) (k : Callees) (p : plain.Passes) where
   run_append : (a b : List stmt.Stmt) (ls : List Slot) (t : ℕ) (w : World) → run_all z m k p (stmt.stmts (a ++ b)) ls t w ≡ then_run (run_all z m k p (stmt.stmts a) ls t w) (λ ls' t' w'. run_all z m k p (stmt.stmts b) ls' t' w')
   run_append [] b ls t w = refl
   run_append (s ∷ a) b ls t w =
@@ -44,7 +44,7 @@ abbrev pub PassesAgree : Module → plain.Passes → source.Passes → Type 0
 PassesAgree M p p' = (n : ℕ) (e : Option tree.Expr) (ss : tree.Stmts) (steps : List tree.Expr) (ls : List Slot) (t : ℕ) (w : World) → length ls ≡ n → SoundLoop M n e ss steps
     → SameRun n n (p (low.lowered_or n 1 e) (lowered_block (lowered_all n ss)) (lowered_steps n steps) ls t w) (p' e ss steps ls t w)
 
-module _ (z : Setting) (m : ℕ) (M : Module) (k k' : Callees) (callees : CalleesAgree M k k') (p : plain.Passes) (p' : source.Passes) (passes : PassesAgree M p p') where
+module _ (z : Environment) (m : ℕ) (M : Module) (k k' : Callees) (callees : CalleesAgree M k k') (p : plain.Passes) (p' : source.Passes) (passes : PassesAgree M p p') where
   -- ---- simple statements
 
   locals_same : (xs : List tree.Local) (n : ℕ) (ls : List Slot) (t : ℕ) (w : World) → length ls ≡ n → SoundLocals M n xs

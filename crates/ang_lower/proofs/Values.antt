@@ -3,26 +3,26 @@ use Rattle.std.proofs.Common.{◌≡◌, ℕ, suc, ◌+◌, ◌-◌, List, [], �
 use Rattle.std.specs.Prelude.{true, false}
 use Rattle.ang_kinds.specs.declared.primitive.Primitive.{Primitive}
 use Rattle.ang_types.specs.declared.arg_type.ArgType.{ArgType}
-use Rattle.ang_typed.specs.declared.expression.Variable.{Variable}
-use Rattle.ang_typed.specs.declared.expression.Variable.TheVariants as variable
-use Rattle.ang_typed.specs.declared.expression.Member.{Member}
-use Rattle.ang_typed.specs.declared.expression.Member.TheVariants as member
-use Rattle.ang_typed.specs.declared.expression.Callee as typed
-use Rattle.ang_typed.specs.declared.expression.Callee.TheVariants as callee
-use Rattle.ang_typed.specs.declared.program.Parameter.{Parameter}
+use Rattle.ang_typed.specs.declared.expression.TypedVariable.{TypedVariable}
+use Rattle.ang_typed.specs.declared.expression.TypedVariable.TheVariants as variable
+use Rattle.ang_typed.specs.declared.expression.TypedMember.{TypedMember}
+use Rattle.ang_typed.specs.declared.expression.TypedMember.TheVariants as member
+use Rattle.ang_typed.specs.declared.expression.TypedCallee as typed
+use Rattle.ang_typed.specs.declared.expression.TypedCallee.TheVariants as callee
+use Rattle.ang_typed.specs.declared.program.TypedParameter.{TypedParameter}
 use Rattle.ang_typed.specs.Typed as t
 use Rattle.ang_meaning.specs.declared.slot.Slot.{Slot}
 use Rattle.ang_meaning.specs.declared.slot.Slot.TheVariants.{Bits}
 use Rattle.ang_meaning.specs.declared.class.ValueKind.{ValueKind}
 use Rattle.ang_meaning.specs.declared.class.ValueKind.TheVariants.{Number, Handle}
-use Rattle.ang_meaning.specs.declared.operation.Change.{Change}
+use Rattle.ang_meaning.specs.declared.operation.Update.{Update}
 use Rattle.ang_meaning.specs.declared.operation.Operation.{Operation}
-use Rattle.ang_meaning.specs.declared.operation.Operation.TheVariants.{Work, Compare, Convert, Negate, Complement, Not, Same, GlobalGet, GlobalSet, GlobalChange, Ask, Read, Write, Alter, Make, FieldGet, FieldSet, FieldChange, Cast}
+use Rattle.ang_meaning.specs.declared.operation.Operation.TheVariants.{Binary, Compare, Convert, Negate, Complement, Not, Same, GlobalGet, GlobalSet, GlobalChange, Ask, Read, Write, Alter, Make, FieldGet, FieldSet, FieldChange, Cast}
 use Rattle.ang_meaning.specs.declared.routine.Callee.TheVariants.{Own}
 use Rattle.ang_meaning.specs.declared.routine.Target.{Target}
 use Rattle.ang_meaning.specs.Numbers.{truth, is_signed, converted, negated, complemented, denied}
 use Rattle.ang_meaning.specs.World.{World}
-use Rattle.ang_meaning.specs.Setting.{Setting, default_of}
+use Rattle.ang_meaning.specs.Environment.{Environment, default_of}
 use Rattle.ang_meaning.specs.Hosts.{Fine}
 use Rattle.ang_meaning.specs.Perform.{perform}
 use Rattle.ang_meaning.specs.Results.{Evaluated, Gave, Ready, local_at, loaded, performed, applied, assigned, altered}
@@ -36,7 +36,7 @@ use Rattle.ang_lower.proofs.Ends.{SameEval, SameAll, SameFrom, loaded_keeps, app
 
 -- ---- the targets of a call
 
-spot_is : (ls : List Slot) (x : Variable) → low.spot_of (length ls) x ≡ source.spot_of ls x
+spot_is : (ls : List Slot) (x : TypedVariable) → low.spot_of (length ls) x ≡ source.spot_of ls x
 spot_is ls (variable.Local i) = refl
 spot_is ls (variable.Global g) = refl
 spot_is ls (variable.Property h) = refl
@@ -60,7 +60,7 @@ EachSound M n t.none = Unit {0}
 EachSound M n (t.more (t.by_value ty e) args) = Sound M n e × EachSound M n args
 EachSound M n (t.more (t.out x from to) args) = EachSound M n args
 
-pub each_argument : (M : Module) (n : ℕ) (ps : List Parameter) (args : t.Args) → SoundArguments M n ps args → EachSound M n args
+pub each_argument : (M : Module) (n : ℕ) (ps : List TypedParameter) (args : t.Args) → SoundArguments M n ps args → EachSound M n args
 each_argument M n [] t.none h = tt
 each_argument M n [] (t.more a args) h = absurd h
 each_argument M n (p ∷ ps) t.none h = absurd h
@@ -72,7 +72,7 @@ each_value M n t.none h = tt
 each_value M n (t.more (t.by_value ty e) args) h = (h.0, each_value M n args h.1)
 each_value M n (t.more (t.out x from to) args) h = absurd h.0
 
-pub as_many : (M : Module) (n : ℕ) (ps : List Parameter) (args : t.Args) → SoundArguments M n ps args → argument_count args ≡ length ps
+pub as_many : (M : Module) (n : ℕ) (ps : List TypedParameter) (args : t.Args) → SoundArguments M n ps args → argument_count args ≡ length ps
 as_many M n [] t.none h = refl
 as_many M n [] (t.more a args) h = absurd h
 as_many M n (p ∷ ps) t.none h = absurd h
@@ -92,28 +92,28 @@ two_same n x y go go' h a =
 -- ---- operations on one number
 
 -- the operation turns each number x into f x
-abbrev Gives : Setting → ℕ → (ℕ → ℕ) → Operation → Type 0
+abbrev Gives : Environment → ℕ → (ℕ → ℕ) → Operation → Type 0
 Gives z m f o = (x : ℕ) (w : World) → perform z m o (Bits x ∷ []) w ≡ Fine (Bits (f x)) w
 
-converts : (z : Setting) (m : ℕ) (to : Primitive) → Gives z m (converted to) (Convert to)
+converts : (z : Environment) (m : ℕ) (to : Primitive) → Gives z m (converted to) (Convert to)
 unfolding perform
 converts z m to x w = refl
 
-negates : (z : Setting) (m : ℕ) (ty : Primitive) → Gives z m (negated ty) (Negate ty)
+negates : (z : Environment) (m : ℕ) (ty : Primitive) → Gives z m (negated ty) (Negate ty)
 unfolding perform
 negates z m ty x w = refl
 
-complements : (z : Setting) (m : ℕ) (ty : Primitive) → Gives z m (complemented ty) (Complement ty)
+complements : (z : Environment) (m : ℕ) (ty : Primitive) → Gives z m (complemented ty) (Complement ty)
 unfolding perform
 complements z m ty x w = refl
 
-denies : (z : Setting) (m : ℕ) → Gives z m denied Not
+denies : (z : Environment) (m : ℕ) → Gives z m denied Not
 unfolding perform
 denies z m x w = refl
 
 -- ---- variables
 
-module _ (z : Setting) (m : ℕ) (k k' : Callees) where
+module _ (z : Environment) (m : ℕ) (k k' : Callees) where
   local_same : (n i : ℕ) (ls : List Slot) (t : ℕ) (w : World) → length ls ≡ n → SameEval n (eval z m k (c.local (n - suc i)) ls t w) (loaded (local_at ls (length ls - suc i)) ls t w)
   local_same n i ls t w l = record {
     same = ap (λ j. loaded (local_at ls (j - suc i)) ls t w) (sym l);
@@ -134,7 +134,7 @@ module _ (z : Setting) (m : ℕ) (k k' : Callees) where
   nullary_same : (n : ℕ) (o : Operation) (ls : List Slot) (t : ℕ) (w : World) → length ls ≡ n → SameEval n (eval z m k (c.apply o c.none) ls t w) (applied (perform z m o) (Ready [] ls t w))
   nullary_same n o ls t w l = record { same = refl; keeps = applied_keeps n 0 (perform z m o) (Ready [] ls t w) (l, refl) }
 
-  read_same : (n : ℕ) (x : Variable) (ls : List Slot) (t : ℕ) (w : World) → length ls ≡ n → SameEval n (eval z m k (low.read n x) ls t w) (read_variable z m x ls t w)
+  read_same : (n : ℕ) (x : TypedVariable) (ls : List Slot) (t : ℕ) (w : World) → length ls ≡ n → SameEval n (eval z m k (low.read n x) ls t w) (read_variable z m x ls t w)
   read_same n (variable.Local i) ls t w l = local_same n i ls t w l
   read_same n (variable.Global g) ls t w l = nullary_same n (GlobalGet g) ls t w l
   read_same n (variable.Property h) ls t w l = nullary_same n (Read h.entity) ls t w l
@@ -157,7 +157,7 @@ module _ (z : Setting) (m : ℕ) (k k' : Callees) where
       let u = unary_same n o e y ls t w h in
       record { same = folded_is f o g e ls t w ∙ u.same; keeps = u.keeps }
 
-  pub stored_same : (n : ℕ) (x : Variable) (e : c.Expr) (y : Evaluated) (ls : List Slot) (t : ℕ) (w : World) → length ls ≡ n → SameEval n (eval z m k e ls t w) y
+  pub stored_same : (n : ℕ) (x : TypedVariable) (e : c.Expr) (y : Evaluated) (ls : List Slot) (t : ℕ) (w : World) → length ls ≡ n → SameEval n (eval z m k e ls t w) y
       → SameEval n (eval z m k (low.stored n x e) ls t w) (stored z m x ls y)
   stored_same n (variable.Local i) e y ls t w l h = record {
     same = ap (λ j. assigned (j - suc i) (eval z m k e ls t w)) (sym l) ∙ ap (λ a. assigned (length ls - suc i) a) h.same;
@@ -167,7 +167,7 @@ module _ (z : Setting) (m : ℕ) (k k' : Callees) where
   stored_same n (variable.Property p) e y ls t w l h = unary_same n (Write p.entity) e y ls t w h
   stored_same n (variable.Field i) e y ls t w l h = binary_same n (FieldSet i) e (low.this_at n) y this_of ls t w h (λ ls' t' w' l'. this_same n ls' t' w' l')
 
-  changed_same : (n : ℕ) (x : Variable) (by : Change) (e : c.Expr) (y : Evaluated) (ls : List Slot) (t : ℕ) (w : World) → length ls ≡ n → SameEval n (eval z m k e ls t w) y
+  changed_same : (n : ℕ) (x : TypedVariable) (by : Update) (e : c.Expr) (y : Evaluated) (ls : List Slot) (t : ℕ) (w : World) → length ls ≡ n → SameEval n (eval z m k e ls t w) y
       → SameEval n (eval z m k (low.changed n x by e) ls t w) (changed_by z m x ls by y)
   changed_same n (variable.Local i) by e y ls t w l h = record {
     same = ap (λ j. altered (j - suc i) by (eval z m k e ls t w)) (sym l) ∙ ap (λ a. altered (length ls - suc i) by a) h.same;
@@ -178,17 +178,17 @@ module _ (z : Setting) (m : ℕ) (k k' : Callees) where
   changed_same n (variable.Field i) by e y ls t w l h = binary_same n (FieldChange i by) e (low.this_at n) y this_of ls t w h (λ ls' t' w' l'. this_same n ls' t' w' l')
 
   -- members of objects
-  read_member_same : (n : ℕ) (a : Member) (o : c.Expr) (y : Evaluated) (ls : List Slot) (t : ℕ) (w : World) → SameEval n (eval z m k o ls t w) y
+  read_member_same : (n : ℕ) (a : TypedMember) (o : c.Expr) (y : Evaluated) (ls : List Slot) (t : ℕ) (w : World) → SameEval n (eval z m k o ls t w) y
       → SameEval n (eval z m k (low.unary (low.reading a) o) ls t w) (read_member z m a y)
   read_member_same n (member.Field i) o y ls t w h = unary_same n (FieldGet i) o y ls t w h
   read_member_same n (member.Property p) o y ls t w h = unary_same n (Read p.entity) o y ls t w h
 
-  member_stored_same : (n : ℕ) (a : Member) (e o : c.Expr) (y : Evaluated) (go : List Slot → ℕ → World → Evaluated) (ls : List Slot) (t : ℕ) (w : World)
+  member_stored_same : (n : ℕ) (a : TypedMember) (e o : c.Expr) (y : Evaluated) (go : List Slot → ℕ → World → Evaluated) (ls : List Slot) (t : ℕ) (w : World)
       → SameEval n (eval z m k e ls t w) y → SameFrom n (eval z m k o) go → SameEval n (eval z m k (low.binary (low.writing a) e o) ls t w) (member_stored z m a y go)
   member_stored_same n (member.Field i) e o y go ls t w h f = binary_same n (FieldSet i) e o y go ls t w h f
   member_stored_same n (member.Property p) e o y go ls t w h f = binary_same n (Write p.entity) e o y go ls t w h f
 
-  member_changed_same : (n : ℕ) (a : Member) (by : Change) (e o : c.Expr) (y : Evaluated) (go : List Slot → ℕ → World → Evaluated) (ls : List Slot) (t : ℕ) (w : World)
+  member_changed_same : (n : ℕ) (a : TypedMember) (by : Update) (e o : c.Expr) (y : Evaluated) (go : List Slot → ℕ → World → Evaluated) (ls : List Slot) (t : ℕ) (w : World)
       → SameEval n (eval z m k e ls t w) y → SameFrom n (eval z m k o) go → SameEval n (eval z m k (low.binary (low.altering a by) e o) ls t w) (member_changed z m a by y go)
   member_changed_same n (member.Field i) by e o y go ls t w h f = binary_same n (FieldChange i by) e o y go ls t w h f
   member_changed_same n (member.Property p) by e o y go ls t w h f = binary_same n (Alter p.entity by) e o y go ls t w h f
@@ -196,11 +196,11 @@ module _ (z : Setting) (m : ℕ) (k k' : Callees) where
 -- calls of functions, imports and methods are the same, where they have an argument for each parameter
 abbrev pub CalleesAgree : Module → Callees → Callees → Type 0
 CalleesAgree M k k' =
-    (f : typed.Callee) (ps : List Parameter) (vs : List Slot) (t : ℕ) (w : World) → parameters_of M f ≡ Some ps → length vs ≡ length ps
+    (f : typed.TypedCallee) (ps : List TypedParameter) (vs : List Slot) (t : ℕ) (w : World) → parameters_of M f ≡ Some ps → length vs ≡ length ps
     → k (callee_of f) vs t w ≡ k' (callee_of f) vs t w
 
 -- what begins as 0, false or null
-initial_same : (z : Setting) (m : ℕ) (k : Callees) (n : ℕ) (kind : ValueKind) (ls : List Slot) (t : ℕ) (w : World) → length ls ≡ n
+initial_same : (z : Environment) (m : ℕ) (k : Callees) (n : ℕ) (kind : ValueKind) (ls : List Slot) (t : ℕ) (w : World) → length ls ≡ n
     → SameEval n (eval z m k (low.initial_by kind) ls t w) (Gave (default_of kind) ls t w)
 initial_same z m k n Number ls t w l = record { same = refl; keeps = l }
 initial_same z m k n Handle ls t w l = record { same = refl; keeps = l }
@@ -208,7 +208,7 @@ initial_same z m k n Handle ls t w l = record { same = refl; keeps = l }
 gave : (n x : ℕ) (ls : List Slot) (t : ℕ) (w : World) → length ls ≡ n → SameEval n (Gave (Bits x) ls t w) (Gave (Bits x) ls t w)
 gave n x ls t w l = record { same = refl; keeps = l }
 
-module _ (z : Setting) (m : ℕ) (M : Module) (k k' : Callees) (callees : CalleesAgree M k k') where
+module _ (z : Environment) (m : ℕ) (M : Module) (k k' : Callees) (callees : CalleesAgree M k k') where
   mutual
     pub value_same : (e : t.Expr) (n : ℕ) (ls : List Slot) (t : ℕ) (w : World) → length ls ≡ n → Sound M n e → SameEval n (eval z m k (low.lowered n e) ls t w) (evaluate z m k' e ls t w)
     value_same (t.number ty x) n ls t w l h = record { same = refl; keeps = l }
@@ -222,7 +222,7 @@ module _ (z : Setting) (m : ℕ) (M : Module) (k k' : Callees) (callees : Callee
     value_same (t.not e) n ls t w l h = folded_same z m k k' n denied Not (denies z m) (low.lowered n e) (evaluate z m k' e ls t w) ls t w (value_same e n ls t w l h)
     value_same (t.cast family e) n ls t w l h = unary_same z m k k' n (Cast family) (low.lowered n e) (evaluate z m k' e ls t w) ls t w (value_same e n ls t w l h.1)
     value_same (t.operate op ty a b) n ls t w l h =
-        binary_same z m k k' n (Work (work_of op) ty) (low.lowered n a) (low.lowered n b) (evaluate z m k' a ls t w) (evaluate z m k' b) ls t w (value_same a n ls t w l h.0)
+        binary_same z m k k' n (Binary (work_of op) ty) (low.lowered n a) (low.lowered n b) (evaluate z m k' a ls t w) (evaluate z m k' b) ls t w (value_same a n ls t w l h.0)
         (λ ls' t' w' l'. value_same b n ls' t' w' l' h.1)
     value_same (t.compare op ty a b) n ls t w l h =
         binary_same z m k k' n (Compare (test_of op) (is_signed ty)) (low.lowered n a) (low.lowered n b) (evaluate z m k' a ls t w) (evaluate z m k' b) ls t w (value_same a n ls t w l h.0)

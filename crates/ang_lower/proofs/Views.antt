@@ -4,7 +4,7 @@ use Rattle.std.specs.Prelude.{if◌then◌else◌}
 use Rattle.ang_view.specs.declared.entry.Entry.{Entry}
 use Rattle.ang_view.specs.Registration.{RegistrationList, entry_at}
 use Rattle.ang_meaning.specs.declared.host.HostUse.{HostUse}
-use Rattle.ang_meaning.specs.Setting.{Setting}
+use Rattle.ang_meaning.specs.Environment.{Environment}
 use Rattle.ang_lower.specs.Hosts.{is_asked, use_of, asked_as, HasView, IsOfView}
 
 of_kind : (V : RegistrationList) (e : ℕ) (u : HostUse) (x : Entry) (b : Bool) → is_asked x.kind ≡ b → entry_at V e ≡ Some x
@@ -16,5 +16,5 @@ of_entry : (V : RegistrationList) (e : ℕ) (u : HostUse) (o : Option Entry) →
 of_entry V e u None at same = absurd (cc)
 of_entry V e u (Some x) at same = of_kind V e u x (is_asked x.kind) refl at same
 
-pub seen_in : (z : Setting) (m : ℕ) (V : RegistrationList) (e : ℕ) (u : HostUse) → HasView z m V → z.host m e ≡ Some u → IsOfView V e u
+pub seen_in : (z : Environment) (m : ℕ) (V : RegistrationList) (e : ℕ) (u : HostUse) → HasView z m V → z.host m e ≡ Some u → IsOfView V e u
 seen_in z m V e u view there = of_entry V e u (entry_at V e) refl (sym (view.each e) ∙ there)

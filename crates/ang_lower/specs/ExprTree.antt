@@ -1,6 +1,6 @@
 -- The core tree of expressions without where it lies in memory (docs/MEANING.md, "What a body does").
 use Rattle.std.specs.Prelude.{ℕ, List, [], ◌∷◌}
-use Rattle.ang_meaning.specs.declared.operation.Change.{Change}
+use Rattle.ang_meaning.specs.declared.operation.Update.{Update}
 use Rattle.ang_meaning.specs.declared.operation.Operation.{Operation}
 use Rattle.ang_meaning.specs.declared.routine.Callee.{Callee}
 use Rattle.ang_meaning.specs.declared.routine.Target.{Target}
@@ -11,7 +11,7 @@ mutual
     null : Expr
     local : ℕ → Expr
     assign : ℕ → Expr → Expr
-    change : ℕ → Change → Expr → Expr
+    change : ℕ → Update → Expr → Expr
     apply : Operation → Exprs → Expr
     call : Callee → Exprs → List Target → Expr
     choose : Expr → Expr → Expr → Expr

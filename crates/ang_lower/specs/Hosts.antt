@@ -9,13 +9,13 @@ use Rattle.ang_view.specs.declared.entry.EntryKind.TheVariants.{HostType as Type
 use Rattle.ang_host.specs.declared.event.Role.{Role}
 use Rattle.ang_host.specs.declared.event.Role.TheVariants.{Making, Calling, Property as Reading}
 use Rattle.ang_view.specs.Registration.{RegistrationList, entry_at}
-use Rattle.ang_meaning.specs.declared.host.HostType.{HostType}
-use Rattle.ang_meaning.specs.declared.host.HostType.TheVariants.{Nothing, Plain, Handle}
+use Rattle.ang_meaning.specs.declared.host.HostValueType.{HostValueType}
+use Rattle.ang_meaning.specs.declared.host.HostValueType.TheVariants.{Nothing, Plain, Handle}
 use Rattle.ang_meaning.specs.declared.host.HostUse.{HostUse}
-use Rattle.ang_meaning.specs.Setting.{Setting, is_property}
+use Rattle.ang_meaning.specs.Environment.{Environment, is_property}
 
 -- a declared type, as its values pass; every object passes as a handle, and a value of an enumeration as an `int`
-abbrev pub host_type_of : TypeRef → HostType
+abbrev pub host_type_of : TypeRef → HostValueType
 host_type_of Void = Nothing
 host_type_of (PlainType p) = Plain p
 host_type_of (Enumeration name) = Plain I32
@@ -78,7 +78,7 @@ abbrev pub use_in : RegistrationList → ℕ → Option HostUse
 use_in V e = asked_as (entry_at V e)
 
 -- In the setting, module m sees what its view has to ask and nothing else.
-pub record HasView (z : Setting) (m : ℕ) (V : RegistrationList) : Type 0 where
+pub record HasView (z : Environment) (m : ℕ) (V : RegistrationList) : Type 0 where
   pub each : (e : ℕ) → z.host m e ≡ use_in V e
 
 -- the view has an entry under the number, which can be asked, and this is how

@@ -1,10 +1,10 @@
 -- The core tree of a statement, of a body and of a module of the resolved tree (docs/MEANING.md, "What a script means" and "What a body does"), where n
 -- locals are alive.
 use Rattle.std.specs.Prelude.{◌≡◌, ℕ, suc, ◌+◌, List, [], ◌∷◌, ◌++◌, length, map, Option, Some, None}
-use Rattle.ang_typed.specs.declared.expression.Variable.TheVariants as variable
+use Rattle.ang_typed.specs.declared.expression.TypedVariable.TheVariants as variable
 use Rattle.ang_typed.specs.Typed as t
 use Rattle.ang_typed.specs.View.{Repeated}
-use Rattle.ang_core.specs.declared.tree.Statement.{Statement}
+use Rattle.ang_core.specs.declared.tree.CoreStatement.{CoreStatement}
 use Rattle.ang_source.specs.Meaning.{Code, of_function, of_global, passings_of, primitive_of}
 use Rattle.ang_source.specs.Sound.{declared, declared_by}
 use Rattle.ang_lower.specs.LoweredExpr.{stored, lowered, lowered_or, lowered_begin}
@@ -74,10 +74,10 @@ lowered_code n (of_function ss) = lowered_block (lowered_all n ss)
 lowered_code n (of_global g e) = stmt.evaluate (stored n (variable.Global g) (lowered n e))
 
 -- the statement is that body's
-pub record IsLowered (n : ℕ) (k : Code) (s : Statement) : Type 0 where
+pub record IsLowered (n : ℕ) (k : Code) (s : CoreStatement) : Type 0 where
   pub same : plain_stmt s ≡ lowered_code n k
 
-abbrev pub lowered_function : t.Function → stmt.Whole
+abbrev pub lowered_function : t.TypedFunction → stmt.Whole
 lowered_function f =
     record { params = passings_of f.parameters; result = primitive_of f.result; statement = lowered_code (length f.parameters) (of_function f.body) }
 

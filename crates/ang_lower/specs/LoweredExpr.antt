@@ -3,16 +3,16 @@
 use Rattle.std.specs.Prelude.{ℕ, suc, ◌-◌, List, [], ◌∷◌, Option, Some, None}
 use Rattle.ang_kinds.specs.declared.primitive.Primitive.{Primitive}
 use Rattle.ang_types.specs.declared.arg_type.ArgType.{ArgType}
-use Rattle.ang_typed.specs.declared.expression.Variable.{Variable}
-use Rattle.ang_typed.specs.declared.expression.Variable.TheVariants as variable
-use Rattle.ang_typed.specs.declared.expression.Member.{Member}
-use Rattle.ang_typed.specs.declared.expression.Member.TheVariants as member
+use Rattle.ang_typed.specs.declared.expression.TypedVariable.{TypedVariable}
+use Rattle.ang_typed.specs.declared.expression.TypedVariable.TheVariants as variable
+use Rattle.ang_typed.specs.declared.expression.TypedMember.{TypedMember}
+use Rattle.ang_typed.specs.declared.expression.TypedMember.TheVariants as member
 use Rattle.ang_typed.specs.Typed as t
 use Rattle.ang_meaning.specs.declared.class.ValueKind.{ValueKind}
 use Rattle.ang_meaning.specs.declared.class.ValueKind.TheVariants.{Number, Handle}
-use Rattle.ang_meaning.specs.declared.operation.Change.{Change}
+use Rattle.ang_meaning.specs.declared.operation.Update.{Update}
 use Rattle.ang_meaning.specs.declared.operation.Operation.{Operation}
-use Rattle.ang_meaning.specs.declared.operation.Operation.TheVariants.{Work, Compare, Convert, Negate, Complement, Not, Same, GlobalGet, GlobalSet, GlobalChange, Ask, Read, Write, Alter, Make, FieldGet, FieldSet, FieldChange, Cast}
+use Rattle.ang_meaning.specs.declared.operation.Operation.TheVariants.{Binary, Compare, Convert, Negate, Complement, Not, Same, GlobalGet, GlobalSet, GlobalChange, Ask, Read, Write, Alter, Make, FieldGet, FieldSet, FieldChange, Cast}
 use Rattle.ang_meaning.specs.declared.routine.Callee.TheVariants.{Own}
 use Rattle.ang_meaning.specs.declared.routine.Spot.{Spot}
 use Rattle.ang_meaning.specs.declared.routine.Spot.TheVariants as spot
@@ -67,26 +67,26 @@ denial e = folded denied Not e
 abbrev pub this_at : ℕ → c.Expr
 this_at n = c.local (n - suc 0)
 
-abbrev pub read : ℕ → Variable → c.Expr
+abbrev pub read : ℕ → TypedVariable → c.Expr
 read n (variable.Local i) = c.local (n - suc i)
 read n (variable.Global g) = c.apply (GlobalGet g) c.none
 read n (variable.Property h) = c.apply (Read h.entity) c.none
 read n (variable.Field i) = unary (FieldGet i) (this_at n)
 
-abbrev pub stored : ℕ → Variable → c.Expr → c.Expr
+abbrev pub stored : ℕ → TypedVariable → c.Expr → c.Expr
 stored n (variable.Local i) e = c.assign (n - suc i) e
 stored n (variable.Global g) e = unary (GlobalSet g) e
 stored n (variable.Property h) e = unary (Write h.entity) e
 stored n (variable.Field i) e = binary (FieldSet i) e (this_at n)
 
-abbrev pub changed : ℕ → Variable → Change → c.Expr → c.Expr
+abbrev pub changed : ℕ → TypedVariable → Update → c.Expr → c.Expr
 changed n (variable.Local i) by e = c.change (n - suc i) by e
 changed n (variable.Global g) by e = unary (GlobalChange g by) e
 changed n (variable.Property h) by e = unary (Alter h.entity by) e
 changed n (variable.Field i) by e = binary (FieldChange i by) e (this_at n)
 
 -- where a variable stands that an `&out` value moves into; no host property is one
-abbrev pub spot_of : ℕ → Variable → Spot
+abbrev pub spot_of : ℕ → TypedVariable → Spot
 spot_of n (variable.Local i) = spot.Local (n - suc i)
 spot_of n (variable.Global g) = spot.Global g
 spot_of n (variable.Property h) = spot.Local 0
@@ -108,17 +108,17 @@ targets_of n args = targets_behind n args []
 -- ---- members of objects
 
 -- what reads a member of its operand
-abbrev pub reading : Member → Operation
+abbrev pub reading : TypedMember → Operation
 reading (member.Field i) = FieldGet i
 reading (member.Property h) = Read h.entity
 
 -- what stores its first operand into a member of the second
-abbrev pub writing : Member → Operation
+abbrev pub writing : TypedMember → Operation
 writing (member.Field i) = FieldSet i
 writing (member.Property h) = Write h.entity
 
 -- what changes a member of its second operand by the first
-abbrev pub altering : Member → Change → Operation
+abbrev pub altering : TypedMember → Update → Operation
 altering (member.Field i) by = FieldChange i by
 altering (member.Property h) by = Alter h.entity by
 
@@ -152,7 +152,7 @@ abbrev mutual
   lowered n (t.negate ty e) = negation ty (lowered n e)
   lowered n (t.complement ty e) = complement ty (lowered n e)
   lowered n (t.not e) = denial (lowered n e)
-  lowered n (t.operate op ty l r) = binary (Work (work_of op) ty) (lowered n l) (lowered n r)
+  lowered n (t.operate op ty l r) = binary (Binary (work_of op) ty) (lowered n l) (lowered n r)
   lowered n (t.compare op ty l r) = binary (Compare (test_of op) (is_signed ty)) (lowered n l) (lowered n r)
   lowered n (t.and l r) = c.choose (lowered n l) (lowered n r) (c.number 0)
   lowered n (t.or l r) = c.choose (lowered n l) (c.number 1) (lowered n r)
@@ -177,7 +177,7 @@ abbrev mutual
   lowered_store n (t.member_of o a) v = binary (writing a) v (lowered n o)
 
   -- and is changed by an operand
-  pub lowered_change : ℕ → t.Site → Change → c.Expr → c.Expr
+  pub lowered_change : ℕ → t.Site → Update → c.Expr → c.Expr
   lowered_change n (t.named x) by v = changed n x by v
   lowered_change n (t.member_of o a) by v = binary (altering a by) v (lowered n o)
 

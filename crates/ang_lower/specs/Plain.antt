@@ -1,12 +1,12 @@
 -- A statement and a body of the core tree of the program without where they lie in memory.
-use Rattle.ang_core.specs.declared.tree.Body.{Body}
-use Rattle.ang_core.specs.declared.tree.Statement.{Statement, Row_of-Statement, end_of-Statement, more_of-Statement}
-use Rattle.ang_core.specs.declared.tree.Statement.TheVariants.{Skip, Evaluate, Declare, Block', If', While', DoWhile', Return, Break, Continue}
+use Rattle.ang_core.specs.declared.tree.CoreBody.{CoreBody}
+use Rattle.ang_core.specs.declared.tree.CoreStatement.{CoreStatement, Row_of-CoreStatement, end_of-CoreStatement, more_of-CoreStatement}
+use Rattle.ang_core.specs.declared.tree.CoreStatement.TheVariants.{Skip, Evaluate, Declare, Block', If', While', DoWhile', Return, Break, Continue}
 use Rattle.ang_lower.specs.PlainExpr.{plain_tree}
 use Rattle.ang_lower.specs.Tree as stmt
 
 abbrev mutual
-  pub plain_stmt : Statement → stmt.Stmt
+  pub plain_stmt : CoreStatement → stmt.Stmt
   plain_stmt Skip = stmt.skip
   plain_stmt (Evaluate e) = stmt.evaluate (plain_tree e)
   plain_stmt (Declare e) = stmt.declare (plain_tree e)
@@ -18,9 +18,9 @@ abbrev mutual
   plain_stmt Break = stmt.break
   plain_stmt Continue = stmt.continue
 
-  pub plain_stmts : {k : _} → Row_of-Statement k → stmt.Stmts
-  plain_stmts end_of-Statement = stmt.end
-  plain_stmts (more_of-Statement s rest) = stmt.«then» (plain_stmt s) (plain_stmts rest)
+  pub plain_stmts : {k : _} → Row_of-CoreStatement k → stmt.Stmts
+  plain_stmts end_of-CoreStatement = stmt.end
+  plain_stmts (more_of-CoreStatement s rest) = stmt.«then» (plain_stmt s) (plain_stmts rest)
 
-abbrev pub plain_body : Body → stmt.Whole
+abbrev pub plain_body : CoreBody → stmt.Whole
 plain_body b = record { params = b.params.items; result = b.result; statement = plain_stmt b.statement }

@@ -8,10 +8,10 @@ ghost use Rattle.ang_lower.specs.Same.{LowersProgram, KeepsSound};
 
 use crate::statements::lower_block;
 use crate::{lower_expression, store};
-use ang_core::{Body, Statement};
+use ang_core::{CoreBody, CoreStatement};
 use ang_kinds::{Pass, Prim};
 use ang_meaning::Passing;
-use ang_typed::{Expression, Function, Global as GlobalVariable, Parameter, Typed, Variable};
+use ang_typed::{TypedExpression, TypedFunction, Global as GlobalVariable, TypedParameter, Typed, TypedVariable};
 use ang_types::ArgType;
 use std::alloc::{AllocError, Global};
 
@@ -29,7 +29,7 @@ fn referred(ty: ArgType) -> Passing
     }
 }
 
-fn passing(parameter: Parameter) -> Passing
+fn passing(parameter: TypedParameter) -> Passing
     ensures same { result ≡ passing_of parameter }
 {
     match parameter.pass {
@@ -40,7 +40,7 @@ fn passing(parameter: Parameter) -> Passing
 }
 
 /// How parameters take their arguments, in order.
-fn each_passing(alloc: Global, parameters: &[Parameter]) -> Result<Vec<Passing>, AllocError>
+fn each_passing(alloc: Global, parameters: &[TypedParameter]) -> Result<Vec<Passing>, AllocError>
     ensures exact { IfOk result (λ v. v.items ≡ list_map (λ p. passing_of p) parameters.now) }
 {
     parameters
@@ -53,7 +53,7 @@ fn each_passing(alloc: Global, parameters: &[Parameter]) -> Result<Vec<Passing>,
 ///
 /// # Errors
 /// Want of memory.
-pub fn passings(alloc: Global, parameters: &[Parameter]) -> Result<Vec<Passing>, AllocError>
+pub fn passings(alloc: Global, parameters: &[TypedParameter]) -> Result<Vec<Passing>, AllocError>
     ensures exact { IfOk result (λ v. v.items ≡ passings_of parameters.now) }
 {
     let mut found = each_passing(alloc, parameters)?;
@@ -76,13 +76,13 @@ fn primitive_of(ty: ArgType) -> Option<Prim>
 }
 
 /// A byte for each parameter, as the lowering of statements has one for each local that is alive.
-fn bytes_for(alloc: Global, parameters: &[Parameter]) -> Result<Vec<u8>, AllocError>
+fn bytes_for(alloc: Global, parameters: &[TypedParameter]) -> Result<Vec<u8>, AllocError>
     ensures count { IfOk result (λ v. length v.items ≡ length parameters.now) }
 {
     parameters.iter().map(|_| 0).collect(alloc)
 }
 
-fn function_body(alloc: Global, function: &Function) -> Result<Body, AllocError>
+fn function_body(alloc: Global, function: &TypedFunction) -> Result<CoreBody, AllocError>
     ensures exact { IfOk result (λ b. plain_body b
         ≡ spec.lowered_function (view_function function.now)) }
 {
@@ -90,7 +90,7 @@ fn function_body(alloc: Global, function: &Function) -> Result<Body, AllocError>
     let params = passings(alloc, parameters)?;
     let mut alive = bytes_for(alloc, parameters)?;
     let statement = lower_block(alloc, &mut alive, &function.body)?;
-    Ok(Body {
+    Ok(CoreBody {
         params,
         result: primitive_of(function.result),
         statement,
@@ -98,7 +98,7 @@ fn function_body(alloc: Global, function: &Function) -> Result<Body, AllocError>
 }
 
 /// The body that stores the value into the global of that number.
-fn initializer_body(alloc: Global, number: usize, value: &Expression) -> Result<Body, AllocError>
+fn initializer_body(alloc: Global, number: usize, value: &TypedExpression) -> Result<CoreBody, AllocError>
     ensures params { IfOk result (λ b. b.params.items ≡ []) }
     ensures untyped { IfOk result (λ b. b.result ≡ None) }
     ensures statement { IfOk result
@@ -106,18 +106,18 @@ fn initializer_body(alloc: Global, number: usize, value: &Expression) -> Result<
         ≡ spec.lowered_code 0 (of_global number (view_expr value.now))) }
 {
     let value = lower_expression(alloc, 0, value)?;
-    let whole = store(alloc, 0, &Variable::Global(number), value)?;
-    Ok(Body {
+    let whole = store(alloc, 0, &TypedVariable::Global(number), value)?;
+    Ok(CoreBody {
         params: Vec::new(alloc),
         result: None,
-        statement: Statement::Evaluate(Box::new(alloc, whole)?),
+        statement: CoreStatement::Evaluate(Box::new(alloc, whole)?),
     })
 }
 
 fn add_functions(
     alloc: Global,
-    functions: &[Function],
-    bodies: &mut Vec<Body>,
+    functions: &[TypedFunction],
+    bodies: &mut Vec<CoreBody>,
 ) -> Result<(), AllocError>
     ensures exact { OnOk result (list_map plain_body bodies.new.items
         ≡ list_map plain_body bodies.old.items
@@ -135,7 +135,7 @@ fn add_global(
     alloc: Global,
     number: usize,
     global: &GlobalVariable,
-    bodies: &mut Vec<Body>,
+    bodies: &mut Vec<CoreBody>,
 ) -> Result<(), AllocError>
     ensures exact { OnOk result (list_map plain_body bodies.new.items
         ≡ list_map plain_body bodies.old.items
@@ -154,7 +154,7 @@ fn add_global(
 fn add_globals(
     alloc: Global,
     globals: &[GlobalVariable],
-    bodies: &mut Vec<Body>,
+    bodies: &mut Vec<CoreBody>,
 ) -> Result<(), AllocError>
     ensures exact { OnOk result (list_map plain_body bodies.new.items
         ≡ list_map plain_body bodies.old.items
@@ -166,7 +166,7 @@ fn add_globals(
     Ok(())
 }
 
-fn bodies_of(alloc: Global, program: &Typed) -> Result<Vec<Body>, AllocError>
+fn bodies_of(alloc: Global, program: &Typed) -> Result<Vec<CoreBody>, AllocError>
     ensures exact { IfOk result (λ bodies. list_map plain_body bodies.items
         ≡ spec.lowered_module (view_typed program.now)) }
 {
@@ -184,7 +184,7 @@ fn bodies_of(alloc: Global, program: &Typed) -> Result<Vec<Body>, AllocError>
 ///
 /// # Errors
 /// Want of memory.
-pub fn lower(alloc: Global, program: &Typed) -> Result<Vec<Body>, AllocError>
+pub fn lower(alloc: Global, program: &Typed) -> Result<Vec<CoreBody>, AllocError>
     ensures exact { IfOk result (λ bodies. list_map plain_body bodies.items
         ≡ spec.lowered_module (view_typed program.now)) }
     ensures params { IfOk result (λ bodies. list_map (λ b. b.params.items) bodies.items

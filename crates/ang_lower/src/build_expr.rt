@@ -4,31 +4,31 @@ ghost use Rattle.ang_lower.specs.ExprTree as tree;
 ghost use Rattle.ang_lower.specs.PlainExpr.{plain_expr};
 ghost use Rattle.ang_lower.specs.LoweredExpr as spec;
 
-use ang_core::Expression;
+use ang_core::CoreExpression;
 use ang_meaning::{Callee, Operation, Target};
 use std::alloc::{AllocError, Global};
 
 /// An operation on these operands.
-pub fn apply(operation: Operation, operands: Vec<Expression>) -> Expression
+pub fn apply(operation: Operation, operands: Vec<CoreExpression>) -> CoreExpression
     ensures exact { plain_expr result
         ≡ tree.apply operation (tree.exprs (list_map plain_expr operands.items)) }
 {
-    Expression::Apply(operation, operands)
+    CoreExpression::Apply(operation, operands)
 }
 
 /// A call with these arguments and targets.
-pub fn call(callee: Callee, arguments: Vec<Expression>, targets: Vec<Target>) -> Expression
+pub fn call(callee: Callee, arguments: Vec<CoreExpression>, targets: Vec<Target>) -> CoreExpression
     ensures exact { plain_expr result
         ≡ tree.call callee (tree.exprs (list_map plain_expr arguments.items)) targets.items }
 {
-    Expression::Call(callee, arguments, targets)
+    CoreExpression::Call(callee, arguments, targets)
 }
 
 /// The list with one more operand at its end.
 pub fn with_operand(
-    first: Vec<Expression>,
-    operand: Expression,
-) -> Result<Vec<Expression>, AllocError>
+    first: Vec<CoreExpression>,
+    operand: CoreExpression,
+) -> Result<Vec<CoreExpression>, AllocError>
     ensures exact { IfOk result (λ v. list_map plain_expr v.items ≡ list_map plain_expr first.items
         ++ (plain_expr operand ∷ [])) }
 {
@@ -38,7 +38,7 @@ pub fn with_operand(
 }
 
 /// One more operand at the end.
-pub fn add_operand(found: &mut Vec<Expression>, operand: Expression) -> Result<(), AllocError>
+pub fn add_operand(found: &mut Vec<CoreExpression>, operand: CoreExpression) -> Result<(), AllocError>
     ensures exact { OnOk result (list_map plain_expr found.new.items
         ≡ list_map plain_expr found.old.items ++ (plain_expr operand ∷ [])) }
 {
@@ -47,7 +47,7 @@ pub fn add_operand(found: &mut Vec<Expression>, operand: Expression) -> Result<(
 }
 
 /// An operation without operands.
-pub fn nullary(alloc: Global, operation: Operation) -> Expression
+pub fn nullary(alloc: Global, operation: Operation) -> CoreExpression
     ensures exact { plain_expr result ≡ tree.apply operation tree.none }
 {
     apply(operation, Vec::new(alloc))
@@ -57,8 +57,8 @@ pub fn nullary(alloc: Global, operation: Operation) -> Expression
 pub fn unary(
     alloc: Global,
     operation: Operation,
-    operand: Expression,
-) -> Result<Expression, AllocError>
+    operand: CoreExpression,
+) -> Result<CoreExpression, AllocError>
     ensures exact { IfOk result (λ x. plain_expr x ≡ spec.unary operation (plain_expr operand)) }
 {
     let operands = with_operand(Vec::new(alloc), operand)?;
@@ -67,32 +67,32 @@ pub fn unary(
 
 /// Two operands.
 #[derive(Drop)]
-pub struct Pair {
+pub struct CoreOperands {
     /// The first operand; of a choice the value where the test is true.
-    pub left: Expression,
+    pub left: CoreExpression,
     /// The second operand; of a choice the value where the test is false.
-    pub right: Expression,
+    pub right: CoreExpression,
 }
 
 /// An operation on two operands.
-pub fn binary(alloc: Global, operation: Operation, pair: Pair) -> Result<Expression, AllocError>
+pub fn binary(alloc: Global, operation: Operation, pair: CoreOperands) -> Result<CoreExpression, AllocError>
     ensures exact { IfOk result (λ x. plain_expr x
         ≡ spec.binary operation (plain_expr pair.left) (plain_expr pair.right)) }
 {
-    let Pair { left, right } = pair;
+    let CoreOperands { left, right } = pair;
     let first = with_operand(Vec::new(alloc), left)?;
     let operands = with_operand(first, right)?;
     Ok(apply(operation, operands))
 }
 
 /// A choice by a test: the left one where it is true.
-pub fn choice(alloc: Global, test: Expression, pair: Pair) -> Result<Expression, AllocError>
+pub fn choice(alloc: Global, test: CoreExpression, pair: CoreOperands) -> Result<CoreExpression, AllocError>
     ensures exact { IfOk result (λ x. plain_expr x
         ≡ tree.choose (plain_expr test) (plain_expr pair.left) (plain_expr pair.right)) }
 {
-    let Pair { left, right } = pair;
+    let CoreOperands { left, right } = pair;
     let test = Box::new(alloc, test)?;
     let left = Box::new(alloc, left)?;
     let right = Box::new(alloc, right)?;
-    Ok(Expression::Choose(test, left, right))
+    Ok(CoreExpression::Choose(test, left, right))
 }

@@ -6,14 +6,14 @@ ghost use Rattle.ang_lower.specs.PlainExpr.{plain_expr, plain_tree};
 ghost use Rattle.ang_lower.specs.ExprKinds.{is_unary, is_binary, is_choice, is_change, is_call};
 ghost use Rattle.ang_lower.specs.LoweredExpr as spec;
 
-use crate::build_expr::{Pair, add_operand, apply, binary, call, choice, nullary, unary};
+use crate::build_expr::{CoreOperands, add_operand, apply, binary, call, choice, nullary, unary};
 use crate::folding::{complement, conversion, denial, negation};
 use crate::operators::{arithmetic, compound, is_signed, step, test};
 use crate::variables::{altering, change, read, reading, store, targets, writing};
-use ang_core::Expression;
-use ang_meaning::{Callee, Change, Operation};
+use ang_core::CoreExpression;
+use ang_meaning::{Callee, Update, Operation};
 use ang_typed as typed;
-use ang_typed::{Argument, Local, Site};
+use ang_typed::{TypedArgument, Local, TypedSite};
 use ang_types::ArgType;
 use std::alloc::{AllocError, Global};
 
@@ -25,43 +25,43 @@ use std::alloc::{AllocError, Global};
 pub fn lower_expression(
     alloc: Global,
     alive: usize,
-    e: &typed::Expression,
-) -> Result<Expression, AllocError>
+    e: &typed::TypedExpression,
+) -> Result<CoreExpression, AllocError>
     ensures exact { IfOk result (λ x. plain_expr x ≡ spec.lowered alive (view_expr e.now)) }
 {
     match e {
-        typed::Expression::Number { value, .. } => Ok(Expression::Number(*value)),
-        typed::Expression::Truth(b) => Ok(Expression::Number(u64::from(*b))),
-        typed::Expression::Read { site, .. } => lower_read(alloc, alive, site),
-        typed::Expression::Null => Ok(Expression::Null),
-        typed::Expression::Convert { .. }
-        | typed::Expression::Negate { .. }
-        | typed::Expression::Complement { .. }
-        | typed::Expression::Not { .. }
-        | typed::Expression::Cast { .. } => lower_unary(alloc, alive, e),
-        typed::Expression::Operate { .. }
-        | typed::Expression::Compare { .. }
-        | typed::Expression::Same { .. } => lower_binary(alloc, alive, e),
-        typed::Expression::And { .. }
-        | typed::Expression::Or { .. }
-        | typed::Expression::Choose { .. } => lower_choice(alloc, alive, e),
-        typed::Expression::Assign { .. }
-        | typed::Expression::Compound { .. }
-        | typed::Expression::Step { .. } => lower_change(alloc, alive, e),
-        typed::Expression::Make { .. }
-        | typed::Expression::Call { .. }
-        | typed::Expression::HostCall { .. } => lower_call(alloc, alive, e),
+        typed::TypedExpression::Number { value, .. } => Ok(CoreExpression::Number(*value)),
+        typed::TypedExpression::Truth(b) => Ok(CoreExpression::Number(u64::from(*b))),
+        typed::TypedExpression::Read { site, .. } => lower_read(alloc, alive, site),
+        typed::TypedExpression::Null => Ok(CoreExpression::Null),
+        typed::TypedExpression::Convert { .. }
+        | typed::TypedExpression::Negate { .. }
+        | typed::TypedExpression::Complement { .. }
+        | typed::TypedExpression::Not { .. }
+        | typed::TypedExpression::Cast { .. } => lower_unary(alloc, alive, e),
+        typed::TypedExpression::Operate { .. }
+        | typed::TypedExpression::Compare { .. }
+        | typed::TypedExpression::Same { .. } => lower_binary(alloc, alive, e),
+        typed::TypedExpression::And { .. }
+        | typed::TypedExpression::Or { .. }
+        | typed::TypedExpression::Choose { .. } => lower_choice(alloc, alive, e),
+        typed::TypedExpression::Assign { .. }
+        | typed::TypedExpression::Compound { .. }
+        | typed::TypedExpression::Step { .. } => lower_change(alloc, alive, e),
+        typed::TypedExpression::Make { .. }
+        | typed::TypedExpression::Call { .. }
+        | typed::TypedExpression::HostCall { .. } => lower_call(alloc, alive, e),
     }
 }
 
 /// What stands at a site.
 #[cycle(expression)]
-fn lower_read(alloc: Global, alive: usize, site: &Site) -> Result<Expression, AllocError>
+fn lower_read(alloc: Global, alive: usize, site: &TypedSite) -> Result<CoreExpression, AllocError>
     ensures exact { IfOk result (λ x. plain_expr x ≡ spec.lowered_read alive (view_site site.now)) }
 {
     match site {
-        Site::Named(variable) => read(alloc, alive, variable),
-        Site::Of { object, member } => {
+        TypedSite::Named(variable) => read(alloc, alive, variable),
+        TypedSite::Of { object, member } => {
             let operation = reading(member);
             let object = lower_expression(alloc, alive, object)?;
             unary(alloc, operation, object)
@@ -71,28 +71,28 @@ fn lower_read(alloc: Global, alive: usize, site: &Site) -> Result<Expression, Al
 
 /// A conversion or a cast, or an operator on one operand.
 #[cycle(expression)]
-fn lower_unary(alloc: Global, alive: usize, e: &typed::Expression) -> Result<Expression, AllocError>
+fn lower_unary(alloc: Global, alive: usize, e: &typed::TypedExpression) -> Result<CoreExpression, AllocError>
     requires kind { is_unary (view_expr e.now) ≡ true }
     ensures exact { IfOk result (λ x. plain_expr x ≡ spec.lowered alive (view_expr e.now)) }
 {
     match e {
-        typed::Expression::Convert { to, operand, .. } => {
+        typed::TypedExpression::Convert { to, operand, .. } => {
             let operand = lower_expression(alloc, alive, operand)?;
             conversion(alloc, *to, operand)
         }
-        typed::Expression::Negate { ty, operand } => {
+        typed::TypedExpression::Negate { ty, operand } => {
             let operand = lower_expression(alloc, alive, operand)?;
             negation(alloc, *ty, operand)
         }
-        typed::Expression::Complement { ty, operand } => {
+        typed::TypedExpression::Complement { ty, operand } => {
             let operand = lower_expression(alloc, alive, operand)?;
             complement(alloc, *ty, operand)
         }
-        typed::Expression::Not { operand } => {
+        typed::TypedExpression::Not { operand } => {
             let operand = lower_expression(alloc, alive, operand)?;
             denial(alloc, operand)
         }
-        typed::Expression::Cast { family, operand } => {
+        typed::TypedExpression::Cast { family, operand } => {
             let operand = lower_expression(alloc, alive, operand)?;
             unary(alloc, Operation::Cast(*family), operand)
         }
@@ -105,13 +105,13 @@ fn lower_unary(alloc: Global, alive: usize, e: &typed::Expression) -> Result<Exp
 fn lower_binary(
     alloc: Global,
     alive: usize,
-    e: &typed::Expression,
-) -> Result<Expression, AllocError>
+    e: &typed::TypedExpression,
+) -> Result<CoreExpression, AllocError>
     requires kind { is_binary (view_expr e.now) ≡ true }
     ensures exact { IfOk result (λ x. plain_expr x ≡ spec.lowered alive (view_expr e.now)) }
 {
     match e {
-        typed::Expression::Operate {
+        typed::TypedExpression::Operate {
             operator,
             ty,
             left,
@@ -119,10 +119,10 @@ fn lower_binary(
         } => {
             let left = lower_expression(alloc, alive, left)?;
             let right = lower_expression(alloc, alive, right)?;
-            let operation = Operation::Work(arithmetic(*operator), *ty);
-            binary(alloc, operation, Pair { left, right })
+            let operation = Operation::Binary(arithmetic(*operator), *ty);
+            binary(alloc, operation, CoreOperands { left, right })
         }
-        typed::Expression::Compare {
+        typed::TypedExpression::Compare {
             comparison,
             ty,
             left,
@@ -131,12 +131,12 @@ fn lower_binary(
             let left = lower_expression(alloc, alive, left)?;
             let right = lower_expression(alloc, alive, right)?;
             let operation = Operation::Compare(test(*comparison), is_signed(*ty));
-            binary(alloc, operation, Pair { left, right })
+            binary(alloc, operation, CoreOperands { left, right })
         }
-        typed::Expression::Same { left, right } => {
+        typed::TypedExpression::Same { left, right } => {
             let left = lower_expression(alloc, alive, left)?;
             let right = lower_expression(alloc, alive, right)?;
-            binary(alloc, Operation::Same, Pair { left, right })
+            binary(alloc, Operation::Same, CoreOperands { left, right })
         }
         _ => unreachable!(),
     }
@@ -147,32 +147,32 @@ fn lower_binary(
 fn lower_choice(
     alloc: Global,
     alive: usize,
-    e: &typed::Expression,
-) -> Result<Expression, AllocError>
+    e: &typed::TypedExpression,
+) -> Result<CoreExpression, AllocError>
     requires kind { is_choice (view_expr e.now) ≡ true }
     ensures exact { IfOk result (λ x. plain_expr x ≡ spec.lowered alive (view_expr e.now)) }
 {
     match e {
-        typed::Expression::And { left, right } => {
+        typed::TypedExpression::And { left, right } => {
             let test = lower_expression(alloc, alive, left)?;
             let left = lower_expression(alloc, alive, right)?;
-            let right = Expression::Number(0);
-            choice(alloc, test, Pair { left, right })
+            let right = CoreExpression::Number(0);
+            choice(alloc, test, CoreOperands { left, right })
         }
-        typed::Expression::Or { left, right } => {
+        typed::TypedExpression::Or { left, right } => {
             let test = lower_expression(alloc, alive, left)?;
             let right = lower_expression(alloc, alive, right)?;
-            let left = Expression::Number(1);
-            choice(alloc, test, Pair { left, right })
+            let left = CoreExpression::Number(1);
+            choice(alloc, test, CoreOperands { left, right })
         }
-        typed::Expression::Choose {
+        typed::TypedExpression::Choose {
             condition,
             then,
             otherwise,
         } => {
             let left = lower_expression(alloc, alive, then)?;
             let right = lower_expression(alloc, alive, otherwise)?;
-            let pair = Pair { left, right };
+            let pair = CoreOperands { left, right };
             let test = lower_expression(alloc, alive, condition)?;
             choice(alloc, test, pair)
         }
@@ -185,17 +185,17 @@ fn lower_choice(
 fn lower_change(
     alloc: Global,
     alive: usize,
-    e: &typed::Expression,
-) -> Result<Expression, AllocError>
+    e: &typed::TypedExpression,
+) -> Result<CoreExpression, AllocError>
     requires kind { is_change (view_expr e.now) ≡ true }
     ensures exact { IfOk result (λ x. plain_expr x ≡ spec.lowered alive (view_expr e.now)) }
 {
     match e {
-        typed::Expression::Assign { site, value, .. } => {
+        typed::TypedExpression::Assign { site, value, .. } => {
             let value = lower_expression(alloc, alive, value)?;
             store_at(alloc, alive, site, value)
         }
-        typed::Expression::Compound {
+        typed::TypedExpression::Compound {
             site,
             ty,
             operator,
@@ -206,13 +206,13 @@ fn lower_change(
             let by = compound(*ty, *operator, *operating);
             change_at(alloc, alive, site, by, value)
         }
-        typed::Expression::Step {
+        typed::TypedExpression::Step {
             site,
             ty,
             step: kind,
         } => {
             let by = step(*ty, *kind);
-            change_at(alloc, alive, site, by, Expression::Number(1))
+            change_at(alloc, alive, site, by, CoreExpression::Number(1))
         }
         _ => unreachable!(),
     }
@@ -223,19 +223,19 @@ fn lower_change(
 fn store_at(
     alloc: Global,
     alive: usize,
-    site: &Site,
-    value: Expression,
-) -> Result<Expression, AllocError>
+    site: &TypedSite,
+    value: CoreExpression,
+) -> Result<CoreExpression, AllocError>
     ensures exact { IfOk result (λ x. plain_expr x
         ≡ spec.lowered_store alive (view_site site.now) (plain_expr value)) }
 {
     match site {
-        Site::Named(variable) => store(alloc, alive, variable, value),
-        Site::Of { object, member } => {
+        TypedSite::Named(variable) => store(alloc, alive, variable, value),
+        TypedSite::Of { object, member } => {
             let operation = writing(member);
             let right = lower_expression(alloc, alive, object)?;
             let left = value;
-            binary(alloc, operation, Pair { left, right })
+            binary(alloc, operation, CoreOperands { left, right })
         }
     }
 }
@@ -245,37 +245,37 @@ fn store_at(
 fn change_at(
     alloc: Global,
     alive: usize,
-    site: &Site,
-    by: Change,
-    value: Expression,
-) -> Result<Expression, AllocError>
+    site: &TypedSite,
+    by: Update,
+    value: CoreExpression,
+) -> Result<CoreExpression, AllocError>
     ensures exact { IfOk result (λ x. plain_expr x
         ≡ spec.lowered_change alive (view_site site.now) by (plain_expr value)) }
 {
     match site {
-        Site::Named(variable) => change(alloc, alive, variable, by, value),
-        Site::Of { object, member } => {
+        TypedSite::Named(variable) => change(alloc, alive, variable, by, value),
+        TypedSite::Of { object, member } => {
             let operation = altering(member, by);
             let right = lower_expression(alloc, alive, object)?;
             let left = value;
-            binary(alloc, operation, Pair { left, right })
+            binary(alloc, operation, CoreOperands { left, right })
         }
     }
 }
 
 /// What code names by a callee of the tree.
-fn code_callee(callee: typed::Callee) -> Callee
+fn code_callee(callee: typed::TypedCallee) -> Callee
     ensures exact { result ≡ callee_of callee }
 {
     match callee {
-        typed::Callee::Own(f) => Callee::Own(f),
-        typed::Callee::Import(i) => Callee::Import(i),
-        typed::Callee::Chosen(slot) => Callee::Virtual(slot),
+        typed::TypedCallee::Own(f) => Callee::Own(f),
+        typed::TypedCallee::Import(i) => Callee::Import(i),
+        typed::TypedCallee::Chosen(slot) => Callee::Virtual(slot),
     }
 }
 
 /// A new object of a class, whose constructor did not run yet.
-fn made(alloc: Global, family: usize) -> Expression
+fn made(alloc: Global, family: usize) -> CoreExpression
     ensures exact { plain_expr result ≡ spec.made family }
 {
     nullary(alloc, Operation::Make(family))
@@ -283,17 +283,17 @@ fn made(alloc: Global, family: usize) -> Expression
 
 /// A call of a function of the scripts or of the host, or a new object.
 #[cycle(expression)]
-fn lower_call(alloc: Global, alive: usize, e: &typed::Expression) -> Result<Expression, AllocError>
+fn lower_call(alloc: Global, alive: usize, e: &typed::TypedExpression) -> Result<CoreExpression, AllocError>
     requires kind { is_call (view_expr e.now) ≡ true }
     ensures exact { IfOk result (λ x. plain_expr x ≡ spec.lowered alive (view_expr e.now)) }
 {
     match e {
-        typed::Expression::Make {
+        typed::TypedExpression::Make {
             family,
             constructor,
             arguments,
         } => lower_make(alloc, alive, arguments.as_slice(), *family, *constructor),
-        typed::Expression::Call {
+        typed::TypedExpression::Call {
             callee,
             arguments,
             ..
@@ -303,7 +303,7 @@ fn lower_call(alloc: Global, alive: usize, e: &typed::Expression) -> Result<Expr
             let targets = targets(alloc, alive, arguments.as_slice())?;
             Ok(call(called, values, targets))
         }
-        typed::Expression::HostCall {
+        typed::TypedExpression::HostCall {
             host,
             arguments,
             ..
@@ -316,16 +316,16 @@ fn lower_call(alloc: Global, alive: usize, e: &typed::Expression) -> Result<Expr
 }
 
 /// What stands for a value of that type that nobody wrote: 0, false or null.
-fn initial(ty: ArgType) -> Expression
+fn initial(ty: ArgType) -> CoreExpression
     ensures exact { plain_expr result ≡ spec.initial ty }
 {
     match ty {
-        ArgType::Void => Expression::Number(0),
-        ArgType::Null => Expression::Null,
-        ArgType::Plain(_) => Expression::Number(0),
-        ArgType::Enumeration { .. } => Expression::Number(0),
-        ArgType::Object { .. } => Expression::Null,
-        ArgType::Handle { .. } => Expression::Null,
+        ArgType::Void => CoreExpression::Number(0),
+        ArgType::Null => CoreExpression::Null,
+        ArgType::Plain(_) => CoreExpression::Number(0),
+        ArgType::Enumeration { .. } => CoreExpression::Number(0),
+        ArgType::Object { .. } => CoreExpression::Null,
+        ArgType::Handle { .. } => CoreExpression::Null,
     }
 }
 
@@ -334,10 +334,10 @@ fn initial(ty: ArgType) -> Expression
 fn lower_make(
     alloc: Global,
     alive: usize,
-    arguments: &[Argument],
+    arguments: &[TypedArgument],
     family: usize,
     constructor: Option<usize>,
-) -> Result<Expression, AllocError>
+) -> Result<CoreExpression, AllocError>
     ensures exact { IfOk result (λ x. plain_expr x
         ≡ spec.made_by family constructor (spec.lowered_args alive (view_args arguments.now))
         (spec.targets_of alive (view_args arguments.now))) }
@@ -360,8 +360,8 @@ fn lower_make(
 fn lower_arguments(
     alloc: Global,
     alive: usize,
-    arguments: &[Argument],
-) -> Result<Vec<Expression>, AllocError>
+    arguments: &[TypedArgument],
+) -> Result<Vec<CoreExpression>, AllocError>
     ensures exact { IfOk result (λ v. list_map plain_expr v.items
         ≡ spec.lowered_args alive (view_args arguments.now)) }
 {
@@ -375,8 +375,8 @@ fn lower_arguments(
 fn add_arguments(
     alloc: Global,
     alive: usize,
-    arguments: &[Argument],
-    found: &mut Vec<Expression>,
+    arguments: &[TypedArgument],
+    found: &mut Vec<CoreExpression>,
 ) -> Result<(), AllocError>
     ensures exact { OnOk result (list_map plain_expr found.new.items
         ≡ list_map plain_expr found.old.items
@@ -393,14 +393,14 @@ fn add_arguments(
 fn lower_argument(
     alloc: Global,
     alive: usize,
-    argument: &Argument,
-) -> Result<Expression, AllocError>
+    argument: &TypedArgument,
+) -> Result<CoreExpression, AllocError>
     ensures exact { IfOk result (λ x. plain_expr x
         ≡ spec.lowered_arg alive (view_arg argument.now)) }
 {
     match argument {
-        Argument::Value { value, .. } => lower_expression(alloc, alive, value),
-        Argument::Out { from, .. } => Ok(initial(*from)),
+        TypedArgument::Value { value, .. } => lower_expression(alloc, alive, value),
+        TypedArgument::Out { from, .. } => Ok(initial(*from)),
     }
 }
 
@@ -409,8 +409,8 @@ fn lower_argument(
 pub fn lower_boxed(
     alloc: Global,
     alive: usize,
-    e: &typed::Expression,
-) -> Result<Box<Expression>, AllocError>
+    e: &typed::TypedExpression,
+) -> Result<Box<CoreExpression>, AllocError>
     ensures exact { IfOk result (λ x. plain_tree x ≡ spec.lowered alive (view_expr e.now)) }
 {
     let found = lower_expression(alloc, alive, e)?;
@@ -423,14 +423,14 @@ pub fn lower_or(
     alloc: Global,
     alive: usize,
     number: u64,
-    e: &Option<Box<typed::Expression>>,
-) -> Result<Box<Expression>, AllocError>
+    e: &Option<Box<typed::TypedExpression>>,
+) -> Result<Box<CoreExpression>, AllocError>
     ensures exact { IfOk result (λ x. plain_tree x
         ≡ spec.lowered_or alive number (view_option e.now)) }
 {
     match e {
         Some(e) => lower_boxed(alloc, alive, e),
-        None => Ok(Box::new(alloc, Expression::Number(number))?),
+        None => Ok(Box::new(alloc, CoreExpression::Number(number))?),
     }
 }
 
@@ -440,7 +440,7 @@ pub fn lower_begin(
     alloc: Global,
     alive: usize,
     local: &Local,
-) -> Result<Box<Expression>, AllocError>
+) -> Result<Box<CoreExpression>, AllocError>
     ensures exact { IfOk result (λ x. plain_tree x
         ≡ spec.lowered_begin alive local.now.ty (view_option local.now.initializer)) }
 {

@@ -4,18 +4,18 @@ ghost use Rattle.ang_lower.specs.Hosts as spec;
 
 use ang_host::Role;
 use ang_kinds::{List, Param, Prim, TypeRef};
-use ang_meaning::{HostType, HostUse};
+use ang_meaning::{HostValueType, HostUse};
 use ang_view::{Entry, EntryKind};
 use std::alloc::{AllocError, Global};
 
-fn host_type(ty: &TypeRef) -> HostType
+fn host_type(ty: &TypeRef) -> HostValueType
     ensures same { result ≡ spec.host_type_of ty.now }
 {
     match ty {
-        TypeRef::Void => HostType::Nothing,
-        TypeRef::Plain(primitive) => HostType::Plain(*primitive),
-        TypeRef::Enumeration { .. } => HostType::Plain(Prim::I32),
-        TypeRef::Object { .. } => HostType::Handle,
+        TypeRef::Void => HostValueType::Nothing,
+        TypeRef::Plain(primitive) => HostValueType::Plain(*primitive),
+        TypeRef::Enumeration { .. } => HostValueType::Plain(Prim::I32),
+        TypeRef::Object { .. } => HostValueType::Handle,
     }
 }
 
@@ -62,7 +62,7 @@ fn is_constant(kind: EntryKind, f: u32, declared: bool) -> bool
     }
 }
 
-fn host_types(alloc: Global, params: &[Param]) -> Result<Vec<HostType>, AllocError>
+fn host_types(alloc: Global, params: &[Param]) -> Result<Vec<HostValueType>, AllocError>
     ensures exact { IfOk result (λ v. v.items ≡ list_map (λ p. spec.host_type_of p.ty) params.now) }
 {
     params

@@ -3,7 +3,7 @@ ghost use Rattle.std.specs.Prelude.{◌≡◌, ℕ, List, Some, slice_get};
 ghost use Rattle.ang_typed.specs.Typed.{Program};
 ghost use Rattle.ang_meaning.specs.declared.routine.Routine.{Routine};
 ghost use Rattle.ang_meaning.specs.World.{World};
-ghost use Rattle.ang_meaning.specs.Setting.{Setting};
+ghost use Rattle.ang_meaning.specs.Environment.{Environment};
 ghost use Rattle.ang_core.specs.Meaning.{Bodies};
 ghost use Rattle.ang_core.specs.Meaning as core;
 ghost use Rattle.ang_core.specs.Sound.{LinksFit, AreSound};
@@ -18,7 +18,7 @@ ghost use Rattle.ang_lower.specs.Same.{AreLowered, AreSoundIn, AreCodes, HasProg
 /// A build's initializers in turn end as their sources say, if each of them does.
 #[tactic(auto, using(crate::proofs::Follows::all_same))]
 pub fn initializers_same()
-    ensures same { (z : Setting) (bodies : Bodies) (codes : Codes) (gs : List Routine) (t : ℕ)
+    ensures same { (z : Environment) (bodies : Bodies) (codes : Codes) (gs : List Routine) (t : ℕ)
         (w : World)
         → AllMeanSame z bodies codes gs
         → core.initialized_all z bodies gs t w ≡ source.initialized_all z codes gs t w }
@@ -28,11 +28,11 @@ pub fn initializers_same()
 /// body ends as its source says: for every budget, arguments and world, called by a command or run as an
 /// initializer. So do initializers in turn.
 pub fn everywhere_same()
-    ensures each { (z : Setting) (M : ℕ → Module) (bodies : Bodies) (codes : Codes)
+    ensures each { (z : Environment) (M : ℕ → Module) (bodies : Bodies) (codes : Codes)
         → ((m : ℕ) → AreLowered z m (M m) bodies codes)
         → LinksFit z
         → (g : Routine) → MeansSame z bodies codes g }
-    ensures initializers { (z : Setting) (M : ℕ → Module) (bodies : Bodies) (codes : Codes)
+    ensures initializers { (z : Environment) (M : ℕ → Module) (bodies : Bodies) (codes : Codes)
         → ((m : ℕ) → AreLowered z m (M m) bodies codes)
         → LinksFit z
         → (gs : List Routine) (t : ℕ) (w : World) → TakeNothing z gs
@@ -41,7 +41,7 @@ pub fn everywhere_same()
 
 /// A method that a class of a sound tree has in a slot takes what the methods of the slot take.
 pub fn methods_fit()
-    ensures fit { (V : RegistrationList) (z : Setting) (m : ℕ) (p : Program)
+    ensures fit { (V : RegistrationList) (z : Environment) (m : ℕ) (p : Program)
         → SoundProgram V p
         → HasProgram z m p
         → (n s : ℕ) (g : Routine) → z.method m n s ≡ Some g → z.params g ≡ z.slot m s }
@@ -50,7 +50,7 @@ pub fn methods_fit()
 /// Where the bodies of a module are lowered from sound code, and the module sees what its view has, each body
 /// keeps what the generator wants of it.
 pub fn sound_in_module()
-    ensures sound { (z : Setting) (m : ℕ) (M : Module) (bodies : Bodies) (codes : Codes)
+    ensures sound { (z : Environment) (m : ℕ) (M : Module) (bodies : Bodies) (codes : Codes)
         → AreLowered z m M bodies codes
         → HasView z m M.view
         → AreSoundIn z m bodies }
@@ -59,7 +59,7 @@ pub fn sound_in_module()
 /// Where the bodies of each module keep what the generator wants of them, and imports and methods lead where
 /// they may, all bodies do.
 pub fn sound_together()
-    ensures sound { (z : Setting) (bodies : Bodies)
+    ensures sound { (z : Environment) (bodies : Bodies)
         → ((m : ℕ) → AreSoundIn z m bodies)
         → LinksFit z
         → AreSound z bodies }
@@ -75,7 +75,7 @@ pub fn codes_there()
 /// What a module asks is an entry of its view, which is no type, asked as that is declared.
 #[tactic(auto, using(crate::proofs::Views::seen_in))]
 pub fn each_use_is_of_the_view()
-    ensures seen { (z : Setting) (m : ℕ) (V : RegistrationList) (e : ℕ) (u : HostUse)
+    ensures seen { (z : Environment) (m : ℕ) (V : RegistrationList) (e : ℕ) (u : HostUse)
         → HasView z m V
         → z.host m e ≡ Some u
         → IsOfView V e u }

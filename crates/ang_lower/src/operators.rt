@@ -5,7 +5,7 @@ ghost use Rattle.ang_source.specs.Meaning as spec;
 
 use ang_kinds::Prim;
 use ang_meaning as meaning;
-use ang_meaning::{Arithmetic, Change};
+use ang_meaning::{Arithmetic, Update};
 use ang_typed::{Comparison, Operator, StepKind};
 use ang_types::ArgType;
 
@@ -53,10 +53,10 @@ pub fn is_signed(ty: Prim) -> bool
 }
 
 /// How `operator=` changes a variable of type `ty`, where the operator works in the type `at`.
-pub fn compound(ty: Prim, operator: Operator, at: Prim) -> Change
+pub fn compound(ty: Prim, operator: Operator, at: Prim) -> Update
     ensures same { result ≡ spec.compound_of ty operator at }
 {
-    Change {
+    Update {
         work: arithmetic(operator),
         at,
         to: ty,
@@ -65,7 +65,7 @@ pub fn compound(ty: Prim, operator: Operator, at: Prim) -> Change
 }
 
 /// How `++` and `--` change a variable of type `ty`.
-pub fn step(ty: Prim, kind: StepKind) -> Change
+pub fn step(ty: Prim, kind: StepKind) -> Update
     ensures same { result ≡ spec.step_of ty kind }
 {
     let (work, old) = match kind {
@@ -74,7 +74,7 @@ pub fn step(ty: Prim, kind: StepKind) -> Change
         StepKind::IncrementAfter => (Arithmetic::Add, true),
         StepKind::DecrementAfter => (Arithmetic::Subtract, true),
     };
-    Change {
+    Update {
         work,
         at: ty,
         to: ty,

@@ -14,9 +14,9 @@ use crate::build::{
     let_go_of_test, let_go_of_tested, loop_of, make_tested,
 };
 use crate::{lower_begin, lower_boxed, lower_or};
-use ang_core::Statement;
+use ang_core::CoreStatement;
 use ang_typed as typed;
-use ang_typed::{Block, Choice, Expression, For, Local, Loop};
+use ang_typed::{TypedBlock, TypedChoice, TypedExpression, TypedFor, Local, TypedLoop};
 use std::alloc::{AllocError, Global};
 
 /// One more local that is alive. Each has a byte, so that there is room for their number.
@@ -41,7 +41,7 @@ fn add_locals(
     alloc: Global,
     alive: &mut Vec<u8>,
     locals: &[Local],
-    found: &mut Vec<Statement>,
+    found: &mut Vec<CoreStatement>,
 ) -> Result<(), AllocError>
     ensures exact { OnOk result (list_map plain_stmt found.new.items
         ≡ list_map plain_stmt found.old.items
@@ -51,7 +51,7 @@ fn add_locals(
 {
     for local in locals {
         let value = lower_begin(alloc, alive.len(), local)?;
-        add(found, Statement::Declare(value))?;
+        add(found, CoreStatement::Declare(value))?;
         begin_local(alive)?;
     }
     Ok(())
@@ -59,39 +59,39 @@ fn add_locals(
 
 /// An expression whose value nobody takes, or nothing.
 #[inline(never)]
-fn simple(alloc: Global, alive: usize, e: &Option<Box<Expression>>) -> Result<Statement, AllocError>
+fn simple(alloc: Global, alive: usize, e: &Option<Box<TypedExpression>>) -> Result<CoreStatement, AllocError>
     ensures exact { IfOk result (λ s. plain_stmt s
         ≡ spec.lowered_simple alive (view_option e.now)) }
 {
     match e {
         Some(e) => {
             let e = lower_boxed(alloc, alive, e)?;
-            Ok(Statement::Evaluate(e))
+            Ok(CoreStatement::Evaluate(e))
         }
-        None => Ok(Statement::Skip),
+        None => Ok(CoreStatement::Skip),
     }
 }
 
 /// Expressions whose values nobody takes.
-fn each(alloc: Global, alive: usize, items: &[Expression]) -> Result<Vec<Statement>, AllocError>
+fn each(alloc: Global, alive: usize, items: &[TypedExpression]) -> Result<Vec<CoreStatement>, AllocError>
     ensures exact { IfOk result (λ v. list_map plain_stmt v.items
         ≡ spec.lowered_each alive (list_map view_expr items.now)) }
 {
     let mut found = Vec::new(alloc);
     for item in items {
         let e = lower_boxed(alloc, alive, item)?;
-        add(&mut found, Statement::Evaluate(e))?;
+        add(&mut found, CoreStatement::Evaluate(e))?;
     }
     Ok(found)
 }
 
 /// The steps of a loop.
-fn steps(alloc: Global, alive: usize, items: &[Expression]) -> Result<Statement, AllocError>
+fn steps(alloc: Global, alive: usize, items: &[TypedExpression]) -> Result<CoreStatement, AllocError>
     ensures exact { IfOk result (λ s. plain_stmt s
         ≡ spec.lowered_steps alive (list_map view_expr items.now)) }
 {
     if items.is_empty() {
-        return Ok(Statement::Skip);
+        return Ok(CoreStatement::Skip);
     }
     let found = each(alloc, alive, items)?;
     Ok(block(found))
@@ -102,8 +102,8 @@ fn steps(alloc: Global, alive: usize, items: &[Expression]) -> Result<Statement,
 fn loop_head(
     alloc: Global,
     alive: usize,
-    condition: &Option<Box<Expression>>,
-    items: &[Expression],
+    condition: &Option<Box<TypedExpression>>,
+    items: &[TypedExpression],
 ) -> Result<Box<LoopHead>, AllocError>
     ensures test { IfOk result (λ h. plain_tree h.value.test
         ≡ lowered_or alive 1 (view_option condition.now)) }
@@ -117,13 +117,13 @@ fn loop_head(
 
 /// The test of a loop that has no steps.
 #[inline(never)]
-fn head_of(alloc: Global, alive: usize, test: &Expression) -> Result<Box<LoopHead>, AllocError>
+fn head_of(alloc: Global, alive: usize, test: &TypedExpression) -> Result<Box<LoopHead>, AllocError>
     ensures test { IfOk result (λ h. plain_tree h.value.test
         ≡ lowered alive (view_expr test.now)) }
     ensures step { IfOk result (λ h. plain_stmt h.value.step ≡ tree.skip) }
 {
     let test = lower_boxed(alloc, alive, test)?;
-    let step = Statement::Skip;
+    let step = CoreStatement::Skip;
     Ok(Box::new(alloc, LoopHead { test, step })?)
 }
 
@@ -132,13 +132,13 @@ fn head_of(alloc: Global, alive: usize, test: &Expression) -> Result<Box<LoopHea
 fn returned(
     alloc: Global,
     alive: usize,
-    e: &Option<Box<Expression>>,
-) -> Result<Statement, AllocError>
+    e: &Option<Box<TypedExpression>>,
+) -> Result<CoreStatement, AllocError>
     ensures exact { IfOk result (λ s. plain_stmt s
         ≡ tree.return (lowered_or alive 0 (view_option e.now))) }
 {
     let value = lower_or(alloc, alive, 0, e)?;
-    Ok(Statement::Return(value))
+    Ok(CoreStatement::Return(value))
 }
 
 /// Statements in a block of their own.
@@ -147,8 +147,8 @@ fn returned(
 pub fn lower_block(
     alloc: Global,
     alive: &mut Vec<u8>,
-    written: &Block,
-) -> Result<Statement, AllocError>
+    written: &TypedBlock,
+) -> Result<CoreStatement, AllocError>
     ensures exact { IfOk result (λ s. plain_stmt s ≡ spec.lowered_block
         (spec.lowered_all (length alive.old.items) (view_block written.now))) }
     ensures count { OnOk result (length alive.new.items ≡ length alive.old.items) }
@@ -172,8 +172,8 @@ pub fn lower_block(
 fn add_all(
     alloc: Global,
     alive: &mut Vec<u8>,
-    written: &[typed::Statement],
-    found: &mut Vec<Statement>,
+    written: &[typed::TypedStatement],
+    found: &mut Vec<CoreStatement>,
 ) -> Result<(), AllocError>
     ensures exact { OnOk result (list_map plain_stmt found.new.items
         ≡ list_map plain_stmt found.old.items
@@ -193,8 +193,8 @@ fn add_all(
 fn lower_tested(
     alloc: Global,
     alive: &mut Vec<u8>,
-    then: &Block,
-    condition: &Expression,
+    then: &TypedBlock,
+    condition: &TypedExpression,
 ) -> Result<Box<Tested>, AllocError>
     ensures test { IfOk result (λ x. plain_tree x.value.test
         ≡ lowered (length alive.old.items) (view_expr condition.now)) }
@@ -215,7 +215,7 @@ fn lower_tested(
 /// A choice between two blocks.
 #[cycle(statement)]
 #[inline(never)]
-fn lower_if(alloc: Global, alive: &mut Vec<u8>, written: &Choice) -> Result<Statement, AllocError>
+fn lower_if(alloc: Global, alive: &mut Vec<u8>, written: &TypedChoice) -> Result<CoreStatement, AllocError>
     ensures exact { IfOk result (λ s. plain_stmt s ∷ []
         ≡ spec.lowered_stmt (length alive.old.items) (view_choice written.now)) }
     ensures count { OnOk result (length alive.new.items ≡ length alive.old.items) }
@@ -236,9 +236,9 @@ fn lower_if(alloc: Global, alive: &mut Vec<u8>, written: &Choice) -> Result<Stat
 fn lower_loop(
     alloc: Global,
     alive: &mut Vec<u8>,
-    body: &Block,
+    body: &TypedBlock,
     head: Box<LoopHead>,
-) -> Result<Statement, AllocError>
+) -> Result<CoreStatement, AllocError>
     ensures exact { IfOk result (λ s. plain_stmt s ≡ tree.while (plain_tree head.value.test)
         (spec.lowered_block (spec.lowered_all (length alive.old.items) (view_block body.now)))
         (plain_stmt head.value.step)) }
@@ -256,7 +256,7 @@ fn lower_loop(
 /// A `while`.
 #[cycle(statement)]
 #[inline(never)]
-fn lower_while(alloc: Global, alive: &mut Vec<u8>, written: &Loop) -> Result<Statement, AllocError>
+fn lower_while(alloc: Global, alive: &mut Vec<u8>, written: &TypedLoop) -> Result<CoreStatement, AllocError>
     ensures exact { IfOk result (λ s. plain_stmt s
         ≡ spec.lowered_while (length alive.old.items) (view_loop written.now)) }
     ensures count { OnOk result (length alive.new.items ≡ length alive.old.items) }
@@ -271,8 +271,8 @@ fn lower_while(alloc: Global, alive: &mut Vec<u8>, written: &Loop) -> Result<Sta
 fn lower_late_loop(
     alloc: Global,
     alive: &mut Vec<u8>,
-    written: &Loop,
-) -> Result<Statement, AllocError>
+    written: &TypedLoop,
+) -> Result<CoreStatement, AllocError>
     ensures exact { IfOk result (λ s. plain_stmt s
         ≡ spec.lowered_do_while (length alive.old.items) (view_loop written.now)) }
     ensures count { OnOk result (length alive.new.items ≡ length alive.old.items) }
@@ -290,7 +290,7 @@ fn lower_late_loop(
 /// A `for`, with what it starts from in a block around it.
 #[cycle(statement)]
 #[inline(never)]
-fn lower_for(alloc: Global, alive: &mut Vec<u8>, written: &For) -> Result<Statement, AllocError>
+fn lower_for(alloc: Global, alive: &mut Vec<u8>, written: &TypedFor) -> Result<CoreStatement, AllocError>
     ensures exact { IfOk result (λ s. plain_stmt s ∷ []
         ≡ spec.lowered_stmt (length alive.old.items) (view_for written.now)) }
     ensures count { OnOk result (length alive.new.items ≡ length alive.old.items) }
@@ -318,24 +318,24 @@ fn lower_for(alloc: Global, alive: &mut Vec<u8>, written: &For) -> Result<Statem
 fn lower_statement(
     alloc: Global,
     alive: &mut Vec<u8>,
-    written: &typed::Statement,
-) -> Result<Statement, AllocError>
+    written: &typed::TypedStatement,
+) -> Result<CoreStatement, AllocError>
     requires kind { is_single (view_stmt written.now) ≡ true }
     ensures exact { IfOk result (λ s. plain_stmt s ∷ []
         ≡ spec.lowered_stmt (length alive.old.items) (view_stmt written.now)) }
     ensures count { OnOk result (length alive.new.items ≡ length alive.old.items) }
 {
     match written {
-        typed::Statement::Block(inner) => lower_block(alloc, alive, inner),
-        typed::Statement::Expression(e) => simple(alloc, alive.len(), e),
-        typed::Statement::Break => Ok(Statement::Break),
-        typed::Statement::Continue => Ok(Statement::Continue),
-        typed::Statement::Return(e) => returned(alloc, alive.len(), e),
-        typed::Statement::If(choice) => lower_if(alloc, alive, choice),
-        typed::Statement::While(inner) => lower_while(alloc, alive, inner),
-        typed::Statement::DoWhile(inner) => lower_late_loop(alloc, alive, inner),
-        typed::Statement::For(inner) => lower_for(alloc, alive, inner),
-        typed::Statement::Locals(_) => unreachable!(),
+        typed::TypedStatement::Block(inner) => lower_block(alloc, alive, inner),
+        typed::TypedStatement::Expression(e) => simple(alloc, alive.len(), e),
+        typed::TypedStatement::Break => Ok(CoreStatement::Break),
+        typed::TypedStatement::Continue => Ok(CoreStatement::Continue),
+        typed::TypedStatement::Return(e) => returned(alloc, alive.len(), e),
+        typed::TypedStatement::If(choice) => lower_if(alloc, alive, choice),
+        typed::TypedStatement::While(inner) => lower_while(alloc, alive, inner),
+        typed::TypedStatement::DoWhile(inner) => lower_late_loop(alloc, alive, inner),
+        typed::TypedStatement::For(inner) => lower_for(alloc, alive, inner),
+        typed::TypedStatement::Locals(_) => unreachable!(),
     }
 }
 
@@ -345,8 +345,8 @@ fn lower_statement(
 fn add_statement(
     alloc: Global,
     alive: &mut Vec<u8>,
-    written: &typed::Statement,
-    found: &mut Vec<Statement>,
+    written: &typed::TypedStatement,
+    found: &mut Vec<CoreStatement>,
 ) -> Result<(), AllocError>
     ensures exact { OnOk result (list_map plain_stmt found.new.items
         ≡ list_map plain_stmt found.old.items
@@ -355,7 +355,7 @@ fn add_statement(
         ≡ declared (view_stmt written.now) + length alive.old.items) }
 {
     match written {
-        typed::Statement::Locals(locals) => add_locals(alloc, alive, locals.as_slice(), found),
+        typed::TypedStatement::Locals(locals) => add_locals(alloc, alive, locals.as_slice(), found),
         _ => {
             let one = lower_statement(alloc, alive, written)?;
             add(found, one)

@@ -4,11 +4,11 @@ ghost use Rattle.ang_typed.specs.View.{view_arg, view_args};
 ghost use Rattle.ang_lower.specs.PlainExpr.{plain_expr};
 ghost use Rattle.ang_lower.specs.LoweredExpr as spec;
 
-use crate::build_expr::{Pair, binary, nullary, unary};
+use crate::build_expr::{CoreOperands, binary, nullary, unary};
 use crate::operators::brought_to;
-use ang_core::Expression;
-use ang_meaning::{Change, Operation, Spot, Target};
-use ang_typed::{Argument, Member, Variable};
+use ang_core::CoreExpression;
+use ang_meaning::{Update, Operation, Spot, Target};
+use ang_typed::{TypedArgument, TypedMember, TypedVariable};
 use std::alloc::{AllocError, Global};
 
 /// The place of a local among `alive` ones, counted from the innermost one. In a checked tree it is alive; where
@@ -20,10 +20,10 @@ fn place(alive: usize, local: usize) -> usize
 }
 
 /// `this`, which is local 0.
-fn this(alive: usize) -> Expression
+fn this(alive: usize) -> CoreExpression
     ensures exact { plain_expr result ≡ spec.this_at alive }
 {
-    Expression::Local(place(alive, 0))
+    CoreExpression::Local(place(alive, 0))
 }
 
 /// An operation on a value and `this`.
@@ -31,58 +31,58 @@ fn with_this(
     alloc: Global,
     alive: usize,
     operation: Operation,
-    value: Expression,
-) -> Result<Expression, AllocError>
+    value: CoreExpression,
+) -> Result<CoreExpression, AllocError>
     ensures exact { IfOk result (λ x. plain_expr x
         ≡ spec.binary operation (plain_expr value) (spec.this_at alive)) }
 {
     let left = value;
     let right = this(alive);
-    binary(alloc, operation, Pair { left, right })
+    binary(alloc, operation, CoreOperands { left, right })
 }
 
 /// What reads a member of its operand.
-pub fn reading(member: &Member) -> Operation
+pub fn reading(member: &TypedMember) -> Operation
     ensures exact { result ≡ spec.reading member.now }
 {
     match member {
-        Member::Field(i) => Operation::FieldGet(*i),
-        Member::Property(host) => Operation::Read(host.entity),
+        TypedMember::Field(i) => Operation::FieldGet(*i),
+        TypedMember::Property(host) => Operation::Read(host.entity),
     }
 }
 
 /// What stores its first operand into a member of the second.
-pub fn writing(member: &Member) -> Operation
+pub fn writing(member: &TypedMember) -> Operation
     ensures exact { result ≡ spec.writing member.now }
 {
     match member {
-        Member::Field(i) => Operation::FieldSet(*i),
-        Member::Property(host) => Operation::Write(host.entity),
+        TypedMember::Field(i) => Operation::FieldSet(*i),
+        TypedMember::Property(host) => Operation::Write(host.entity),
     }
 }
 
 /// What changes a member of its second operand by the first.
-pub fn altering(member: &Member, by: Change) -> Operation
+pub fn altering(member: &TypedMember, by: Update) -> Operation
     ensures exact { result ≡ spec.altering member.now by }
 {
     match member {
-        Member::Field(i) => Operation::FieldChange(*i, by),
-        Member::Property(host) => Operation::Alter(host.entity, by),
+        TypedMember::Field(i) => Operation::FieldChange(*i, by),
+        TypedMember::Property(host) => Operation::Alter(host.entity, by),
     }
 }
 
 /// A variable's value, where `alive` locals are alive.
-pub fn read(alloc: Global, alive: usize, variable: &Variable) -> Result<Expression, AllocError>
+pub fn read(alloc: Global, alive: usize, variable: &TypedVariable) -> Result<CoreExpression, AllocError>
     ensures exact { IfOk result (λ x. plain_expr x ≡ spec.read alive variable.now) }
 {
     match variable {
-        Variable::Local(i) => {
+        TypedVariable::Local(i) => {
             let place = place(alive, *i);
-            Ok(Expression::Local(place))
+            Ok(CoreExpression::Local(place))
         }
-        Variable::Global(g) => Ok(nullary(alloc, Operation::GlobalGet(*g))),
-        Variable::Property(host) => Ok(nullary(alloc, Operation::Read(host.entity))),
-        Variable::Field(i) => {
+        TypedVariable::Global(g) => Ok(nullary(alloc, Operation::GlobalGet(*g))),
+        TypedVariable::Property(host) => Ok(nullary(alloc, Operation::Read(host.entity))),
+        TypedVariable::Field(i) => {
             let object = this(alive);
             unary(alloc, Operation::FieldGet(*i), object)
         }
@@ -93,21 +93,21 @@ pub fn read(alloc: Global, alive: usize, variable: &Variable) -> Result<Expressi
 pub fn store(
     alloc: Global,
     alive: usize,
-    variable: &Variable,
-    value: Expression,
-) -> Result<Expression, AllocError>
+    variable: &TypedVariable,
+    value: CoreExpression,
+) -> Result<CoreExpression, AllocError>
     ensures exact { IfOk result (λ x. plain_expr x
         ≡ spec.stored alive variable.now (plain_expr value)) }
 {
     match variable {
-        Variable::Local(i) => {
+        TypedVariable::Local(i) => {
             let place = place(alive, *i);
             let value = Box::new(alloc, value)?;
-            Ok(Expression::Assign(place, value))
+            Ok(CoreExpression::Assign(place, value))
         }
-        Variable::Global(g) => unary(alloc, Operation::GlobalSet(*g), value),
-        Variable::Property(host) => unary(alloc, Operation::Write(host.entity), value),
-        Variable::Field(i) => with_this(alloc, alive, Operation::FieldSet(*i), value),
+        TypedVariable::Global(g) => unary(alloc, Operation::GlobalSet(*g), value),
+        TypedVariable::Property(host) => unary(alloc, Operation::Write(host.entity), value),
+        TypedVariable::Field(i) => with_this(alloc, alive, Operation::FieldSet(*i), value),
     }
 }
 
@@ -115,35 +115,35 @@ pub fn store(
 pub fn change(
     alloc: Global,
     alive: usize,
-    variable: &Variable,
-    by: Change,
-    value: Expression,
-) -> Result<Expression, AllocError>
+    variable: &TypedVariable,
+    by: Update,
+    value: CoreExpression,
+) -> Result<CoreExpression, AllocError>
     ensures exact { IfOk result (λ x. plain_expr x
         ≡ spec.changed alive variable.now by (plain_expr value)) }
 {
     match variable {
-        Variable::Local(i) => {
+        TypedVariable::Local(i) => {
             let place = place(alive, *i);
             let value = Box::new(alloc, value)?;
-            Ok(Expression::Change(place, by, value))
+            Ok(CoreExpression::Update(place, by, value))
         }
-        Variable::Global(g) => unary(alloc, Operation::GlobalChange(*g, by), value),
-        Variable::Property(host) => unary(alloc, Operation::Alter(host.entity, by), value),
-        Variable::Field(i) => with_this(alloc, alive, Operation::FieldChange(*i, by), value),
+        TypedVariable::Global(g) => unary(alloc, Operation::GlobalChange(*g, by), value),
+        TypedVariable::Property(host) => unary(alloc, Operation::Alter(host.entity, by), value),
+        TypedVariable::Field(i) => with_this(alloc, alive, Operation::FieldChange(*i, by), value),
     }
 }
 
 /// Where a variable stands that an `&out` value moves into. A host property is none, and stands for the innermost
 /// local; no checked tree has one there.
-fn spot(alive: usize, variable: &Variable) -> Spot
+fn spot(alive: usize, variable: &TypedVariable) -> Spot
     ensures exact { result ≡ spec.spot_of alive variable.now }
 {
     match variable {
-        Variable::Local(i) => Spot::Local(place(alive, *i)),
-        Variable::Global(g) => Spot::Global(*g),
-        Variable::Property(_) => Spot::Local(0),
-        Variable::Field(i) => Spot::Field {
+        TypedVariable::Local(i) => Spot::Local(place(alive, *i)),
+        TypedVariable::Global(g) => Spot::Global(*g),
+        TypedVariable::Property(_) => Spot::Local(0),
+        TypedVariable::Field(i) => Spot::Field {
             object: place(alive, 0),
             field: *i,
         },
@@ -151,13 +151,13 @@ fn spot(alive: usize, variable: &Variable) -> Spot
 }
 
 // The target of one argument after those that there are, if it is an `&out` one.
-fn add_target(alive: usize, argument: &Argument, found: &mut Vec<Target>) -> Result<(), AllocError>
+fn add_target(alive: usize, argument: &TypedArgument, found: &mut Vec<Target>) -> Result<(), AllocError>
     ensures exact { OnOk result (reverse found.new.items
         ≡ spec.with_target alive (view_arg argument.now) (reverse found.old.items)) }
 {
     match argument {
-        Argument::Value { .. } => Ok(()),
-        Argument::Out { variable, to, .. } => {
+        TypedArgument::Value { .. } => Ok(()),
+        TypedArgument::Out { variable, to, .. } => {
             let spot = spot(alive, variable);
             found.push(Target {
                 spot,
@@ -172,7 +172,7 @@ fn add_target(alive: usize, argument: &Argument, found: &mut Vec<Target>) -> Res
 pub fn targets(
     alloc: Global,
     alive: usize,
-    arguments: &[Argument],
+    arguments: &[TypedArgument],
 ) -> Result<Vec<Target>, AllocError>
     ensures exact { IfOk result (λ v. v.items ≡ spec.targets_of alive (view_args arguments.now)) }
 {

@@ -15,18 +15,18 @@ use Rattle.ang_host.specs.declared.answer.HostReply.TheVariants.{Making, Asking}
 use Rattle.ang_host.specs.declared.event.HostEvent.TheVariants.{Called}
 use Rattle.ang_meaning.specs.declared.slot.Slot.{Slot}
 use Rattle.ang_meaning.specs.declared.slot.Slot.TheVariants.{Bits, Script, Host}
-use Rattle.ang_meaning.specs.declared.host.HostType.{HostType}
-use Rattle.ang_meaning.specs.declared.host.HostType.TheVariants.{Nothing, Plain, Handle}
+use Rattle.ang_meaning.specs.declared.host.HostValueType.{HostValueType}
+use Rattle.ang_meaning.specs.declared.host.HostValueType.TheVariants.{Nothing, Plain, Handle}
 use Rattle.ang_meaning.specs.declared.host.HostUse.{HostUse}
-use Rattle.ang_meaning.specs.declared.operation.Change.{Change}
+use Rattle.ang_meaning.specs.declared.operation.Update.{Update}
 use Rattle.ang_meaning.specs.declared.operation.Operation.{Operation}
-use Rattle.ang_meaning.specs.declared.operation.Operation.TheVariants.{Work, Compare, Convert, Negate, Complement, Not, Same, GlobalGet, GlobalSet, GlobalChange, Ask, Read, Write, Alter, Make, FieldGet, FieldSet, FieldChange, Cast}
-use Rattle.ang_meaning.specs.Numbers.{Worked, Is, Cannot, Changed, Into, Never, worked, truth}
+use Rattle.ang_meaning.specs.declared.operation.Operation.TheVariants.{Binary, Compare, Convert, Negate, Complement, Not, Same, GlobalGet, GlobalSet, GlobalChange, Ask, Read, Write, Alter, Make, FieldGet, FieldSet, FieldChange, Cast}
+use Rattle.ang_meaning.specs.Numbers.{Worked, Is, Cannot, Changed, Into, Never, binary_result, truth}
 use Rattle.ang_meaning.specs.World.{World, ScriptRecord, ScriptObjects, Input, Room, Said, Tallied, Fresh, Tried, Yes, No, memory_step, hold, give, or_else}
 use Rattle.ang_meaning.specs.declared.class.Class.{Class}
 use Rattle.ang_meaning.specs.declared.class.ValueKind.{ValueKind}
 use Rattle.ang_meaning.specs.declared.class.ValueKind.TheVariants.{Number as NumberField, Handle as HandleField}
-use Rattle.ang_meaning.specs.Setting.{Setting, default_of, class_at, use_at, is_null}
+use Rattle.ang_meaning.specs.Environment.{Environment, default_of, class_at, use_at, is_null}
 use Rattle.ang_meaning.specs.Hosts.{Done, Fine, Fails, accepted, is_void, if_within, slot_of, replied_by, is_reply_to, asked_from, asked, value_of, values_of}
 use Rattle.ang_meaning.specs.Perform.{work_done, name_one, is_same, change_of, global_or, global_put, stored_global, changed_global, Receiver, Of, key_at, receiver_of, behind_first, arguments_of, gives_up, called_of, read_of, write_of, in_place_of, altered_to, altered_of, field_or, field_put, may_take, stored_field, changed_field, is_under, cast_to, new_object, number_for, made_at, made_from, perform, NoReceiver, NullReceiver}
 use Rattle.ang_meaning.specs.Counting.{IsCounted}
@@ -79,7 +79,7 @@ same_renamed r x y =
     ap (λ b. (b && is_null (renamed r y)) || name_one (renamed r x) (renamed r y)) (null_renamed r x) ∙ ap (λ b. (is_null x && b) || name_one (renamed r x) (renamed r y)) (null_renamed r y)
     ∙ ap (λ b. (is_null x && is_null y) || b) (one_renamed r x y)
 
-pub change_renamed : (r : Renaming) (c : Change) (x y : Slot) → change_of c (renamed r x) (renamed r y) ≡ change_of c x y
+pub change_renamed : (r : Renaming) (c : Update) (x y : Slot) → change_of c (renamed r x) (renamed r y) ≡ change_of c x y
 unfolding change_of
 change_renamed r c (Bits n) (Bits m) = refl
 change_renamed r c (Bits n) (Script None) = refl
@@ -120,7 +120,7 @@ arguments_by r false vs = refl
 arguments_renamed : (r : Renaming) (u : HostUse) (vs : List Slot) → arguments_of u (renamed_all r vs) ≡ renamed_all r (arguments_of u vs)
 arguments_renamed r u vs = arguments_by r u.member vs
 
-pub value_renamed : (r : Renaming) (d : ℕ) (ty : HostType) (x : Slot) → value_of d ty (renamed r x) ≡ value_of d ty x
+pub value_renamed : (r : Renaming) (d : ℕ) (ty : HostValueType) (x : Slot) → value_of d ty (renamed r x) ≡ value_of d ty x
 value_renamed r d Nothing (Bits n) = refl
 value_renamed r d Nothing (Script None) = refl
 value_renamed r d Nothing (Script (Some n)) = refl
@@ -135,7 +135,7 @@ value_renamed r d Handle (Script (Some n)) = refl
 value_renamed r d Handle (Host e None) = refl
 value_renamed r d Handle (Host e (Some k)) = refl
 
-values_renamed : (r : Renaming) (d : ℕ) (types : List HostType) (vs : List Slot) → values_of d types (renamed_all r vs) ≡ values_of d types vs
+values_renamed : (r : Renaming) (d : ℕ) (types : List HostValueType) (vs : List Slot) → values_of d types (renamed_all r vs) ≡ values_of d types vs
 values_renamed r d [] vs = refl
 values_renamed r d (ty ∷ types) [] = refl
 values_renamed r d (ty ∷ types) (v ∷ vs) =
@@ -150,7 +150,7 @@ within_fixed : (r : Renaming) (b : Bool) (n : ℕ) → IsFixed r (if_within b n)
 within_fixed r true n = refl
 within_fixed r false n = tt
 
-slot_fixed : (r : Renaming) (d : ℕ) (ty : HostType) (v : Value) → IsFixed r (slot_of d ty v)
+slot_fixed : (r : Renaming) (d : ℕ) (ty : HostValueType) (v : Value) → IsFixed r (slot_of d ty v)
 unfolding slot_of
 slot_fixed r d Nothing (Int z) = tt
 slot_fixed r d Nothing (Uint n) = tt
@@ -263,7 +263,7 @@ module _ (apart : Type 0) (r : Renaming) where
   void_alike true v w h = inl (refl, h)
   void_alike false v w h = inl (refl, h)
 
-  replied_alike : (d : ℕ) (result : HostType) (q : HostReply) (v w : World) → AlikeUpTo apart r v w → DoneAlike apart r (replied_by d result q v) (replied_by d result q w)
+  replied_alike : (d : ℕ) (result : HostValueType) (q : HostReply) (v w : World) → AlikeUpTo apart r v w → DoneAlike apart r (replied_by d result q v) (replied_by d result q w)
   unfolding replied_by
   replied_alike d result (Making (MadeKey k)) v w h = inl (refl, more_alike apart r (Host d (Some k)) v w h)
   replied_alike d result (Making MadeNothing) v w h = inl (refl, h)
@@ -276,8 +276,8 @@ module _ (apart : Type 0) (r : Renaming) where
   replied_alike d result (Asking SaidMemory) v w h = inl (refl, h)
   replied_alike d result (Asking Full) v w h = inl (refl, h)
 
-  module _ (z : Setting) (m : ℕ) (e : EntityNo) where
-    said_alike : (b : Bool) (result : HostType) (reply : HostReply) (v w v' w' : World) → AlikeUpTo apart r v w → AlikeUpTo apart r v' w'
+  module _ (z : Environment) (m : ℕ) (e : EntityNo) where
+    said_alike : (b : Bool) (result : HostValueType) (reply : HostReply) (v w v' w' : World) → AlikeUpTo apart r v w → AlikeUpTo apart r v' w'
         → DoneAlike apart r (cond b (replied_by (use_at z m e).driver result reply v') (Fails Memory v)) (cond b (replied_by (use_at z m e).driver result reply w') (Fails Memory w))
     said_alike true result reply v w v' w' h k = replied_alike (use_at z m e).driver result reply v' w' k
     said_alike false result reply v w v' w' h k = inl (refl, h)
@@ -295,13 +295,13 @@ module _ (apart : Type 0) (r : Renaming) where
     }
 
     -- the same reply to both
-    pair_alike : (object : Option ℕ) (args : List Value) (result : HostType) (q u : HostReply) (is js : List Input) (v w : World) → q ≡ u → Match apart is js → AlikeUpTo apart r v w
+    pair_alike : (object : Option ℕ) (args : List Value) (result : HostValueType) (q u : HostReply) (is js : List Input) (v w : World) → q ≡ u → Match apart is js → AlikeUpTo apart r v w
         → DoneAlike apart r (asked_from z m e object args result (Said q ∷ is) v) (asked_from z m e object args result (Said u ∷ js) w)
     pair_alike object args result q u is js v w s mt h =
         subst (λ x. DoneAlike apart r (asked_from z m e object args result (Said q ∷ is) v) (asked_from z m e object args result (Said x ∷ js) w)) s
         (said_alike (is_reply_to (use_at z m e).role q) result q v w _ _ h (listed_alike object args q is js v w mt h))
 
-    from_alike : (object : Option ℕ) (args : List Value) (result : HostType) (is js : List Input) (v w : World) → v.inputs ≡ is → w.inputs ≡ js → Match apart is js → AlikeUpTo apart r v w
+    from_alike : (object : Option ℕ) (args : List Value) (result : HostValueType) (is js : List Input) (v w : World) → v.inputs ≡ is → w.inputs ≡ js → Match apart is js → AlikeUpTo apart r v w
         → DoneAlike apart r (asked_from z m e object args result is v) (asked_from z m e object args result js w)
     from_alike object args result [] [] v w le ri mt h = inl (refl, h)
     from_alike object args result [] (j ∷ js) v w le ri mt h = absurd mt
@@ -323,17 +323,17 @@ module _ (apart : Type 0) (r : Renaming) where
     from_alike object args result (Fresh n ∷ is) (Tallied b ∷ js) v w le ri mt h = inl (refl, h)
     from_alike object args result (Fresh n ∷ is) (Fresh k ∷ js) v w le ri mt h = inl (refl, h)
 
-    asked_same : (object : Option ℕ) (args : List Value) (result : HostType) (o p : Tried) → TriedSame apart r o p → DoneAlike apart r (or_else o (Fails Memory) (λ u. asked_from z m e object args result u.inputs u)) (or_else p (Fails Memory) (λ u. asked_from z m e object args result u.inputs u))
+    asked_same : (object : Option ℕ) (args : List Value) (result : HostValueType) (o p : Tried) → TriedSame apart r o p → DoneAlike apart r (or_else o (Fails Memory) (λ u. asked_from z m e object args result u.inputs u)) (or_else p (Fails Memory) (λ u. asked_from z m e object args result u.inputs u))
     asked_same object args result (Yes v) (Yes w) h = from_alike object args result v.inputs w.inputs v w refl refl h.inputs h
     asked_same object args result (Yes v) (No w) h = absurd h
     asked_same object args result (No v) (Yes w) h = absurd h
     asked_same object args result (No v) (No w) h = inl (refl, h)
 
-    asked_leaves : (object : Option ℕ) (args : List Value) (result : HostType) (o : Tried) → TriedLeaves apart o → DoneLeaves apart (or_else o (Fails Memory) (λ u. asked_from z m e object args result u.inputs u))
+    asked_leaves : (object : Option ℕ) (args : List Value) (result : HostValueType) (o : Tried) → TriedLeaves apart o → DoneLeaves apart (or_else o (Fails Memory) (λ u. asked_from z m e object args result u.inputs u))
     asked_leaves object args result (Yes w) h = absurd h
     asked_leaves object args result (No w) h = h
 
-    asked_alike : (object : Option ℕ) (args : List Value) (result : HostType) (v w : World) → AlikeUpTo apart r v w → DoneAlike apart r (asked z m e object args result v) (asked z m e object args result w)
+    asked_alike : (object : Option ℕ) (args : List Value) (result : HostValueType) (v w : World) → AlikeUpTo apart r v w → DoneAlike apart r (asked z m e object args result v) (asked z m e object args result w)
     unfolding asked
     asked_alike object args result v w h =
         three (λ t. asked_same object args result (memory_step v) (memory_step w) t) (λ l. inr (inl (asked_leaves object args result (memory_step v) l)))
@@ -415,13 +415,13 @@ module _ (apart : Type 0) (r : Renaming) where
   work_alike (Is n) v w h = inl (refl, h)
   work_alike (Cannot f) v w h = inl (refl, h)
 
-  module _ (z : Setting) (m : ℕ) (e : EntityNo) where
+  module _ (z : Environment) (m : ℕ) (e : EntityNo) where
     altered_to_alike : (vs : List Slot) (x : Slot) (c : Changed) (v w : World) → AlikeUpTo apart r v w
         → DoneAlike apart r (altered_to z m e (receiver_of (use_at z m e) vs) x c v) (altered_to z m e (receiver_of (use_at z m e) (renamed_all r vs)) (renamed r x) c w)
     altered_to_alike vs x (Never f) v w h = inl (refl, give_alike apart r x v w h)
     altered_to_alike vs x (Into stored given) v w h = in_place_alike (Bits given) _ _ (write_alike z m e vs (Bits stored) v w h)
 
-    altered_same : (vs : List Slot) (c : Change) (y : Slot) (o p : Done) → DoneSame apart r o p
+    altered_same : (vs : List Slot) (c : Update) (y : Slot) (o p : Done) → DoneSame apart r o p
         → DoneAlike apart r (altered_of z m e (receiver_of (use_at z m e) vs) c y o) (altered_of z m e (receiver_of (use_at z m e) (renamed_all r vs)) c (renamed r y) p)
     altered_same vs c y (Fine a v) (Fine b w) h =
         let q = receiver_of (use_at z m e) (renamed_all r vs) in
@@ -432,11 +432,11 @@ module _ (apart : Type 0) (r : Renaming) where
     altered_same vs c y (Fails f v) (Fine b w) h = absurd h
     altered_same vs c y (Fails f v) (Fails g w) h = inl h
 
-    altered_leaves : (q : Receiver) (c : Change) (y : Slot) (o : Done) → DoneLeaves apart o → DoneLeaves apart (altered_of z m e q c y o)
+    altered_leaves : (q : Receiver) (c : Update) (y : Slot) (o : Done) → DoneLeaves apart o → DoneLeaves apart (altered_of z m e q c y o)
     altered_leaves q c y (Fine a w) h = absurd h
     altered_leaves q c y (Fails f w) h = h
 
-    altered_alike : (vs : List Slot) (c : Change) (y : Slot) (v w : World) → AlikeUpTo apart r v w
+    altered_alike : (vs : List Slot) (c : Update) (y : Slot) (v w : World) → AlikeUpTo apart r v w
         → DoneAlike apart r (altered_of z m e (receiver_of (use_at z m e) vs) c y (read_of z m e (receiver_of (use_at z m e) vs) v))
         (altered_of z m e (receiver_of (use_at z m e) (renamed_all r vs)) c (renamed r y) (read_of z m e (receiver_of (use_at z m e) (renamed_all r vs)) w))
     altered_alike vs c y v w h =
@@ -466,7 +466,7 @@ module _ (apart : Type 0) (r : Renaming) where
     changed_by g (Into stored given) v w h = inl (refl, put_alike apart r m g (Bits stored) v w h)
     changed_by g (Never f) v w h = inl (refl, h)
 
-    changed_alike : (g : ℕ) (c : Change) (x : Slot) (v w : World) → AlikeUpTo apart r v w
+    changed_alike : (g : ℕ) (c : Update) (x : Slot) (v w : World) → AlikeUpTo apart r v w
         → DoneAlike apart r (changed_global m g (change_of c (global_or m g (Bits 0) v) x) v) (changed_global m g (change_of c (global_or m g (Bits 0) w) (renamed r x)) w)
     changed_alike g c x v w h =
         let o = changed_global m g (change_of c (global_or m g (Bits 0) v) x) v in
@@ -502,14 +502,14 @@ module _ (apart : Type 0) (r : Renaming) where
   field_changed_by n i (Into stored given) v w h = inl (refl, field_alike apart r n i (Bits stored) v w h)
   field_changed_by n i (Never f) v w h = inl (refl, h)
 
-  field_changed : (n i : ℕ) (c : Change) (x : Slot) (v w : World) → AlikeUpTo apart r v w
+  field_changed : (n i : ℕ) (c : Update) (x : Slot) (v w : World) → AlikeUpTo apart r v w
       → DoneAlike apart r (changed_field n i (change_of c (field_or n i (Bits 0) v) x) v) (changed_field (r.to n) i (change_of c (field_or (r.to n) i (Bits 0) w) (renamed r x)) w)
   field_changed n i c x v w h =
       let o = changed_field n i (change_of c (field_or n i (Bits 0) v) x) v in
       subst (λ q. DoneAlike apart r o (changed_field (r.to n) i (change_of c q (renamed r x)) w)) (sym (field_renamed apart r n i (Bits 0) v w h))
       (subst (λ k. DoneAlike apart r o (changed_field (r.to n) i k w)) (sym (change_renamed r c (field_or n i (Bits 0) v) x)) (field_changed_by n i (change_of c (field_or n i (Bits 0) v) x) v w h))
 
-  under_renamed : (z : Setting) (m c : ℕ) (o : Option ScriptRecord) → is_under z m c (renamed_record r o) ≡ is_under z m c o
+  under_renamed : (z : Environment) (m c : ℕ) (o : Option ScriptRecord) → is_under z m c (renamed_record r o) ≡ is_under z m c o
   under_renamed z m c None = refl
   under_renamed z m c (Some o) = refl
 
@@ -517,14 +517,14 @@ module _ (apart : Type 0) (r : Renaming) where
   cast_by true n v w h = inl (refl, h)
   cast_by false n v w h = inl (refl, give_alike apart r (Script (Some n)) v w h)
 
-  cast_alike : (z : Setting) (m c n : ℕ) (v w : World) → AlikeUpTo apart r v w → DoneAlike apart r (cast_to (is_under z m c (map.get v.objects n)) n v) (cast_to (is_under z m c (map.get w.objects (r.to n))) (r.to n) w)
+  cast_alike : (z : Environment) (m c n : ℕ) (v w : World) → AlikeUpTo apart r v w → DoneAlike apart r (cast_to (is_under z m c (map.get v.objects n)) n v) (cast_to (is_under z m c (map.get w.objects (r.to n))) (r.to n) w)
   cast_alike z m c n v w h =
       subst (λ b. DoneAlike apart r (cast_to (is_under z m c (map.get v.objects n)) n v) (cast_to b (r.to n) w))
       (sym (ap (is_under z m c) (h.objects.has n) ∙ under_renamed z m c (map.get v.objects n))) (cast_by (is_under z m c (map.get v.objects n)) n v w h)
 
   -- ---- all operations
 
-  module _ (z : Setting) (m : ℕ) (s : List Slot) (v w : World) (counted : IsCounted s v) (h : AlikeUpTo apart r v w) where
+  module _ (z : Environment) (m : ℕ) (s : List Slot) (v w : World) (counted : IsCounted s v) (h : AlikeUpTo apart r v w) where
     -- nothing is asked, and the world stays
     as_it_is : (o p : Done) → DoneSame apart r o p → OneAlike apart r s o p
     as_it_is o p d = kept s o p (inl d)
@@ -534,14 +534,14 @@ module _ (apart : Type 0) (r : Renaming) where
 
     pub perform_alike : (o : Operation) (vs : List Slot) → OneAlike apart r s (perform z m o vs v) (perform z m o (renamed_all r vs) w)
     unfolding perform
-    perform_alike (Work a p) [] = misfit
-    perform_alike (Work a p) (Bits y ∷ []) = misfit
-    perform_alike (Work a p) (Bits y ∷ (Bits x ∷ [])) = kept s _ _ (work_alike (worked a p x y) v w h)
-    perform_alike (Work a p) (Bits y ∷ (Bits x ∷ (u ∷ us))) = misfit
-    perform_alike (Work a p) (Bits y ∷ (Script j ∷ us)) = misfit
-    perform_alike (Work a p) (Bits y ∷ (Host d j ∷ us)) = misfit
-    perform_alike (Work a p) (Script j ∷ us) = misfit
-    perform_alike (Work a p) (Host d j ∷ us) = misfit
+    perform_alike (Binary a p) [] = misfit
+    perform_alike (Binary a p) (Bits y ∷ []) = misfit
+    perform_alike (Binary a p) (Bits y ∷ (Bits x ∷ [])) = kept s _ _ (work_alike (binary_result a p x y) v w h)
+    perform_alike (Binary a p) (Bits y ∷ (Bits x ∷ (u ∷ us))) = misfit
+    perform_alike (Binary a p) (Bits y ∷ (Script j ∷ us)) = misfit
+    perform_alike (Binary a p) (Bits y ∷ (Host d j ∷ us)) = misfit
+    perform_alike (Binary a p) (Script j ∷ us) = misfit
+    perform_alike (Binary a p) (Host d j ∷ us) = misfit
     perform_alike (Compare c signed) [] = misfit
     perform_alike (Compare c signed) (Bits y ∷ []) = misfit
     perform_alike (Compare c signed) (Bits y ∷ (Bits x ∷ [])) = kept s _ _ (inl (refl, h))

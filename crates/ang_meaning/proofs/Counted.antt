@@ -9,7 +9,7 @@ use Rattle.ang_meaning.specs.World.{World, ScriptRecord, ScriptObjects, Input, R
 use Rattle.ang_meaning.specs.declared.class.Class.{Class}
 use Rattle.ang_meaning.specs.declared.class.ValueKind.{ValueKind}
 use Rattle.ang_meaning.specs.declared.class.ValueKind.TheVariants.{Number as NumberField, Handle as HandleField}
-use Rattle.ang_meaning.specs.Setting.{default_of}
+use Rattle.ang_meaning.specs.Environment.{default_of}
 use Rattle.ang_meaning.specs.Perform.{globals_of, global_or, global_put, field_of, field_or, with_field, field_put, is_lower, may_take, member_or, member_put, new_object}
 use Rattle.ang_meaning.specs.Results.{local_at, local_set}
 use Rattle.ang_meaning.specs.Counting.{Thing, KeyOf, NumberOf, names, how_many, in_lists, count_of_object, count_in, Counts, IsBelow, AreBelow, AreSoundObjects, IsCounted, HasKey}

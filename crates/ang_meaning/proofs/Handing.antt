@@ -11,8 +11,8 @@ use Rattle.ang_host.specs.Laws.{IsLive, IsLiveValue, AreLive}
 use Rattle.ang_host.specs.Members.{state_at}
 use Rattle.ang_meaning.specs.declared.slot.Slot.{Slot}
 use Rattle.ang_meaning.specs.declared.slot.Slot.TheVariants.{Bits, Script, Host}
-use Rattle.ang_meaning.specs.declared.host.HostType.{HostType}
-use Rattle.ang_meaning.specs.declared.host.HostType.TheVariants.{Nothing, Plain, Handle}
+use Rattle.ang_meaning.specs.declared.host.HostValueType.{HostValueType}
+use Rattle.ang_meaning.specs.declared.host.HostValueType.TheVariants.{Nothing, Plain, Handle}
 use Rattle.ang_meaning.specs.declared.host.HostUse.{HostUse}
 use Rattle.ang_meaning.specs.Hosts.{plain_value, value_of, values_of}
 use Rattle.ang_meaning.specs.Perform.{Receiver, Of, key_at, receiver_of, behind_first, arguments_of, NoReceiver, NullReceiver}
@@ -40,7 +40,7 @@ module _ (ss : List State) where
   handle_live d e k true t h = subst (λ i. IsLive (state_at ss i) k) (sym (eqb-true d e t)) (live_of ss e k h)
   handle_live d e k false t h = tt
 
-  value_live : (d : ℕ) (ty : HostType) (v : Slot) → HasKey v (counts_by ss) → IsLiveValue (state_at ss d) (value_of d ty v)
+  value_live : (d : ℕ) (ty : HostValueType) (v : Slot) → HasKey v (counts_by ss) → IsLiveValue (state_at ss d) (value_of d ty v)
   value_live d Nothing (Bits n) h = tt
   value_live d Nothing (Script j) h = tt
   value_live d Nothing (Host e j) h = tt
@@ -53,10 +53,10 @@ module _ (ss : List State) where
   value_live d Handle (Host e (Some k)) h = handle_live d e k (nat_eq d e) refl h
 
   module _ (s : List Slot) (keys : (v : Slot) → ((x : Thing) → names x v ≤ how_many x s) → HasKey v (counts_by ss)) where
-    pub value_handed : (d : ℕ) (ty : HostType) (v : Slot) → ((x : Thing) → names x v ≤ how_many x s) → IsLiveValue (state_at ss d) (value_of d ty v)
+    pub value_handed : (d : ℕ) (ty : HostValueType) (v : Slot) → ((x : Thing) → names x v ≤ how_many x s) → IsLiveValue (state_at ss d) (value_of d ty v)
     value_handed d ty v h = value_live d ty v (keys v h)
 
-    pub values_handed : (d : ℕ) (types : List HostType) (vs : List Slot) → ((x : Thing) → how_many x vs ≤ how_many x s) → AreLive (state_at ss d) (values_of d types vs)
+    pub values_handed : (d : ℕ) (types : List HostValueType) (vs : List Slot) → ((x : Thing) → how_many x vs ≤ how_many x s) → AreLive (state_at ss d) (values_of d types vs)
     values_handed d [] vs h = tt
     values_handed d (ty ∷ types) [] h = tt
     values_handed d (ty ∷ types) (v ∷ vs) h =

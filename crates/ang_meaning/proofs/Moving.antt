@@ -14,18 +14,18 @@ use Rattle.ang_host.specs.declared.event.HostEvent.{HostEvent}
 use Rattle.ang_host.specs.declared.event.HostEvent.TheVariants.{Called, Ended}
 use Rattle.ang_meaning.specs.declared.slot.Slot.{Slot}
 use Rattle.ang_meaning.specs.declared.slot.Slot.TheVariants.{Bits, Script, Host}
-use Rattle.ang_meaning.specs.declared.host.HostType.{HostType}
-use Rattle.ang_meaning.specs.declared.host.HostType.TheVariants.{Nothing}
-use Rattle.ang_meaning.specs.declared.operation.Change.{Change}
+use Rattle.ang_meaning.specs.declared.host.HostValueType.{HostValueType}
+use Rattle.ang_meaning.specs.declared.host.HostValueType.TheVariants.{Nothing}
+use Rattle.ang_meaning.specs.declared.operation.Update.{Update}
 use Rattle.ang_meaning.specs.declared.operation.Operation.{Operation}
-use Rattle.ang_meaning.specs.declared.operation.Operation.TheVariants.{Work, Compare, Convert, Negate, Complement, Not, Same, GlobalGet, GlobalSet, GlobalChange, Ask, Read, Write, Alter, Make, FieldGet, FieldSet, FieldChange, Cast}
+use Rattle.ang_meaning.specs.declared.operation.Operation.TheVariants.{Binary, Compare, Convert, Negate, Complement, Not, Same, GlobalGet, GlobalSet, GlobalChange, Ask, Read, Write, Alter, Make, FieldGet, FieldSet, FieldChange, Cast}
 use Rattle.ang_meaning.specs.declared.routine.Passing.{Passing}
 use Rattle.ang_meaning.specs.declared.routine.Passing.TheVariants.{In, Out, Object}
-use Rattle.ang_meaning.specs.Numbers.{Worked, Is, Cannot, Changed, Into, Never, worked}
+use Rattle.ang_meaning.specs.Numbers.{Worked, Is, Cannot, Changed, Into, Never, binary_result}
 use Rattle.ang_meaning.specs.World.{World, HostCounts, Input, Room, Said, Tallied, Fresh, Tried, Yes, No, memory_told, memory_step, one_more, Ending, Inside, AtEnd, OfDriver, ending_of, refused_at, tally_told, tally_step, hold, Lowered, Gone, Kept, host_lowered, each_given, script_given, script_lowered, given, give, give_all, or_else}
 use Rattle.ang_meaning.specs.Told.{has_room, stopped_by, answers_told, answers_listed, Moves, GoesOn, Faults}
 use Rattle.ang_meaning.specs.declared.class.Class.{Class}
-use Rattle.ang_meaning.specs.Setting.{Setting, class_at, use_at}
+use Rattle.ang_meaning.specs.Environment.{Environment, class_at, use_at}
 use Rattle.ang_meaning.specs.Hosts.{Done, Fine, Fails, accepted, is_void, slot_of, replied_by, is_reply_to, asked_from, asked, value_of, values_of}
 use Rattle.ang_meaning.specs.Perform.{work_done, change_of, global_or, global_put, stored_global, changed_global, Receiver, Of, receiver_of, arguments_of, gives_up, called_of, read_of, write_of, in_place_of, altered_to, altered_of, field_or, field_put, may_take, member_put, stored_field, changed_field, is_under, cast_to, number_for, made_at, made_from, perform, NoReceiver, NullReceiver}
 use Rattle.ang_meaning.specs.Results.{give_some, give_back, give_others}
@@ -241,7 +241,7 @@ void_goes : (b : Bool) (w : World) → DoneFrom w (cond b (Fine (Bits 0) w) (Fai
 void_goes true w = nothing w
 void_goes false w = faulted BadAnswer w w (nothing w)
 
-replied_goes : (d : ℕ) (result : HostType) (r : HostReply) (w : World) → DoneFrom w (replied_by d result r w)
+replied_goes : (d : ℕ) (result : HostValueType) (r : HostReply) (w : World) → DoneFrom w (replied_by d result r w)
 unfolding replied_by
 replied_goes d result (Making (MadeKey k)) w = gives w _ (more_moves (Host d (Some k)) w)
 replied_goes d result (Making MadeNothing) w = faulted NoObject w w (nothing w)
@@ -259,8 +259,8 @@ kind_goes : (b : Bool) (w : World) (o : Done) → DoneFrom w o → DoneFrom w (c
 kind_goes true w o p = p
 kind_goes false w o p = faulted Memory w w (nothing w)
 
-module _ (z : Setting) (m : ℕ) (e : EntityNo) where
-  asked_said : (object : Option ℕ) (args : List Value) (result : HostType) (inputs : List Input) (w : World) → w.inputs ≡ inputs → DoneFrom w (asked_from z m e object args result inputs w)
+module _ (z : Environment) (m : ℕ) (e : EntityNo) where
+  asked_said : (object : Option ℕ) (args : List Value) (result : HostValueType) (inputs : List Input) (w : World) → w.inputs ≡ inputs → DoneFrom w (asked_from z m e object args result inputs w)
   asked_said object args result (Said reply ∷ rest) w h =
       let event = Called (z.name m) e (use_at z m e).driver object args reply in
       let u : World = record w { inputs = rest; events = w.events ++ event ∷ [] } in
@@ -272,11 +272,11 @@ module _ (z : Setting) (m : ℕ) (e : EntityNo) where
   asked_said object args result (Tallied b ∷ rest) w h = faulted Memory w w (nothing w)
   asked_said object args result (Fresh n ∷ rest) w h = faulted Memory w w (nothing w)
 
-  asked_tried : (object : Option ℕ) (args : List Value) (result : HostType) (w : World) (o : Tried) → TriedFrom Memory w o → DoneFrom w (or_else o (Fails Memory) (λ u. asked_from z m e object args result u.inputs u))
+  asked_tried : (object : Option ℕ) (args : List Value) (result : HostValueType) (w : World) (o : Tried) → TriedFrom Memory w o → DoneFrom w (or_else o (Fails Memory) (λ u. asked_from z m e object args result u.inputs u))
   asked_tried object args result w (No w') p = p
   asked_tried object args result w (Yes w') p = done_then w w' _ p (asked_said object args result w'.inputs w' refl)
 
-  asked_goes : (object : Option ℕ) (args : List Value) (result : HostType) (w : World) → DoneFrom w (asked z m e object args result w)
+  asked_goes : (object : Option ℕ) (args : List Value) (result : HostValueType) (w : World) → DoneFrom w (asked z m e object args result w)
   unfolding asked
   asked_goes object args result w = asked_tried object args result w (memory_step w) (memory_goes w)
 
@@ -303,7 +303,7 @@ module _ (z : Setting) (m : ℕ) (e : EntityNo) where
   altered_to_goes r x (Never f) w = faulted f w (give x w) (gives w (give x w) (give_moves x w))
   altered_to_goes r x (Into stored given) w = in_place_goes (Bits given) w (write_of z m e r (Bits stored) w) (write_goes r (Bits stored) w)
 
-  altered_goes : (r : Receiver) (c : Change) (v : Slot) (w : World) (o : Done) → DoneFrom w o → DoneFrom w (altered_of z m e r c v o)
+  altered_goes : (r : Receiver) (c : Update) (v : Slot) (w : World) (o : Done) → DoneFrom w o → DoneFrom w (altered_of z m e r c v o)
   altered_goes r c v w (Fails f w') p = p
   altered_goes r c v w (Fine x w') p = done_then w w' _ p (altered_to_goes r x (change_of c x v) w')
 
@@ -376,16 +376,16 @@ made_goes k w (Yes w') p = done_then w w' _ p (made_from_goes k w'.inputs w' ref
 misfit : (w : World) → Faults Null w w
 misfit w = faulted Null w w (nothing w)
 
-pub perform_goes : (z : Setting) (m : ℕ) (o : Operation) (vs : List Slot) (w : World) → DoneFrom w (perform z m o vs w)
+pub perform_goes : (z : Environment) (m : ℕ) (o : Operation) (vs : List Slot) (w : World) → DoneFrom w (perform z m o vs w)
 unfolding perform
-perform_goes z m (Work a p) [] w = misfit w
-perform_goes z m (Work a p) (Bits y ∷ []) w = misfit w
-perform_goes z m (Work a p) (Bits y ∷ (Bits x ∷ [])) w = work_goes (worked a p x y) w
-perform_goes z m (Work a p) (Bits y ∷ (Bits x ∷ (u ∷ us))) w = misfit w
-perform_goes z m (Work a p) (Bits y ∷ (Script j ∷ us)) w = misfit w
-perform_goes z m (Work a p) (Bits y ∷ (Host d j ∷ us)) w = misfit w
-perform_goes z m (Work a p) (Script j ∷ us) w = misfit w
-perform_goes z m (Work a p) (Host d j ∷ us) w = misfit w
+perform_goes z m (Binary a p) [] w = misfit w
+perform_goes z m (Binary a p) (Bits y ∷ []) w = misfit w
+perform_goes z m (Binary a p) (Bits y ∷ (Bits x ∷ [])) w = work_goes (binary_result a p x y) w
+perform_goes z m (Binary a p) (Bits y ∷ (Bits x ∷ (u ∷ us))) w = misfit w
+perform_goes z m (Binary a p) (Bits y ∷ (Script j ∷ us)) w = misfit w
+perform_goes z m (Binary a p) (Bits y ∷ (Host d j ∷ us)) w = misfit w
+perform_goes z m (Binary a p) (Script j ∷ us) w = misfit w
+perform_goes z m (Binary a p) (Host d j ∷ us) w = misfit w
 perform_goes z m (Compare c signed) [] w = misfit w
 perform_goes z m (Compare c signed) (Bits y ∷ []) w = misfit w
 perform_goes z m (Compare c signed) (Bits y ∷ (Bits x ∷ [])) w = nothing w

@@ -17,16 +17,16 @@ use Rattle.ang_host.specs.declared.event.Role.{Role}
 use Rattle.ang_host.specs.declared.event.Role.TheVariants.{Making as MakingRole, Calling as CallingRole, Property as PropertyRole}
 use Rattle.ang_meaning.specs.declared.slot.Slot.{Slot}
 use Rattle.ang_meaning.specs.declared.slot.Slot.TheVariants.{Bits, Script, Host}
-use Rattle.ang_meaning.specs.declared.host.HostType.{HostType}
-use Rattle.ang_meaning.specs.declared.host.HostType.TheVariants.{Nothing, Plain, Handle}
+use Rattle.ang_meaning.specs.declared.host.HostValueType.{HostValueType}
+use Rattle.ang_meaning.specs.declared.host.HostValueType.TheVariants.{Nothing, Plain, Handle}
 use Rattle.ang_meaning.specs.declared.host.HostUse.{HostUse}
-use Rattle.ang_meaning.specs.declared.operation.Change.{Change}
+use Rattle.ang_meaning.specs.declared.operation.Update.{Update}
 use Rattle.ang_meaning.specs.declared.operation.Operation.{Operation}
-use Rattle.ang_meaning.specs.declared.operation.Operation.TheVariants.{Work, Compare, Convert, Negate, Complement, Not, Same, GlobalGet, GlobalSet, GlobalChange, Ask, Read, Write, Alter, Make, FieldGet, FieldSet, FieldChange, Cast}
-use Rattle.ang_meaning.specs.Numbers.{Worked, Is, Cannot, Changed, Into, Never, worked}
+use Rattle.ang_meaning.specs.declared.operation.Operation.TheVariants.{Binary, Compare, Convert, Negate, Complement, Not, Same, GlobalGet, GlobalSet, GlobalChange, Ask, Read, Write, Alter, Make, FieldGet, FieldSet, FieldChange, Cast}
+use Rattle.ang_meaning.specs.Numbers.{Worked, Is, Cannot, Changed, Into, Never, binary_result}
 use Rattle.ang_meaning.specs.World.{World, ScriptRecord, Input, Room, Said, Tallied, Fresh, with_inputs, if_told, Tried, Yes, No, memory_step, Ending, Inside, AtEnd, OfDriver, ending_of, refused_at, tally_told, tally_step, one_more, hold, give, or_else}
 use Rattle.ang_meaning.specs.declared.class.Class.{Class}
-use Rattle.ang_meaning.specs.Setting.{Setting, class_at, use_at, host_in, is_property, may_write, is_fit}
+use Rattle.ang_meaning.specs.Environment.{Environment, class_at, use_at, host_in, is_property, may_write, is_fit}
 use Rattle.ang_meaning.specs.Hosts.{Done, Fine, Fails, accepted, is_void, if_within, slot_of, replied_by, is_reply_to, asked_from, asked, value_of, values_of}
 use Rattle.ang_meaning.specs.Perform.{work_done, change_of, global_or, global_put, stored_global, changed_global, Receiver, Of, receiver_of, arguments_of, gives_up, called_of, read_of, write_of, in_place_of, altered_to, altered_of, field_or, field_put, may_take, stored_field, changed_field, is_under, cast_to, number_for, made_from, perform, NoReceiver, NullReceiver}
 use Rattle.ang_meaning.specs.Counting.{Thing, names, IsCounted, IsBelow, AreSoundObjects}
@@ -81,7 +81,7 @@ within_known : (w : World) (b : Bool) (n : ℕ) → KnownOption w (if_within b n
 within_known w true n = tt
 within_known w false n = tt
 
-slot_known : (w : World) (d : ℕ) (ty : HostType) (v : Value) → KnownOption w (slot_of d ty v)
+slot_known : (w : World) (d : ℕ) (ty : HostValueType) (v : Value) → KnownOption w (slot_of d ty v)
 unfolding slot_of
 slot_known w d Nothing (Int z) = tt
 slot_known w d Nothing (Uint n) = tt
@@ -124,7 +124,7 @@ void_counted : (b : Bool) (f : Fault) (s : List Slot) (w : World) → IsCounted 
 void_counted true f s w p = push_none (Bits 0) s w (bits_none 0) p
 void_counted false f s w p = p
 
-replied_counted : (d : ℕ) (result : HostType) (r : HostReply) (s : List Slot) (w : World) → IsCounted s w → DoneWith s (replied_by d result r w)
+replied_counted : (d : ℕ) (result : HostValueType) (r : HostReply) (s : List Slot) (w : World) → IsCounted s w → DoneWith s (replied_by d result r w)
 unfolding replied_by
 replied_counted d result (Making (MadeKey k)) s w p = more_counted (Host d (Some k)) s w tt p
 replied_counted d result (Making MadeNothing) s w p = p
@@ -152,23 +152,23 @@ replied_void role d (Asking (SaidFault n)) s w e h p = p
 replied_void role d (Asking SaidMemory) s w e h p = p
 replied_void role d (Asking Full) s w e h p = p
 
-module _ (z : Setting) (m : ℕ) (e : EntityNo) where
-  said_counted : (b : Bool) (result : HostType) (reply : HostReply) (s : List Slot) (w w' : World) → IsCounted s w → IsCounted s w' → DoneWith s (cond b (replied_by (use_at z m e).driver result reply w') (Fails Memory w))
+module _ (z : Environment) (m : ℕ) (e : EntityNo) where
+  said_counted : (b : Bool) (result : HostValueType) (reply : HostReply) (s : List Slot) (w w' : World) → IsCounted s w → IsCounted s w' → DoneWith s (cond b (replied_by (use_at z m e).driver result reply w') (Fails Memory w))
   said_counted true result reply s w w' p q = replied_counted (use_at z m e).driver result reply s w' q
   said_counted false result reply s w w' p q = p
 
-  from_counted : (object : Option ℕ) (args : List Value) (result : HostType) (inputs : List Input) (s : List Slot) (w : World) → IsCounted s w → DoneWith s (asked_from z m e object args result inputs w)
+  from_counted : (object : Option ℕ) (args : List Value) (result : HostValueType) (inputs : List Input) (s : List Slot) (w : World) → IsCounted s w → DoneWith s (asked_from z m e object args result inputs w)
   from_counted object args result [] s w p = p
   from_counted object args result (Said reply ∷ rest) s w p = said_counted (is_reply_to (use_at z m e).role reply) result reply s w _ p p
   from_counted object args result (Room b ∷ rest) s w p = p
   from_counted object args result (Tallied b ∷ rest) s w p = p
   from_counted object args result (Fresh n ∷ rest) s w p = p
 
-  told_counted : (object : Option ℕ) (args : List Value) (result : HostType) (s : List Slot) (o : Tried) → TriedCounted s s o → DoneWith s (or_else o (Fails Memory) (λ u. asked_from z m e object args result u.inputs u))
+  told_counted : (object : Option ℕ) (args : List Value) (result : HostValueType) (s : List Slot) (o : Tried) → TriedCounted s s o → DoneWith s (or_else o (Fails Memory) (λ u. asked_from z m e object args result u.inputs u))
   told_counted object args result s (No w) p = p
   told_counted object args result s (Yes w) p = from_counted object args result w.inputs s w p
 
-  pub asked_counted : (object : Option ℕ) (args : List Value) (result : HostType) (s : List Slot) (w : World) → IsCounted s w → DoneWith s (asked z m e object args result w)
+  pub asked_counted : (object : Option ℕ) (args : List Value) (result : HostValueType) (s : List Slot) (w : World) → IsCounted s w → DoneWith s (asked z m e object args result w)
   unfolding asked
   asked_counted object args result s w p = told_counted object args result s (memory_step w) (memory_counted s w p)
 
@@ -225,7 +225,7 @@ written_of o v s (Fails f w) p = p
 
 -- ---- changes are of numbers
 
-pub change_plain : (c : Change) (x v : Slot) (a b : ℕ) → change_of c x v ≡ Into a b → NamesNone x × NamesNone v
+pub change_plain : (c : Update) (x v : Slot) (a b : ℕ) → change_of c x v ≡ Into a b → NamesNone x × NamesNone v
 unfolding change_of
 change_plain c (Bits x) (Bits y) a b e = (bits_none x, bits_none y)
 change_plain c (Bits x) (Script k) a b e = absurd (let q : ⊥ = cc in q)
@@ -255,7 +255,7 @@ changed_field_counted n i v s w (Into stored given) h p =
     let stands = field_counted n i (Bits 0) (Bits stored) (o ∷ s) w (λ x. bits_none 0 x ∙ sym (bits_none stored x)) (λ r g. tt) plain in
     push_none (Bits given) s (give o put) (bits_none given) (give_counted o s put (drop_none (field_or n i (Bits 0) w) (o ∷ s) put q.0 stands))
 
-module _ (z : Setting) (m : ℕ) (e : EntityNo) (property : is_property (use_at z m e).role ≡ true) where
+module _ (z : Environment) (m : ℕ) (e : EntityNo) (property : is_property (use_at z m e).role ≡ true) where
   -- the changed value is written, and the value that was read names nothing
   in_place_counted : (x v : Slot) (s us : List Slot) (given : ℕ) (d : Done) → NamesNone x → DoneVoid (x ∷ s) d → DoneVoid s (in_place_of (Bits given) d)
   in_place_counted x v s us given (Fine y w) h p = drop_none x s w h p
@@ -266,7 +266,7 @@ module _ (z : Setting) (m : ℕ) (e : EntityNo) (property : is_property (use_at 
   altered_to_void r x v s w (Into stored given) h p =
       in_place_counted x v s [] given (write_of z m e r (Bits stored) w) (h stored given refl) (write_void z m e property r (Bits stored) (x ∷ s) w p)
 
-  altered_void : (r : Receiver) (c : Change) (v : Slot) (s : List Slot) (d : Done) → DoneWith s d → DoneVoid s (altered_of z m e r c v d)
+  altered_void : (r : Receiver) (c : Update) (v : Slot) (s : List Slot) (d : Done) → DoneWith s d → DoneVoid s (altered_of z m e r c v d)
   altered_void r c v s (Fails f w) p = p
   altered_void r c v s (Fine x w) p = altered_to_void r x v s w (change_of c x v) (λ a b q. (change_plain c x v a b q).0) p
 
@@ -283,7 +283,7 @@ module _ (z : Setting) (m : ℕ) (e : EntityNo) (property : is_property (use_at 
   altered_to_plain r x v w (Never f) h = tt
   altered_to_plain r x v w (Into stored given) h = in_place_plain v given (write_of z m e r (Bits stored) w) (h stored given refl)
 
-  altered_plain : (r : Receiver) (c : Change) (v : Slot) (d : Done) → PlainEnd v (altered_of z m e r c v d)
+  altered_plain : (r : Receiver) (c : Update) (v : Slot) (d : Done) → PlainEnd v (altered_of z m e r c v d)
   altered_plain r c v (Fails f w) = tt
   altered_plain r c v (Fine x w) = altered_to_plain r x v w (change_of c x v) (λ a b q. (change_plain c x v a b q).1)
 
@@ -396,16 +396,16 @@ one_number : (n x : ℕ) (s : List Slot) (w : World) → IsCounted (Bits x ∷ s
 one_number n x s w p = push_none (Bits n) s w (bits_none n) (drop_none (Bits x) s w (bits_none x) p)
 
 -- Where the operands stand above s. An operation that does not ask in the way of the entity's role is none that code takes.
-pub perform_counted : (z : Setting) (m : ℕ) (o : Operation) (vs s : List Slot) (w : World) → is_fit z m o ≡ true → IsCounted (vs ++ s) w → DoneCounted vs s (perform z m o vs w)
+pub perform_counted : (z : Environment) (m : ℕ) (o : Operation) (vs s : List Slot) (w : World) → is_fit z m o ≡ true → IsCounted (vs ++ s) w → DoneCounted vs s (perform z m o vs w)
 unfolding perform is_fit
-perform_counted z m (Work a k) [] s w fit p = p
-perform_counted z m (Work a k) (Bits y ∷ []) s w fit p = p
-perform_counted z m (Work a k) (Bits y ∷ (Bits x ∷ [])) s w fit p = work_counted (worked a k x y) x y s w p
-perform_counted z m (Work a k) (Bits y ∷ (Bits x ∷ (u ∷ us))) s w fit p = p
-perform_counted z m (Work a k) (Bits y ∷ (Script j ∷ us)) s w fit p = p
-perform_counted z m (Work a k) (Bits y ∷ (Host d j ∷ us)) s w fit p = p
-perform_counted z m (Work a k) (Script j ∷ us) s w fit p = p
-perform_counted z m (Work a k) (Host d j ∷ us) s w fit p = p
+perform_counted z m (Binary a k) [] s w fit p = p
+perform_counted z m (Binary a k) (Bits y ∷ []) s w fit p = p
+perform_counted z m (Binary a k) (Bits y ∷ (Bits x ∷ [])) s w fit p = work_counted (binary_result a k x y) x y s w p
+perform_counted z m (Binary a k) (Bits y ∷ (Bits x ∷ (u ∷ us))) s w fit p = p
+perform_counted z m (Binary a k) (Bits y ∷ (Script j ∷ us)) s w fit p = p
+perform_counted z m (Binary a k) (Bits y ∷ (Host d j ∷ us)) s w fit p = p
+perform_counted z m (Binary a k) (Script j ∷ us) s w fit p = p
+perform_counted z m (Binary a k) (Host d j ∷ us) s w fit p = p
 perform_counted z m (Compare c signed) [] s w fit p = p
 perform_counted z m (Compare c signed) (Bits y ∷ []) s w fit p = p
 perform_counted z m (Compare c signed) (Bits y ∷ (Bits x ∷ [])) s w fit p = work_counted (Is _) x y s w p

@@ -11,7 +11,7 @@ use Rattle.ang_host.specs.declared.answer.HostReply.{HostReply}
 use Rattle.ang_host.specs.declared.answer.HostReply.TheVariants.{Making, Asking}
 use Rattle.ang_meaning.specs.declared.slot.Slot.{Slot}
 use Rattle.ang_meaning.specs.declared.slot.Slot.TheVariants.{Bits, Script, Host}
-use Rattle.ang_meaning.specs.declared.host.HostType.{HostType}
+use Rattle.ang_meaning.specs.declared.host.HostValueType.{HostValueType}
 use Rattle.ang_meaning.specs.World.{World, ScriptRecord, with_inputs, Input, Room, Said, Tallied, Fresh, Tried, Yes, No, or_else, Ending, Inside, AtEnd, OfDriver, ending_of, refused_at, tally_told, tally_step, one_more, hold}
 use Rattle.ang_meaning.specs.Told.{Told}
 use Rattle.ang_meaning.specs.Counting.{count_of_object}
@@ -22,7 +22,7 @@ fault_in (Fine v w) = None
 fault_in (Fails f w) = Some f
 
 -- an answer that is not of the declared type, or not in its range
-abbrev pub IsBad : ℕ → HostType → HostReply → Type 0
+abbrev pub IsBad : ℕ → HostValueType → HostReply → Type 0
 IsBad d result (Making made) = ⊥
 IsBad d result (Asking Void) = is_void result ≡ false
 IsBad d result (Asking (Gave v)) = slot_of d result v ≡ None
@@ -45,7 +45,7 @@ bad_value None w e = refl
 bad_value (Some v) w e = absurd (let t : BadAnswer ≡ Tally = holding_no BadAnswer v (hold v w) e in let x : ⊥ = cc in x)
 
 -- `BadAnswer` comes only of an answer that is not of the declared type and range
-pub bad_answer : (d : ℕ) (result : HostType) (r : HostReply) (w : World) → fault_in (replied_by d result r w) ≡ Some BadAnswer → IsBad d result r
+pub bad_answer : (d : ℕ) (result : HostValueType) (r : HostReply) (w : World) → fault_in (replied_by d result r w) ≡ Some BadAnswer → IsBad d result r
 unfolding replied_by
 bad_answer d result (Making (MadeKey k)) w e = let x : ⊥ = cc in x
 bad_answer d result (Making MadeNothing) w e = let x : ⊥ = cc in x
@@ -67,7 +67,7 @@ value_no None w e = let x : ⊥ = cc in x
 value_no (Some v) w e = let t : NoObject ≡ Tally = holding_no NoObject v (hold v w) e in let x : ⊥ = cc in x
 
 -- `NoObject` comes only where a factory made none
-pub no_object : (d : ℕ) (result : HostType) (r : HostReply) (w : World) → fault_in (replied_by d result r w) ≡ Some NoObject → r ≡ Making MadeNothing
+pub no_object : (d : ℕ) (result : HostValueType) (r : HostReply) (w : World) → fault_in (replied_by d result r w) ≡ Some NoObject → r ≡ Making MadeNothing
 unfolding replied_by
 no_object d result (Making (MadeKey k)) w e = absurd (let x : ⊥ = cc in x)
 no_object d result (Making MadeNothing) w e = refl

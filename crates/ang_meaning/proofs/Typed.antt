@@ -9,11 +9,11 @@ use Rattle.ang_kinds.specs.declared.fault.Fault.TheVariants.{Null, Tally}
 use Rattle.ang_meaning.specs.declared.slot.Slot.{Slot}
 use Rattle.ang_meaning.specs.declared.slot.Slot.TheVariants.{Bits, Script, Host}
 use Rattle.ang_meaning.specs.declared.operation.Operation.{Operation}
-use Rattle.ang_meaning.specs.declared.operation.Operation.TheVariants.{Work, Compare, Convert, Negate, Complement, Not, Same, GlobalGet, GlobalSet, GlobalChange, FieldGet, FieldSet, FieldChange, Cast}
-use Rattle.ang_meaning.specs.declared.operation.Change.{Change}
-use Rattle.ang_meaning.specs.Numbers.{Worked, Is, Cannot, Changed, Into, Never, worked, changed}
+use Rattle.ang_meaning.specs.declared.operation.Operation.TheVariants.{Binary, Compare, Convert, Negate, Complement, Not, Same, GlobalGet, GlobalSet, GlobalChange, FieldGet, FieldSet, FieldChange, Cast}
+use Rattle.ang_meaning.specs.declared.operation.Update.{Update}
+use Rattle.ang_meaning.specs.Numbers.{Worked, Is, Cannot, Changed, Into, Never, binary_result, changed}
 use Rattle.ang_meaning.specs.World.{World, ScriptRecord, ScriptObjects, Input, Room, Said, Tallied, Fresh, with_inputs, Tried, Yes, No, Ending, Inside, AtEnd, OfDriver, ending_of, refused_at, tally_told, tally_step, or_else, hold, raised_at, script_raised, one_more, Lowered, Gone, Kept, one_less, lowered_at, script_lowered, each_given, script_given, given, give}
-use Rattle.ang_meaning.specs.Setting.{Setting, class_in}
+use Rattle.ang_meaning.specs.Environment.{Environment, class_in}
 use Rattle.ang_meaning.specs.Hosts.{Done, Fine, Fails, holding}
 use Rattle.ang_meaning.specs.Perform.{perform, work_done, change_of, global_or, stored_global, changed_global, field_of, field_or, is_lower, may_take, stored_field, changed_field, gives_up, is_under}
 use Rattle.ang_meaning.specs.Results.{local_at, local_set}
@@ -35,7 +35,7 @@ pub record Owners : Type 0 where
   pub owner : ℕ → ℕ
   pub fields : ℕ → ℕ → List SlotType
 
-module _ (z : Setting) (t : Owners) where
+module _ (z : Environment) (t : Owners) where
   -- A place of module m that has this type may hold the value. It says nothing of a number that names no object: counts say that there is none such.
   abbrev pub HasType : ScriptObjects → ℕ → SlotType → Slot → Type 0
   HasType os m Number (Bits n) = Unit {0}
@@ -187,7 +187,7 @@ IsHere w v = (k : ℕ) → v ≡ Script (Some k) → (p : ScriptRecord) × (map.
 
 -- ---- types stay
 
-module _ (z : Setting) (t : Owners) where
+module _ (z : Environment) (t : Owners) where
   under_same : (m c : ℕ) (o p : ScriptRecord) → o.class ≡ p.class → is_under z m c (Some o) ≡ true → is_under z m c (Some p) ≡ true
   under_same m c o p e h = subst (λ k. is_under z m c (Some (record p { class = k })) ≡ true) e (subst (λ k. is_under z m c (Some (record p { class = k })) ≡ true) refl h)
 
@@ -287,15 +287,15 @@ here_of v s w c k e = here_at (map.get w.objects k) ((first_there (Script (Some 
 -- ---- misfits
 
 -- What an operation does where a misfit has this fault. With `Null` it is `perform`, for the operations that ask no host.
-abbrev pub change_or : Fault → Change → Slot → Slot → Changed
+abbrev pub change_or : Fault → Update → Slot → Slot → Changed
 change_or f c (Bits x) (Bits y) = changed c x y
 change_or f c (Bits x) (Script k) = Never f
 change_or f c (Bits x) (Host d k) = Never f
 change_or f c (Script j) v = Never f
 change_or f c (Host d j) v = Never f
 
-unfoldable pub perform_or : Fault → Setting → ℕ → Operation → List Slot → World → Done
-perform_or f z m (Work a p) (Bits y ∷ Bits x ∷ []) w = work_done (worked a p x y) w
+unfoldable pub perform_or : Fault → Environment → ℕ → Operation → List Slot → World → Done
+perform_or f z m (Binary a p) (Bits y ∷ Bits x ∷ []) w = work_done (binary_result a p x y) w
 perform_or f z m (GlobalGet g) [] w = holding (global_or m g (Bits 0) w) w
 perform_or f z m (GlobalSet g) (v ∷ []) w = or_else (hold v w) (Fails Tally) (stored_global m g v)
 perform_or f z m (GlobalChange g c) (v ∷ []) w = changed_global m g (change_or f c (global_or m g (Bits 0) w) v) w
@@ -309,8 +309,8 @@ perform_or f z m (FieldChange i c) (Script (Some n) ∷ v ∷ []) w =
     gives_up (Script (Some n) ∷ []) (changed_field n i (change_or f c (field_or n i (Bits 0) w) v) w)
 perform_or f z m _ _ w = Fails f w
 
-module _ (z : Setting) (t : Owners) (f : Fault) (m : ℕ) where
-  change_fits : (os : ScriptObjects) (c : Change) (x y : Slot) → HasType z t os m Number x → HasType z t os m Number y → change_or f c x y ≡ change_of c x y
+module _ (z : Environment) (t : Owners) (f : Fault) (m : ℕ) where
+  change_fits : (os : ScriptObjects) (c : Update) (x y : Slot) → HasType z t os m Number x → HasType z t os m Number y → change_or f c x y ≡ change_of c x y
   unfolding change_of
   change_fits os c (Bits a) (Bits b) h k = refl
   change_fits os c (Bits a) (Script j) h k = absurd k
@@ -318,7 +318,7 @@ module _ (z : Setting) (t : Owners) (f : Fault) (m : ℕ) where
   change_fits os c (Script j) y h k = absurd h
   change_fits os c (Host d j) y h k = absurd h
 
-  pub work_fits : (a : _) (p : _) (x y : Slot) (w : World) → HasType z t w.objects m Number x → HasType z t w.objects m Number y → perform_or f z m (Work a p) (y ∷ x ∷ []) w ≡ perform z m (Work a p) (y ∷ x ∷ []) w
+  pub work_fits : (a : _) (p : _) (x y : Slot) (w : World) → HasType z t w.objects m Number x → HasType z t w.objects m Number y → perform_or f z m (Binary a p) (y ∷ x ∷ []) w ≡ perform z m (Binary a p) (y ∷ x ∷ []) w
   unfolding perform perform_or
   work_fits a p (Bits x) (Bits y) w h k = refl
   work_fits a p (Bits x) (Script j) w h k = absurd k
@@ -349,7 +349,7 @@ module _ (z : Setting) (t : Owners) (f : Fault) (m : ℕ) where
   set_fits c i ty (Host d k) v w a h r e q here there = absurd r
 
   -- a field that is a number is changed
-  pub change_fits_field : (c i : ℕ) (ch : Change) (o v : Slot) (w : World) → AreClasses z t → AreTyped z t w.objects → HasType z t w.objects m (Family c) o → slice_get (t.fields m c) i ≡ Some Number → HasType z t w.objects m Number v
+  pub change_fits_field : (c i : ℕ) (ch : Update) (o v : Slot) (w : World) → AreClasses z t → AreTyped z t w.objects → HasType z t w.objects m (Family c) o → slice_get (t.fields m c) i ≡ Some Number → HasType z t w.objects m Number v
       → IsHere w o → perform_or f z m (FieldChange i ch) (o ∷ v ∷ []) w ≡ perform z m (FieldChange i ch) (o ∷ v ∷ []) w
   unfolding perform perform_or
   change_fits_field c i ch (Bits n) v w a h r e q here = absurd r
@@ -362,7 +362,7 @@ module _ (z : Setting) (t : Owners) (f : Fault) (m : ℕ) where
 
 -- ---- what operations give
 
-module _ (z : Setting) (t : Owners) (m : ℕ) where
+module _ (z : Environment) (t : Owners) (m : ℕ) where
   -- a value of the type, or a fault; the objects that are left were there
   abbrev pub DoneTyped : SlotType → World → Done → Type 0
   DoneTyped ty w (Fine v u) = HasType z t u.objects m ty v × AreKept w.objects u.objects
@@ -388,9 +388,9 @@ module _ (z : Setting) (t : Owners) (m : ℕ) where
   work_done_typed (Is n) w = (tt, kept_same w.objects)
   work_done_typed (Cannot x) w = kept_same w.objects
 
-  pub work_typed : (a : _) (p : _) (x y : Slot) (w : World) → HasType z t w.objects m Number x → HasType z t w.objects m Number y → DoneTyped Number w (perform z m (Work a p) (y ∷ x ∷ []) w)
+  pub work_typed : (a : _) (p : _) (x y : Slot) (w : World) → HasType z t w.objects m Number x → HasType z t w.objects m Number y → DoneTyped Number w (perform z m (Binary a p) (y ∷ x ∷ []) w)
   unfolding perform
-  work_typed a p (Bits x) (Bits y) w h k = work_done_typed (worked a p x y) w
+  work_typed a p (Bits x) (Bits y) w h k = work_done_typed (binary_result a p x y) w
   work_typed a p (Bits x) (Script j) w h k = absurd k
   work_typed a p (Bits x) (Host d j) w h k = absurd k
   work_typed a p (Script i) y w h k = absurd h

@@ -7,48 +7,48 @@ use Rattle.ang_kinds.specs.declared.fault.Fault.TheVariants.{DivideByZero, Divid
 use Rattle.ang_meaning.specs.declared.operation.Arithmetic.TheVariants.{Add, Divide, Remainder, And, ShiftLeft, ShiftRight, ShiftSigned}
 use Rattle.ang_meaning.specs.declared.operation.Comparison.TheVariants.{Less}
 use Rattle.ang_meaning.specs.declared.slot.Slot.TheVariants.{Script, Host}
-use Rattle.ang_meaning.specs.Setting.{is_null}
+use Rattle.ang_meaning.specs.Environment.{is_null}
 use Rattle.ang_meaning.specs.Perform.{is_same}
-use Rattle.ang_meaning.specs.Numbers.{Is, Cannot, worked, converted, negated, complemented, holds_of, Into, changed}
+use Rattle.ang_meaning.specs.Numbers.{Is, Cannot, binary_result, converted, negated, complemented, holds_of, Into, changed}
 
 -- 64 bits that stand for -n
 abbrev minus : ℕ → ℕ
 minus n = 2 ^ 64 - n
 
 -- -8 >> 1 fills zeros into 32 bits, and -8 >>> 1 copies the sign
-zeros : worked ShiftRight I32 (minus 8) 1 ≡ Is 2147483644
-unfolding worked int_wrap
+zeros : binary_result ShiftRight I32 (minus 8) 1 ≡ Is 2147483644
+unfolding binary_result int_wrap
 zeros = refl
 
-sign : worked ShiftSigned I32 (minus 8) 1 ≡ Is (minus 4)
-unfolding worked int_wrap
+sign : binary_result ShiftSigned I32 (minus 8) 1 ≡ Is (minus 4)
+unfolding binary_result int_wrap
 sign = refl
 
 -- the least `int` divided by -1, and the same in 64 bits
-least_int : worked Divide I32 (minus 2147483648) (minus 1) ≡ Cannot DivideOverflow
-unfolding worked int_wrap
+least_int : binary_result Divide I32 (minus 2147483648) (minus 1) ≡ Cannot DivideOverflow
+unfolding binary_result int_wrap
 least_int = refl
 
-wide : worked Divide I64 (minus 2147483648) (minus 1) ≡ Is 2147483648
-unfolding worked int_wrap
+wide : binary_result Divide I64 (minus 2147483648) (minus 1) ≡ Is 2147483648
+unfolding binary_result int_wrap
 wide = refl
 
 -- division truncates toward zero, and the remainder has the sign of the first
-toward_zero : worked Divide I32 (minus 7) 2 ≡ Is (minus 3)
-unfolding worked int_wrap
+toward_zero : binary_result Divide I32 (minus 7) 2 ≡ Is (minus 3)
+unfolding binary_result int_wrap
 toward_zero = refl
 
-rest : worked Remainder I32 (minus 7) 2 ≡ Is (minus 1)
-unfolding worked int_wrap
+rest : binary_result Remainder I32 (minus 7) 2 ≡ Is (minus 1)
+unfolding binary_result int_wrap
 rest = refl
 
-by_zero : worked Remainder U64 7 0 ≡ Cannot DivideByZero
-unfolding worked int_wrap
+by_zero : binary_result Remainder U64 7 0 ≡ Cannot DivideByZero
+unfolding binary_result int_wrap
 by_zero = refl
 
 -- uint8 255 and one more is 0; 200 as int8 is -56
 up : changed (record { work = Add; at = I32; to = U8; old = false }) 255 1 ≡ Into 0 0
-unfolding changed worked int_wrap
+unfolding changed binary_result int_wrap
 up = refl
 
 narrow : converted I8 200 ≡ minus 56
@@ -56,13 +56,13 @@ unfolding int_wrap
 narrow = refl
 
 -- 0 + -56
-sum : worked Add I32 0 (minus 56) ≡ Is (minus 56)
-unfolding worked int_wrap
+sum : binary_result Add I32 0 (minus 56) ≡ Is (minus 56)
+unfolding binary_result int_wrap
 sum = refl
 
 -- 6 & 3, then compared with 2
-both : worked And I32 6 3 ≡ Is 2
-unfolding worked
+both : binary_result And I32 6 3 ≡ Is 2
+unfolding binary_result
 both = refl
 
 -- unary minus of an unsigned number wraps; -1 is below 0 only as a signed number
@@ -83,8 +83,8 @@ unfolding holds_of
 more = refl
 
 -- a shift's count is taken modulo the width
-count : worked ShiftLeft I32 1 33 ≡ Is 2
-unfolding worked int_wrap
+count : binary_result ShiftLeft I32 1 33 ≡ Is 2
+unfolding binary_result int_wrap
 count = refl
 
 -- null is null, whatever the types of the handles; keys of two drivers are never one object

@@ -16,11 +16,11 @@ use Rattle.ang_host.specs.declared.event.Role.{Role}
 use Rattle.ang_host.specs.declared.event.Role.TheVariants.{Making as MakingRole, Calling as CallingRole, Property as PropertyRole}
 use Rattle.ang_meaning.specs.declared.slot.Slot.{Slot}
 use Rattle.ang_meaning.specs.declared.slot.Slot.TheVariants.{Bits, Script, Host}
-use Rattle.ang_meaning.specs.declared.host.HostType.{HostType}
-use Rattle.ang_meaning.specs.declared.host.HostType.TheVariants.{Nothing, Plain, Handle}
+use Rattle.ang_meaning.specs.declared.host.HostValueType.{HostValueType}
+use Rattle.ang_meaning.specs.declared.host.HostValueType.TheVariants.{Nothing, Plain, Handle}
 use Rattle.ang_meaning.specs.Numbers.{is_signed, width_of, number, bits_of, least}
 use Rattle.ang_meaning.specs.World.{World, Input, Said, or_else, memory_step, one_more, hold}
-use Rattle.ang_meaning.specs.Setting.{Setting, use_at}
+use Rattle.ang_meaning.specs.Environment.{Environment, use_at}
 
 -- a strict operation: a value and what is left, or a fault
 pub data Done : Type 0 where
@@ -44,12 +44,12 @@ plain_value U32 n = Uint n
 plain_value U64 n = Uint n
 
 -- a slot as it is handed to driver d, where its declared type is this; what is not of the type goes as the null key
-abbrev pub value_of : ℕ → HostType → Slot → Value
+abbrev pub value_of : ℕ → HostValueType → Slot → Value
 value_of d (Plain p) (Bits n) = plain_value p n
 value_of d Handle (Host e (Some k)) = if nat_eq d e then Key (Some k) else Key None
 value_of d _ _ = Key None
 
-abbrev pub values_of : ℕ → List HostType → List Slot → List Value
+abbrev pub values_of : ℕ → List HostValueType → List Slot → List Value
 values_of d [] vs = []
 values_of d (ty ∷ types) [] = []
 values_of d (ty ∷ types) (v ∷ vs) = value_of d ty v ∷ values_of d types vs
@@ -76,7 +76,7 @@ if_within true n = Some (Bits n)
 if_within false n = None
 
 -- What a driver's value of a declared type is in a slot; none where it is not of that type or not in its range. There is one null, whatever the type.
-unfoldable pub slot_of : ℕ → HostType → Value → Option Slot
+unfoldable pub slot_of : ℕ → HostValueType → Value → Option Slot
 slot_of d (Plain p) (Int z) = if_within (is_signed p && is_within p z) (bits_of p z)
 slot_of d (Plain TruthType) (Truth b) = Some (Bits (if b then 1 else 0))
 slot_of d (Plain p) (Uint n) = if_within (is_unsigned p && nat_lt n (2 ^ width_of p)) n
@@ -89,13 +89,13 @@ accepted None w = Fails BadAnswer w
 accepted (Some v) w = holding v w
 
 -- whether the declared result is void
-abbrev pub is_void : HostType → Bool
+abbrev pub is_void : HostValueType → Bool
 is_void Nothing = true
 is_void (Plain p) = false
 is_void Handle = false
 
 -- what a driver's reply gives to the script; a made object has its first place already
-unfoldable pub replied_by : ℕ → HostType → HostReply → World → Done
+unfoldable pub replied_by : ℕ → HostValueType → HostReply → World → Done
 replied_by d result (Making (MadeKey k)) w = Fine (Host d (Some k)) (one_more (Host d (Some k)) w)
 replied_by d result (Making MadeNothing) w = Fails NoObject w
 replied_by d result (Making (MadeFault n)) w = Fails (HostFault n) w
@@ -117,7 +117,7 @@ is_reply_to (PropertyRole f) (Making made) = false
 is_reply_to (PropertyRole f) (Asking answer) = true
 
 -- One host call: the event is listed, whatever the reply says. A reply of another kind is none to this host call, and is left as an input of another sort is.
-abbrev pub asked_from : Setting → ℕ → EntityNo → Option ℕ → List Value → HostType → List Input → World → Done
+abbrev pub asked_from : Environment → ℕ → EntityNo → Option ℕ → List Value → HostValueType → List Input → World → Done
 asked_from z m e object args result (Said reply ∷ rest) w =
     if is_reply_to (use_at z m e).role reply
     then (replied_by (use_at z m e).driver result reply
@@ -126,5 +126,5 @@ asked_from z m e object args result (Said reply ∷ rest) w =
 asked_from z m e object args result _ w = Fails Memory w
 
 -- A host call of entity e for module m: memory for its event first, and then the driver's reply.
-unfoldable pub asked : Setting → ℕ → EntityNo → Option ℕ → List Value → HostType → World → Done
+unfoldable pub asked : Environment → ℕ → EntityNo → Option ℕ → List Value → HostValueType → World → Done
 asked z m e object args result w = or_else (memory_step w) (Fails Memory) (λ u. asked_from z m e object args result u.inputs u)

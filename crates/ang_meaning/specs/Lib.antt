@@ -1,6 +1,6 @@
 pub mod Numbers
 pub mod World
-pub mod Setting
+pub mod Environment
 pub mod Hosts
 pub mod Perform
 pub mod Results

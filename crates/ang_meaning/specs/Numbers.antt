@@ -9,7 +9,7 @@ use Rattle.ang_meaning.specs.declared.operation.Arithmetic.{Arithmetic}
 use Rattle.ang_meaning.specs.declared.operation.Arithmetic.TheVariants.{Add, Subtract, Multiply, Divide, Remainder, And, Or, Xor, ShiftLeft, ShiftRight, ShiftSigned}
 use Rattle.ang_meaning.specs.declared.operation.Comparison.{Comparison}
 use Rattle.ang_meaning.specs.declared.operation.Comparison.TheVariants.{Equal, Unequal, Less, LessEqual, Greater, GreaterEqual}
-use Rattle.ang_meaning.specs.declared.operation.Change.{Change}
+use Rattle.ang_meaning.specs.declared.operation.Update.{Update}
 
 abbrev pub is_signed : Primitive → Bool
 is_signed I8 = true
@@ -88,18 +88,18 @@ divided p x (negsuc (suc n)) result = Is (bits_of p result)
 
 -- A binary operator in a type. A shift's count is taken modulo the width; `>>` fills zeros into the type's bits, and `>>>` divides by the power of 2,
 -- rounding down, which copies the sign.
-unfoldable pub worked : Arithmetic → Primitive → ℕ → ℕ → Worked
-worked Add p x y = Is (bits_of p (number_of p x +ℤ number_of p y))
-worked Subtract p x y = Is (bits_of p (number_of p x -ℤ number_of p y))
-worked Multiply p x y = Is (bits_of p (number_of p x *ℤ number_of p y))
-worked Divide p x y = divided p (number_of p x) (number_of p y) (int_div (number_of p x) (number_of p y))
-worked Remainder p x y = divided p (number_of p x) (number_of p y) (int_rem (number_of p x) (number_of p y))
-worked And p x y = Is (bit_and x y)
-worked Or p x y = Is (bit_or x y)
-worked Xor p x y = Is (bit_xor x y)
-worked ShiftLeft p x y = Is (bits_of p (pos (x * 2 ^ (y % width_of p))))
-worked ShiftRight p x y = Is (bits_of p (pos (x % 2 ^ width_of p / 2 ^ (y % width_of p))))
-worked ShiftSigned p x y = Is (bits_of p (int_div_euclid (number_of p x) (pos (2 ^ (y % width_of p)))))
+unfoldable pub binary_result : Arithmetic → Primitive → ℕ → ℕ → Worked
+binary_result Add p x y = Is (bits_of p (number_of p x +ℤ number_of p y))
+binary_result Subtract p x y = Is (bits_of p (number_of p x -ℤ number_of p y))
+binary_result Multiply p x y = Is (bits_of p (number_of p x *ℤ number_of p y))
+binary_result Divide p x y = divided p (number_of p x) (number_of p y) (int_div (number_of p x) (number_of p y))
+binary_result Remainder p x y = divided p (number_of p x) (number_of p y) (int_rem (number_of p x) (number_of p y))
+binary_result And p x y = Is (bit_and x y)
+binary_result Or p x y = Is (bit_or x y)
+binary_result Xor p x y = Is (bit_xor x y)
+binary_result ShiftLeft p x y = Is (bits_of p (pos (x * 2 ^ (y % width_of p))))
+binary_result ShiftRight p x y = Is (bits_of p (pos (x % 2 ^ width_of p / 2 ^ (y % width_of p))))
+binary_result ShiftSigned p x y = Is (bits_of p (int_div_euclid (number_of p x) (pos (2 ^ (y % width_of p)))))
 
 -- 1 where it holds, and else 0
 abbrev pub truth : Bool → ℕ
@@ -133,10 +133,10 @@ pub data Changed : Type 0 where
   Into : (stored given : ℕ) → Changed
   Never : Fault → Changed
 
-abbrev pub changed_to : Change → ℕ → Worked → Changed
+abbrev pub changed_to : Update → ℕ → Worked → Changed
 changed_to c x (Cannot f) = Never f
 changed_to c x (Is n) = Into (converted c.to n) (if c.old then x else converted c.to n)
 
 -- a variable's value x changed by y
-unfoldable pub changed : Change → ℕ → ℕ → Changed
-changed c x y = changed_to c x (worked c.work c.at (converted c.at x) y)
+unfoldable pub changed : Update → ℕ → ℕ → Changed
+changed c x y = changed_to c x (binary_result c.work c.at (converted c.at x) y)

@@ -6,7 +6,7 @@ use Rattle.ang_kinds.specs.declared.fault.Fault.{Fault}
 use Rattle.ang_kinds.specs.declared.fault.Fault.TheVariants.{Null, Budget, Depth, Memory, Tally}
 use Rattle.ang_meaning.specs.declared.slot.Slot.{Slot}
 use Rattle.ang_meaning.specs.declared.slot.Slot.TheVariants.{Bits, Script, Host}
-use Rattle.ang_meaning.specs.declared.operation.Change.{Change}
+use Rattle.ang_meaning.specs.declared.operation.Update.{Update}
 use Rattle.ang_meaning.specs.declared.routine.Routine.{Routine}
 use Rattle.ang_meaning.specs.declared.routine.Callee.{Callee}
 use Rattle.ang_meaning.specs.declared.routine.Passing.{Passing}
@@ -17,7 +17,7 @@ use Rattle.ang_meaning.specs.declared.routine.Spot.TheVariants.{Local, Global, F
 use Rattle.ang_kinds.specs.declared.primitive.Primitive.{Primitive}
 use Rattle.ang_meaning.specs.Numbers.{Changed, Into, Never, converted}
 use Rattle.ang_meaning.specs.World.{World, or_else, hold, give, give_all, memory_step}
-use Rattle.ang_meaning.specs.Setting.{Setting, Found, Enters, Misses, target, has_objects, params_of}
+use Rattle.ang_meaning.specs.Environment.{Environment, Found, Enters, Misses, target, has_objects, params_of}
 use Rattle.ang_meaning.specs.Hosts.{Done, Fine, Fails}
 use Rattle.ang_meaning.specs.Perform.{change_of, global_or, global_put, member_or, member_put}
 
@@ -114,7 +114,7 @@ altered_by i (Into stored given) v ls t w = Gave (Bits given) (local_set ls i (B
 altered_by i (Never f) v ls t w = Failed f ls (give v w)
 
 -- a local changed by an operand
-abbrev pub altered : ℕ → Change → Evaluated → Evaluated
+abbrev pub altered : ℕ → Update → Evaluated → Evaluated
 altered i c (Gave v ls t w) = altered_by i (change_of c (local_at ls i) v) v ls t w
 altered i c (Failed f ls w) = Failed f ls w
 
@@ -231,11 +231,11 @@ finished ps (Broken ls t w) = yielded ps (Bits 0) ls t w
 finished ps (Continued ls t w) = yielded ps (Bits 0) ls t w
 
 -- whether a body with d callers may call
-abbrev pub may_nest : Setting → ℕ → Bool
+abbrev pub may_nest : Environment → ℕ → Bool
 may_nest z d = ltb (d + 1) z.nesting
 
 -- what stands before a body: objects where they are wanted, the nesting, the tick, and memory for its frame
-abbrev pub entered : Setting → Calls → ℕ → Routine → List Slot → ℕ → World → Reply
+abbrev pub entered : Environment → Calls → ℕ → Routine → List Slot → ℕ → World → Reply
 entered z body d g vs t w =
     if has_objects (params_of z g) vs
     then (if may_nest z d
@@ -243,10 +243,10 @@ entered z body d g vs t w =
     else (Raises Depth (give_all vs w)))
     else (Raises Null (give_all vs w))
 
-abbrev pub found_entered : Setting → Calls → ℕ → Found → List Slot → ℕ → World → Reply
+abbrev pub found_entered : Environment → Calls → ℕ → Found → List Slot → ℕ → World → Reply
 found_entered z body d (Enters g) vs t w = entered z body d g vs t w
 found_entered z body d (Misses f) vs t w = Raises f (give_all vs w)
 
 -- a call from module m, where d counts the callers of its caller
-abbrev pub enter : Setting → Calls → ℕ → ℕ → Callee → List Slot → ℕ → World → Reply
+abbrev pub enter : Environment → Calls → ℕ → ℕ → Callee → List Slot → ℕ → World → Reply
 enter z body d m c vs t w = found_entered z body d (target z m c vs w) vs t w

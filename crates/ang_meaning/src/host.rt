@@ -4,7 +4,7 @@ use ang_kinds::{List, Prim};
 
 /// How a declared type of a host entity passes between the script and its driver.
 #[derive(Clone, Copy)]
-pub enum HostType {
+pub enum HostValueType {
     /// `void`
     Nothing,
     /// A primitive type.
@@ -23,9 +23,9 @@ pub struct HostUse {
     /// Whether it is asked of an object: a method, or a type's property.
     pub member: bool,
     /// The parameters' types, in order; of a property none.
-    pub params: List<HostType>,
+    pub params: List<HostValueType>,
     /// The result's type, or the property's.
-    pub result: HostType,
+    pub result: HostValueType,
     /// Whether it is a property that is declared `const`, which is never written.
     pub read_only: bool,
 }

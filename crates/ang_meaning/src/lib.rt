@@ -11,7 +11,7 @@ mod routine;
 mod slot;
 
 pub use class::{Class, ValueKind};
-pub use host::{HostType, HostUse};
-pub use operation::{Arithmetic, Change, Comparison, Operation};
+pub use host::{HostValueType, HostUse};
+pub use operation::{Arithmetic, Update, Comparison, Operation};
 pub use routine::{Callee, Passing, Routine, Spot, Target};
 pub use slot::Slot;

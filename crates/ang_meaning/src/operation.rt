@@ -48,7 +48,7 @@ pub enum Comparison {
 /// How a variable changes by an operand, in a compound assignment, `++` or `--`: its value is brought
 /// to the type `at`, the operation is done there, and the result is brought to the variable's type `to`.
 #[derive(Clone, Copy, PartialEq, Eq)]
-pub struct Change {
+pub struct Update {
     /// The operation, whose first operand is the variable.
     pub work: Arithmetic,
     /// The type in which it is done.
@@ -63,7 +63,7 @@ pub struct Change {
 #[derive(Clone, Copy)]
 pub enum Operation {
     /// A binary operator on integers, done in that type.
-    Work(Arithmetic, Prim),
+    Binary(Arithmetic, Prim),
     /// A comparison; the flag says whether the numbers are of a signed type.
     Compare(Comparison, bool),
     /// The conversion of a number to that type, which keeps the low bits.
@@ -81,7 +81,7 @@ pub enum Operation {
     /// Stores the operand into a global of the running module; its value is what was stored.
     GlobalSet(usize),
     /// Changes a global of the running module by the operand.
-    GlobalChange(usize, Change),
+    GlobalChange(usize, Update),
     /// Calls a host function or method, or makes a host object by a factory. A receiver is the first
     /// operand.
     Ask(EntityNo),
@@ -91,7 +91,7 @@ pub enum Operation {
     /// the object. Its value is what was stored.
     Write(EntityNo),
     /// Changes a host property by the first operand; of a type's property the second is the object.
-    Alter(EntityNo, Change),
+    Alter(EntityNo, Update),
     /// Makes an object of a class of the running module, whose fields are 0, false or null.
     Make(usize),
     /// The value of a field of the operand.
@@ -100,7 +100,7 @@ pub enum Operation {
     /// stored.
     FieldSet(usize),
     /// Changes a field of the second operand, which is the object, by the first.
-    FieldChange(usize, Change),
+    FieldChange(usize, Update),
     /// The operand, where it is null or its class stands under that class, and else null.
     Cast(usize),
 }

@@ -9,7 +9,7 @@ use Rattle.ang_names_graph.specs.Graphs.{above, leads, numbers_below}
 use Rattle.ang_names_known.specs.declared.names.Family.{Family}
 use Rattle.ang_names_known.specs.Items.{each_after, list_or}
 use Rattle.ang_names_known.specs.Spaces.{AreFamilies, Space}
-use Rattle.ang_names_listed.specs.declared.listed.Declared.{Declared}
+use Rattle.ang_names_listed.specs.declared.listed.ListedDeclaration.{ListedDeclaration}
 use Rattle.ang_names_listed.specs.Declarations.{Declaring, declarations_of, families_of}
 use Rattle.ang_names_listed.specs.Taken.{is_first_above, is_taken, name_refusal, name_refusals}
 use Rattle.ang_types.specs.Refusals.{plain_refusal}
@@ -49,7 +49,7 @@ above_small : (e : ℕ → ℕ → Bool) (n i : ℕ) → All (λ k. k < n) (abov
 unfolding above
 above_small e n i = numbers_small (leads e n i) n n (omega arith)
 
-module _ (E : Space) (ds : List Declared) where
+module _ (E : Space) (ds : List ListedDeclaration) where
   abbrev made : List Declaring → Declaring → List Family
   made = families_after E (families_of ds) (signatures_of E (families_of ds)) (length (functions_in E ds))
 
@@ -73,7 +73,7 @@ module _ (E : Space) (ds : List Declared) where
     above = all_above (length (families_in E ds)) (sym family_number);
   }
 
-pub are_families : (V : RegistrationList) (ds : List Declared) → length (families_of ds) ≤ 256 → AreFamilies (names_of V ds).families
+pub are_families : (V : RegistrationList) (ds : List ListedDeclaration) → length (families_of ds) ≤ 256 → AreFamilies (names_of V ds).families
 unfolding names_of
 are_families V ds le = families_are (space_of_declared V ds) ds le
 
@@ -81,12 +81,12 @@ first_empty : {A : Type 0} (xs ys : List A) → list_or xs ys ≡ [] → xs ≡ 
 first_empty [] ys e = refl
 first_empty (x ∷ xs) ys e = cc
 
-pub few_where_none : (V : RegistrationList) (all : List Declared) (found : List Refused) → found ≡ name_refusals V all → found ≡ []
+pub few_where_none : (V : RegistrationList) (all : List ListedDeclaration) (found : List Refused) → found ≡ name_refusals V all → found ≡ []
     → length (families_of all) ≤ 256
 few_where_none V all found e empty = listed.names_are_few V all (sym e ∙ empty)
 
 -- the phases decide
-pub phases_decide : (V : RegistrationList) (ss : List Source) (all : List Declared) → all ≡ declarations_of ss → first_refusals V all all_phases ≡ refusals_of V ss
+pub phases_decide : (V : RegistrationList) (ss : List Source) (all : List ListedDeclaration) → all ≡ declarations_of ss → first_refusals V all all_phases ≡ refusals_of V ss
 unfolding refusals_of
 phases_decide V ss all l = ap (λ ds. first_refusals V ds all_phases) l
 
@@ -118,7 +118,7 @@ choice_silent true above e f = one_silent (plain_refusal e) refl
 choice_silent false true e f = one_silent (plain_refusal f) refl
 choice_silent false false e f = λ k d l. absurd (omega (arith, l))
 
-names_silent : (V : RegistrationList) (all : List Declared) → All AsksNothing (name_refusals V all)
+names_silent : (V : RegistrationList) (all : List ListedDeclaration) → All AsksNothing (name_refusals V all)
 unfolding name_refusals name_refusal
 names_silent V all =
     holds_of_all (λ before d. option_to_list (name_refusal V before d)) AsksNothing
@@ -134,7 +134,7 @@ either_list : {A : Type 0} (xs ys : List A) → (list_or xs ys ≡ xs) ⊎ ((xs 
 either_list [] ys = inr (refl, refl)
 either_list (x ∷ xs) ys = inl refl
 
-abbrev later_phases : RegistrationList → List Declared → List Refused
+abbrev later_phases : RegistrationList → List ListedDeclaration → List Refused
 later_phases V ds = first_refusals V ds (phase.Types ∷ phase.Ancestors ∷ phase.Heirs ∷ phase.Cycles ∷ [])
 
 pub asked_families : (V : RegistrationList) (ss : List Source) (r : Refused) → Contains (refusals_of V ss) r → IsSome r.asks → length (families_of (declarations_of ss)) ≤ 256

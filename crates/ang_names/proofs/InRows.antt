@@ -7,7 +7,7 @@ use Rattle.std.proofs.lemmas.List.{append-nil, drop_more}
 use Rattle.ang_names_known.specs.declared.names.Family.{Family}
 use Rattle.ang_names_known.specs.declared.names.Field.{Field}
 use Rattle.ang_names_known.specs.declared.names.FoundField.{FoundField}
-use Rattle.ang_names_known.specs.declared.names.Method.{Method}
+use Rattle.ang_names_known.specs.declared.names.ScriptMethod.{ScriptMethod}
 use Rattle.ang_names_known.specs.Lookup.{Numbered, declares_method, families_at, fields_in, field_named, field_of, first_field, has_member, has_method, kin_of, own_field, with_family}
 use Rattle.ang_names.specs.Heirs.{cannot_override}
 use Rattle.ang_names.specs.ByNumber.{methods_in}
@@ -153,21 +153,21 @@ left : (a b : Bool) → (a && b) ≡ true → a ≡ true
 left true b h = refl
 left false b h = cc
 
-pub first_in_slot_row : (ms : List Method) (slot : ℕ) → first_at (λ (m : Method). m.slot == slot) ms (slot_row slot ms) ≡ find (λ (m : Method). m.slot == slot) ms
+pub first_in_slot_row : (ms : List ScriptMethod) (slot : ℕ) → first_at (λ (m : ScriptMethod). m.slot == slot) ms (slot_row slot ms) ≡ find (λ (m : ScriptMethod). m.slot == slot) ms
 unfolding slot_row
-first_in_slot_row ms slot = first_in_row (λ (m : Method). m.slot == slot) (λ (m : Method). m.slot == slot) ms (λ m h. h)
+first_in_slot_row ms slot = first_in_row (λ (m : ScriptMethod). m.slot == slot) (λ (m : ScriptMethod). m.slot == slot) ms (λ m h. h)
 
-pub slot_in_row : (ms : List Method) (slot : ℕ)
-    → list_any (λ n. is_at (λ (m : Method). m.slot == slot) (slice_get ms n)) (slot_row slot ms) ≡ list_any (λ (m : Method). m.slot == slot) ms
+pub slot_in_row : (ms : List ScriptMethod) (slot : ℕ)
+    → list_any (λ n. is_at (λ (m : ScriptMethod). m.slot == slot) (slice_get ms n)) (slot_row slot ms) ≡ list_any (λ (m : ScriptMethod). m.slot == slot) ms
 unfolding slot_row
-slot_in_row ms slot = any_in_row (λ (m : Method). m.slot == slot) (λ (m : Method). m.slot == slot) ms (λ m h. h)
+slot_in_row ms slot = any_in_row (λ (m : ScriptMethod). m.slot == slot) (λ (m : ScriptMethod). m.slot == slot) ms (λ m h. h)
 
-pub refused_in_row : (ms : List Method) (m : Method)
-    → list_any (λ n. is_at (λ (x : Method). x.slot == m.slot && cannot_override m x) (slice_get ms n)) (slot_row m.slot ms)
-    ≡ list_any (λ (x : Method). x.slot == m.slot && cannot_override m x) ms
+pub refused_in_row : (ms : List ScriptMethod) (m : ScriptMethod)
+    → list_any (λ n. is_at (λ (x : ScriptMethod). x.slot == m.slot && cannot_override m x) (slice_get ms n)) (slot_row m.slot ms)
+    ≡ list_any (λ (x : ScriptMethod). x.slot == m.slot && cannot_override m x) ms
 unfolding slot_row
 refused_in_row ms m =
-    any_in_row (λ (x : Method). x.slot == m.slot && cannot_override m x) (λ (x : Method). x.slot == m.slot) ms
+    any_in_row (λ (x : ScriptMethod). x.slot == m.slot && cannot_override m x) (λ (x : ScriptMethod). x.slot == m.slot) ms
     (λ x h. left (x.slot == m.slot) (cannot_override m x) h)
 
 -- ---- names
@@ -177,12 +177,12 @@ pub field_in_row : (xs : List Field) (name : List ℕ)
 unfolding field_row
 field_in_row xs name = any_in_row (λ (x : Field). bytes_eq x.name name) (λ (x : Field). bytes_eq x.name name) xs (λ x h. h)
 
-pub method_in_row : (ms : List Method) (name : List ℕ)
-    → list_any (λ n. is_at (λ (x : Method). bytes_eq x.function.name name) (slice_get ms n)) (method_row name ms)
-    ≡ list_any (λ (x : Method). bytes_eq x.function.name name) ms
+pub method_in_row : (ms : List ScriptMethod) (name : List ℕ)
+    → list_any (λ n. is_at (λ (x : ScriptMethod). bytes_eq x.function.name name) (slice_get ms n)) (method_row name ms)
+    ≡ list_any (λ (x : ScriptMethod). bytes_eq x.function.name name) ms
 unfolding method_row
 method_in_row ms name =
-    any_in_row (λ (x : Method). bytes_eq x.function.name name) (λ (x : Method). bytes_eq x.function.name name) ms (λ x h. h)
+    any_in_row (λ (x : ScriptMethod). bytes_eq x.function.name name) (λ (x : ScriptMethod). bytes_eq x.function.name name) ms (λ x h. h)
 
 -- ---- members of the families of some numbers
 

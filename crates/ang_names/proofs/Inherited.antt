@@ -6,7 +6,7 @@ use Rattle.std.proofs.Common.{refl, sym, ap, ◌∙◌}
 use Rattle.std.proofs.lemmas.List.{drop_more}
 use Rattle.std.proofs.lemmas.List.Folds.{find-append, list_any-append}
 use Rattle.ang_names_known.specs.declared.names.Family.{Family}
-use Rattle.ang_names_known.specs.declared.names.Method.{Method}
+use Rattle.ang_names_known.specs.declared.names.ScriptMethod.{ScriptMethod}
 use Rattle.ang_names_known.specs.Items.{is_empty}
 use Rattle.ang_names_known.specs.Lookup as lookup
 use Rattle.ang_names_known.specs.Lookup.{Numbered, FoundMethod, families_at, kin_of, method_in_slot, methods_of, stands_in, with_family}
@@ -47,35 +47,35 @@ interfaces_at fs (n ∷ ns) =
 
 -- ---- the method in a slot
 
-found_if : (b : Bool) (n : ℕ) (m : Method) (o : Option FoundMethod) (p : Option Method) → p ≡ option_map (λ (x : FoundMethod). x.method) o
+found_if : (b : Bool) (n : ℕ) (m : ScriptMethod) (o : Option FoundMethod) (p : Option ScriptMethod) → p ≡ option_map (λ (x : FoundMethod). x.method) o
     → (if b then Some m else p) ≡ option_map (λ (x : FoundMethod). x.method) (if b then Some (record { owner = n; method = m }) else o)
 found_if true n m o p h = refl
 found_if false n m o p h = h
 
-found_in : (slot n : ℕ) (ms : List Method)
-    → find (λ (m : Method). m.slot == slot) ms ≡ option_map (λ (x : FoundMethod). x.method) (find (stands_in slot) (map (λ (x : Method). record { owner = n; method = x }) ms))
+found_in : (slot n : ℕ) (ms : List ScriptMethod)
+    → find (λ (m : ScriptMethod). m.slot == slot) ms ≡ option_map (λ (x : FoundMethod). x.method) (find (stands_in slot) (map (λ (x : ScriptMethod). record { owner = n; method = x }) ms))
 found_in slot n [] = refl
-found_in slot n (m ∷ ms) = found_if (m.slot == slot) n m (find (stands_in slot) (map (λ (x : Method). record { owner = n; method = x }) ms)) _ (found_in slot n ms)
+found_in slot n (m ∷ ms) = found_if (m.slot == slot) n m (find (stands_in slot) (map (λ (x : ScriptMethod). record { owner = n; method = x }) ms)) _ (found_in slot n ms)
 
-found_or : (o p : Option FoundMethod) (a b : Option Method) → a ≡ option_map (λ (x : FoundMethod). x.method) o → b ≡ option_map (λ (x : FoundMethod). x.method) p
+found_or : (o p : Option FoundMethod) (a b : Option ScriptMethod) → a ≡ option_map (λ (x : FoundMethod). x.method) o → b ≡ option_map (λ (x : FoundMethod). x.method) p
     → option_or a b ≡ option_map (λ (x : FoundMethod). x.method) (option_or o p)
 found_or None p a b h k = ap (λ x. option_or x b) h ∙ k
 found_or (Some x) p a b h k = ap (λ y. option_or y b) h
 
 found_of : (slot : ℕ) (fs : List Numbered)
-    → find (λ (m : Method). m.slot == slot) (flat_map (λ (b : Numbered). b.1.methods) fs)
+    → find (λ (m : ScriptMethod). m.slot == slot) (flat_map (λ (b : Numbered). b.1.methods) fs)
     ≡ option_map (λ (x : FoundMethod). x.method) (find (stands_in slot) (flat_map lookup.methods_in fs))
 found_of slot [] = refl
 found_of slot (f ∷ fs) =
-    find-append (λ (m : Method). m.slot == slot) f.1.methods (flat_map (λ (b : Numbered). b.1.methods) fs)
+    find-append (λ (m : ScriptMethod). m.slot == slot) f.1.methods (flat_map (λ (b : Numbered). b.1.methods) fs)
     ∙ found_or (find (stands_in slot) (lookup.methods_in f)) (find (stands_in slot) (flat_map lookup.methods_in fs)) _ _ (found_in slot f.0 f.1.methods) (found_of slot fs)
     ∙ ap (option_map (λ (x : FoundMethod). x.method)) (sym (find-append (stands_in slot) (lookup.methods_in f) (flat_map lookup.methods_in fs)))
 
 pub slot_known : (fs : List Family) (c slot : ℕ) (ns : List ℕ) → families_at fs ns ≡ kin_of fs c
-    → find (λ (m : Method). m.slot == slot) (methods_at fs ns) ≡ option_map (λ (x : FoundMethod). x.method) (method_in_slot fs c slot)
+    → find (λ (m : ScriptMethod). m.slot == slot) (methods_at fs ns) ≡ option_map (λ (x : FoundMethod). x.method) (method_in_slot fs c slot)
 unfolding method_in_slot methods_of
 slot_known fs c slot ns h =
-    ap (find (λ (m : Method). m.slot == slot)) (sym (methods_known fs ns)) ∙ found_of slot (families_at fs ns)
+    ap (find (λ (m : ScriptMethod). m.slot == slot)) (sym (methods_known fs ns)) ∙ found_of slot (families_at fs ns)
     ∙ ap (λ ks. option_map (λ (x : FoundMethod). x.method) (find (stands_in slot) (flat_map lookup.methods_in ks))) h
 
 -- ---- what is inherited in a slot
@@ -101,14 +101,14 @@ any_filtered p q [] = refl
 any_filtered p q (x ∷ xs) = any_kept (p x) (list_any (λ y. p y && q y) xs) q x (filter p xs) (any_filtered p q xs)
 
 pub none_in_slot : (fs : List Family) (ns : List ℕ) (slot : ℕ)
-    → is_empty (in_slot slot (methods_at fs ns)) ≡ not (list_any (λ n. list_any (λ (x : Method). x.slot == slot) (methods_in (slice_get fs n))) ns)
+    → is_empty (in_slot slot (methods_at fs ns)) ≡ not (list_any (λ n. list_any (λ (x : ScriptMethod). x.slot == slot) (methods_in (slice_get fs n))) ns)
 none_in_slot fs ns slot =
-    none_filtered (λ (x : Method). x.slot == slot) (methods_at fs ns)
-    ∙ ap not (any_in_lists (λ (x : Method). x.slot == slot) (λ n. methods_in (slice_get fs n)) ns)
+    none_filtered (λ (x : ScriptMethod). x.slot == slot) (methods_at fs ns)
+    ∙ ap not (any_in_lists (λ (x : ScriptMethod). x.slot == slot) (λ n. methods_in (slice_get fs n)) ns)
 
-pub refused_in_slot : (fs : List Family) (ns : List ℕ) (m : Method)
+pub refused_in_slot : (fs : List Family) (ns : List ℕ) (m : ScriptMethod)
     → list_any (cannot_override m) (in_slot m.slot (methods_at fs ns))
-    ≡ list_any (λ n. list_any (λ (x : Method). x.slot == m.slot && cannot_override m x) (methods_in (slice_get fs n))) ns
+    ≡ list_any (λ n. list_any (λ (x : ScriptMethod). x.slot == m.slot && cannot_override m x) (methods_in (slice_get fs n))) ns
 refused_in_slot fs ns m =
-    any_filtered (λ (x : Method). x.slot == m.slot) (cannot_override m) (methods_at fs ns)
-    ∙ any_in_lists (λ (x : Method). x.slot == m.slot && cannot_override m x) (λ n. methods_in (slice_get fs n)) ns
+    any_filtered (λ (x : ScriptMethod). x.slot == m.slot) (cannot_override m) (methods_at fs ns)
+    ∙ any_in_lists (λ (x : ScriptMethod). x.slot == m.slot && cannot_override m x) (λ n. methods_in (slice_get fs n)) ns

@@ -8,9 +8,9 @@ use Rattle.ang_types.specs.declared.asks.Refused.{Refused}
 use Rattle.ang_view.specs.Registration.{RegistrationList}
 use Rattle.ang_names_known.specs.Items.{each_after}
 use Rattle.ang_names_known.specs.Spaces.{Space}
-use Rattle.ang_names_listed.specs.declared.listed.Declared.{Declared}
+use Rattle.ang_names_listed.specs.declared.listed.ListedDeclaration.{ListedDeclaration}
 use Rattle.ang_names_listed.specs.Declarations.{Declaring, families_of, family_name}
-use Rattle.ang_names_listed.specs.declared.listed.Shape.{Shape}
+use Rattle.ang_names_listed.specs.declared.listed.ListedFamily.{ListedFamily}
 use Rattle.ang_names_classes.specs.Hierarchy.{place_of}
 use Rattle.ang_names_classes.specs.Resolved.{space_of_declared}
 use Rattle.ang_names.specs.Phases as phase
@@ -18,12 +18,12 @@ use Rattle.ang_names.specs.Refusals.{part_refusal, shape_named, type_refusal}
 use Rattle.ang_names.specs.Phases.{refusals}
 
 -- what the family of this number declares
-abbrev pub shape_at : List Declaring → Option ℕ → Option Shape
+abbrev pub shape_at : List Declaring → Option ℕ → Option ListedFamily
 shape_at all None = None
 shape_at all (Some n) = option_map (λ (d : Declaring). d.shape) (slice_get all n)
 
 module _ (all : List Declaring) (name : List ℕ) where
-  by_name : (b : Bool) (d : Declaring) (n : ℕ) (later : Option Shape) (place : Option ℕ) → slice_get all n ≡ Some d → shape_at all place ≡ later
+  by_name : (b : Bool) (d : Declaring) (n : ℕ) (later : Option ListedFamily) (place : Option ℕ) → slice_get all n ≡ Some d → shape_at all place ≡ later
       → shape_at all (if b then Some n else place) ≡ (if b then Some d.shape else later)
   by_name true d n later place is e = ap (option_map (λ (x : Declaring). x.shape)) is
   by_name false d n later place is e = e
@@ -46,15 +46,15 @@ module _ (all : List Declaring) (name : List ℕ) where
 pub no_shape : (all : List Declaring) (name : List ℕ) → place_of all name ≡ None → None ≡ shape_named all name
 no_shape all name e = ap (shape_at all) (sym e) ∙ shape_placed all name
 
-pub shape_there : (all : List Declaring) (name : List ℕ) (n : ℕ) (s : Option Shape) → place_of all name ≡ Some n
+pub shape_there : (all : List Declaring) (name : List ℕ) (n : ℕ) (s : Option ListedFamily) → place_of all name ≡ Some n
     → s ≡ option_map (λ (d : Declaring). d.shape) (slice_get all n) → s ≡ shape_named all name
 shape_there all name n s e is = is ∙ ap (shape_at all) (sym e) ∙ shape_placed all name
 
 -- what is refused of the types of declarations in a space, of all of which these are a part
-abbrev pub refused_after : Space → List Declaring → List Declared → List Declared → List Refused
-refused_after E families before ds = each_after (λ (front : List Declared) (d : Declared). option_to_list (part_refusal E families d d.part)) before ds
+abbrev pub refused_after : Space → List Declaring → List ListedDeclaration → List ListedDeclaration → List Refused
+refused_after E families before ds = each_after (λ (front : List ListedDeclaration) (d : ListedDeclaration). option_to_list (part_refusal E families d d.part)) before ds
 
-pub second_phase : (V : RegistrationList) (all : List Declared) (E : Space) (families : List Declaring) → E ≡ space_of_declared V all
+pub second_phase : (V : RegistrationList) (all : List ListedDeclaration) (E : Space) (families : List Declaring) → E ≡ space_of_declared V all
     → families ≡ families_of all → refused_after E families [] all ≡ refusals V all phase.Types
 unfolding type_refusal
 second_phase V all E families e f = λ i. refused_after (e i) (f i) [] all

@@ -16,7 +16,7 @@ use Rattle.ang_names_graph.specs.Graphs.{leads}
 use Rattle.ang_names_known.specs.declared.names.Family.{Family}
 use Rattle.ang_names_known.specs.Spaces.{Space}
 use Rattle.ang_names_known.specs.Items.{each_after, list_or}
-use Rattle.ang_names_listed.specs.declared.listed.Declared.{Declared}
+use Rattle.ang_names_listed.specs.declared.listed.ListedDeclaration.{ListedDeclaration}
 use Rattle.ang_names_listed.specs.declared.listed.Part.{Part}
 use Rattle.ang_names_listed.specs.declared.listed.Part.TheVariants as part
 use Rattle.ang_names_listed.specs.Declarations.{Declaring, declaring_by, declaring_of, families_of}
@@ -53,7 +53,7 @@ module _ (p : ℕ → Family → Option Refused) (fs : List Family) where
   none_more n more none = let up : n ≡ n + more = omega (arith, none) in ap (λ k. refused_from p k (drop k fs)) up
 
   -- what is refused of a declaration, and of the families after it
-  one_declared : (before : List Declared) (d : Declared) (q : Part) (n more later : ℕ) (rest : List Refused) → n ≡ length (families_of before)
+  one_declared : (before : List ListedDeclaration) (d : ListedDeclaration) (q : Part) (n more later : ℕ) (rest : List Refused) → n ≡ length (families_of before)
       → more ≡ length (cons_option (declaring_by d q) []) → length fs ≡ n + more + later → refused_from p (n + more) (drop (n + more) fs) ≡ rest
       → refused_from p n (drop n fs) ≡ option_to_list (of_family p fs before q) ++ rest
   one_declared before d (part.Family s) n more later rest e one l h =
@@ -73,8 +73,8 @@ module _ (p : ℕ → Family → Option Refused) (fs : List Family) where
   one_counted None rest = omega arith
   one_counted (Some d) rest = omega arith
 
-  from_here : (before ds : List Declared) (n : ℕ) → n ≡ length (families_of before) → length fs ≡ n + length (families_of ds)
-      → refused_from p n (drop n fs) ≡ each_after (λ (front : List Declared) (d : Declared). option_to_list (of_family p fs front d.part)) before ds
+  from_here : (before ds : List ListedDeclaration) (n : ℕ) → n ≡ length (families_of before) → length fs ≡ n + length (families_of ds)
+      → refused_from p n (drop n fs) ≡ each_after (λ (front : List ListedDeclaration) (d : ListedDeclaration). option_to_list (of_family p fs front d.part)) before ds
   unfolding families_of
   from_here before [] n e l = ap (refused_from p n) (drop_all n fs (omega (arith, l)))
   from_here before (d ∷ ds) n e l =
@@ -89,7 +89,7 @@ none_before : 0 ≡ length (families_of [])
 unfolding families_of
 none_before = refl
 
-pub by_number : (p : ℕ → Family → Option Refused) (fs : List Family) (all : List Declared) → length fs ≡ length (families_of all)
+pub by_number : (p : ℕ → Family → Option Refused) (fs : List Family) (all : List ListedDeclaration) → length fs ≡ length (families_of all)
     → refused_from p 0 fs ≡ each_refused (λ before d. of_family p fs before d.part) all
 by_number p fs all e = from_here p fs [] all 0 none_before (e ∙ omega arith)
 
@@ -113,7 +113,7 @@ both_lists a b c x y z e f g =
     ap (λ r. list_or r (list_or b c)) e ∙ ap (λ r. list_or x (list_or r c)) f ∙ ap (λ r. list_or x (list_or y r)) (g ∙ sym (last_list z))
 
 -- by tables of the families, the phases over families refuse this
-refused_by : (V : RegistrationList) (all : List Declared) (t : Tables) (fs : List Family) → fs ≡ families V all
+refused_by : (V : RegistrationList) (all : List ListedDeclaration) (t : Tables) (fs : List Family) → fs ≡ families V all
     → AreTables (space_of_declared V all) (families_of all) t
     → heritage_refusals t.above.items t.reach.items fs ≡ first_refusals V all (phase.Ancestors ∷ phase.Heirs ∷ phase.Cycles ∷ [])
 refused_by V all t fs e s =
@@ -128,7 +128,7 @@ refused_by V all t fs e s =
     (ring_shown kind.Cyclic t.reach.items (length ds) (leads (holds E ds) (length ds)) (families V all) same s.reach
     ∙ by_number (cycle_refusal E ds) (families V all) all same))
 
-module _ (V : RegistrationList) (all : List Declared) (E : Space) (e : E ≡ space_of_declared V all) where
+module _ (V : RegistrationList) (all : List ListedDeclaration) (E : Space) (e : E ≡ space_of_declared V all) where
   -- there are as many as are declared
   many : (fs : List Family) → fs ≡ families_in E all → length fs ≡ length (families_of all)
   many fs h = ap length h ∙ family_number E all
@@ -145,6 +145,6 @@ module _ (V : RegistrationList) (all : List Declared) (E : Space) (e : E ≡ spa
   heritage_refused fs t h s = refused_by V all t fs (h ∙ ap (λ F. families_in F all) e) (subst (λ F. AreTables F (families_of all) t) e s)
 
 -- where the second phase refuses nothing, those after it decide
-pub types_passed : (V : RegistrationList) (all : List Declared) (found : List Refused) → found ≡ refusals V all phase.Types → found ≡ []
+pub types_passed : (V : RegistrationList) (all : List ListedDeclaration) (found : List Refused) → found ≡ refusals V all phase.Types → found ≡ []
     → first_refusals V all (phase.Ancestors ∷ phase.Heirs ∷ phase.Cycles ∷ []) ≡ first_refusals V all (phase.Types ∷ phase.Ancestors ∷ phase.Heirs ∷ phase.Cycles ∷ [])
 types_passed V all found e none = ap (λ rs. list_or rs (first_refusals V all (phase.Ancestors ∷ phase.Heirs ∷ phase.Cycles ∷ []))) (sym none ∙ e)

@@ -18,7 +18,7 @@ use Rattle.ang_names_known.specs.declared.names.ScriptFunction.{ScriptFunction}
 use Rattle.ang_names_known.specs.declared.names.Written.{Written}
 use Rattle.ang_names_known.specs.Items.{each_after, list_or}
 use Rattle.ang_names_known.specs.Spaces.{Space}
-use Rattle.ang_names_listed.specs.declared.listed.Declared.{Declared}
+use Rattle.ang_names_listed.specs.declared.listed.ListedDeclaration.{ListedDeclaration}
 use Rattle.ang_names_listed.specs.Declarations.{Declaring, declarations_of, families_of, family_name}
 use Rattle.ang_names_listed.specs.Taken.{each_refused}
 use Rattle.ang_names_classes.specs.Headings.{signatures_of}
@@ -124,13 +124,13 @@ not_named why true f e = cc
 not_named why false f e = refl
 
 -- a phase over families that refuses none says nothing of any
-passes : (p : ℕ → Family → Option Refused) (fs : List Family) (all : List Declared) → length fs ≡ length (families_of all)
+passes : (p : ℕ → Family → Option Refused) (fs : List Family) (all : List ListedDeclaration) → length fs ≡ length (families_of all)
     → each_refused (λ before d. of_family p fs before d.part) all ≡ [] → (c : ℕ) → c < length (families_of all) → (f : Family) × (p c f ≡ None)
 passes p fs all same e c lt =
     let there = some_at fs c (subst (λ n. c < n) (sym same) lt) in
     (there.0, each_passes p fs 0 c c there.0 (by_number p fs all same ∙ e) (omega arith) there.1)
 
-module _ (V : RegistrationList) (all : List Declared) (e : first_refusals V all all_phases ≡ []) where
+module _ (V : RegistrationList) (all : List ListedDeclaration) (e : first_refusals V all all_phases ≡ []) where
   later_pass : first_refusals V all (phase.Ancestors ∷ phase.Heirs ∷ phase.Cycles ∷ []) ≡ []
   later_pass =
       let types = (both_empty (refusals V all phase.Names) (first_refusals V all (phase.Types ∷ phase.Ancestors ∷ phase.Heirs ∷ phase.Cycles ∷ [])) e).1 in
@@ -173,7 +173,7 @@ module _ (E : Space) (ds : List Declaring) (methods : List (ScriptFunction × Bo
       let longer = length-append before (x ∷ []) in
       rank_after (before ++ x ∷ []) xs k n f (omega (arith, s, longer)) there
 
-rank_is : (V : RegistrationList) (all : List Declared) (c : ℕ) (f : Family) → slice_get (names_of V all).families c ≡ Some f
+rank_is : (V : RegistrationList) (all : List ListedDeclaration) (c : ℕ) (f : Family) → slice_get (names_of V all).families c ≡ Some f
     → f.rank ≡ reach_of (holds (space_of_declared V all) (families_of all)) (length (families_of all)) c
 unfolding names_of families_in
 rank_is V all c f there =

@@ -6,7 +6,7 @@ use Rattle.ang_kinds.specs.declared.error.ErrorKind.TheVariants as kind
 use Rattle.ang_types.specs.declared.asks.Refused.{Refused}
 use Rattle.ang_names_graph.specs.Tables.{edges_of}
 use Rattle.ang_names_known.specs.declared.names.Family.{Family}
-use Rattle.ang_names_known.specs.declared.names.Method.{Method}
+use Rattle.ang_names_known.specs.declared.names.ScriptMethod.{ScriptMethod}
 use Rattle.ang_names_known.specs.Items.{list_or}
 use Rattle.ang_names.specs.Heirs.{at_name, heir_refusal}
 
@@ -28,18 +28,18 @@ heirs_or_cycles reached fs =
 abbrev pub heritage_refusals : List Bool → List Bool → List Family → List Refused
 heritage_refusals over reached fs = list_or (refused_from (ring_refusal kind.BadBase over (length fs)) 0 fs) (heirs_or_cycles reached fs)
 
-abbrev pub methods_in : Option Family → List Method
+abbrev pub methods_in : Option Family → List ScriptMethod
 methods_in None = []
 methods_in (Some f) = f.methods
 
 -- the methods of the families of these numbers, in their order
-abbrev pub methods_at : List Family → List ℕ → List Method
+abbrev pub methods_at : List Family → List ℕ → List ScriptMethod
 methods_at fs ns = flat_map (λ n. methods_in (slice_get fs n)) ns
 
-abbrev pub interface_methods : Option Family → List Method
+abbrev pub interface_methods : Option Family → List ScriptMethod
 interface_methods None = []
 interface_methods (Some f) = if f.is_class then [] else f.methods
 
 -- the methods of those of them that are interfaces
-abbrev pub interface_methods_at : List Family → List ℕ → List Method
+abbrev pub interface_methods_at : List Family → List ℕ → List ScriptMethod
 interface_methods_at fs ns = flat_map (λ n. interface_methods (slice_get fs n)) ns

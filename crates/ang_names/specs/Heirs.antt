@@ -12,7 +12,7 @@ use Rattle.ang_names_known.specs.declared.names.Access.{Access}
 use Rattle.ang_names_known.specs.declared.names.Access.TheVariants as access
 use Rattle.ang_names_known.specs.declared.names.Family.{Family}
 use Rattle.ang_names_known.specs.declared.names.Field.{Field}
-use Rattle.ang_names_known.specs.declared.names.Method.{Method}
+use Rattle.ang_names_known.specs.declared.names.ScriptMethod.{ScriptMethod}
 use Rattle.ang_names_known.specs.Lookup.{Numbered, FoundMethod, families_at, method_in_slot, has_member, same_type}
 use Rattle.ang_names_known.specs.Items.{is_empty}
 use Rattle.ang_names_known.specs.Spaces.{Space}
@@ -41,23 +41,23 @@ is_public access.Protected = false
 is_public access.Private = false
 
 -- a public method of the same result type stands in the slot, if one does
-abbrev pub is_met_by : Method → Option FoundMethod → Bool
+abbrev pub is_met_by : ScriptMethod → Option FoundMethod → Bool
 is_met_by wanted None = false
 is_met_by wanted (Some x) = is_public x.method.access && same_type x.method.function.result.ty wanted.function.result.ty
 
 -- family c has the method, own or inherited
-abbrev pub has_public_method : List Family → ℕ → Method → Bool
+abbrev pub has_public_method : List Family → ℕ → ScriptMethod → Bool
 has_public_method fs c wanted = is_met_by wanted (method_in_slot fs c wanted.slot)
 
 -- the methods of interfaces among these families
-abbrev pub of_interfaces : List Numbered → List Method
+abbrev pub of_interfaces : List Numbered → List ScriptMethod
 of_interfaces fs = flat_map (λ (f : Numbered). if f.1.is_class then [] else f.1.methods) fs
 
 -- the first of these methods that family c does not have
-abbrev pub missing_among : List Family → ℕ → List Method → Option Method
-missing_among fs c ms = find (λ (m : Method). not (has_public_method fs c m)) ms
+abbrev pub missing_among : List Family → ℕ → List ScriptMethod → Option ScriptMethod
+missing_among fs c ms = find (λ (m : ScriptMethod). not (has_public_method fs c m)) ms
 
-abbrev pub missing_by : Family → Option Method → Option Refused
+abbrev pub missing_by : Family → Option ScriptMethod → Option Refused
 missing_by f None = None
 missing_by f (Some m) = Some (refused_at kind.MissingMethod f.place m.function.name)
 
@@ -76,21 +76,21 @@ inherits fs (Some b) name = has_member fs b name
 abbrev pub field_refusal : List Family → Family → Field → Option Refused
 field_refusal fs f x = if inherits fs f.base x.name then Some (refused_at kind.Duplicate x.place x.name) else None
 
-abbrev pub in_slot : ℕ → List Method → List Method
-in_slot slot ms = filter (λ (x : Method). x.slot == slot) ms
+abbrev pub in_slot : ℕ → List ScriptMethod → List ScriptMethod
+in_slot slot ms = filter (λ (x : ScriptMethod). x.slot == slot) ms
 
 -- all methods of the base classes that the method would stand for, the nearest first
-abbrev pub overridden : List Family → Family → Method → List Method
+abbrev pub overridden : List Family → Family → ScriptMethod → List ScriptMethod
 overridden fs f m = in_slot m.slot (flat_map (λ (b : Numbered). b.1.methods) (families_at fs (drop 1 f.order)))
 
-abbrev pub cannot_override : Method → Method → Bool
+abbrev pub cannot_override : ScriptMethod → ScriptMethod → Bool
 cannot_override m old = old.is_final || not (same_type old.function.result.ty m.function.result.ty)
 
 -- `override` of nothing, or a method stands for one that is final or has another result type
-abbrev pub is_bad_override : Method → List Method → Bool
+abbrev pub is_bad_override : ScriptMethod → List ScriptMethod → Bool
 is_bad_override m olds = (m.is_override && is_empty olds) || list_any (cannot_override m) olds
 
-abbrev pub method_refusal : List Family → Family → Method → Option Refused
+abbrev pub method_refusal : List Family → Family → ScriptMethod → Option Refused
 method_refusal fs f m =
     if is_bad_override m (overridden fs f m) then Some (refused_at kind.BadOverride m.function.place m.function.name) else None
 

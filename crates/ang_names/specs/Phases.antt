@@ -8,7 +8,7 @@ use Rattle.ang_view.specs.Registration.{RegistrationList}
 use Rattle.ang_types.specs.declared.asks.Refused.{Refused}
 use Rattle.ang_names_known.specs.declared.names.Family.{Family}
 use Rattle.ang_names_known.specs.Items.{list_or}
-use Rattle.ang_names_listed.specs.declared.listed.Declared.{Declared}
+use Rattle.ang_names_listed.specs.declared.listed.ListedDeclaration.{ListedDeclaration}
 use Rattle.ang_names_listed.specs.declared.listed.Part.{Part}
 use Rattle.ang_names_listed.specs.declared.listed.Part.TheVariants as part
 use Rattle.ang_names_listed.specs.Declarations.{declarations_of, families_of}
@@ -38,19 +38,19 @@ with_number p c None = None
 with_number p c (Some f) = p c f
 
 -- what a phase says of a class or an interface; of any other declaration it says nothing
-abbrev pub of_family : (ℕ → Family → Option Refused) → List Family → List Declared → Part → Option Refused
+abbrev pub of_family : (ℕ → Family → Option Refused) → List Family → List ListedDeclaration → Part → Option Refused
 of_family p fs before (part.Family s) = let c = length (families_of before) in with_number p c (slice_get fs c)
 of_family p fs before (part.Function y ps) = None
 of_family p fs before (part.Import y ps) = None
 of_family p fs before (part.Global y) = None
 
 -- Among all declarations, over a view:
-module _ (V : RegistrationList) (all : List Declared) where
+module _ (V : RegistrationList) (all : List ListedDeclaration) where
   abbrev pub families : List Family
   families = families_in (space_of_declared V all) all
 
   -- why a phase refuses a declaration, after those before it
-  abbrev pub refusal : Phase → List Declared → Declared → Option Refused
+  abbrev pub refusal : Phase → List ListedDeclaration → ListedDeclaration → Option Refused
   refusal Names before d = name_refusal V before d
   refusal Types before d = type_refusal (space_of_declared V all) all d
   refusal Ancestors before d = of_family (ancestor_refusal (families_of all)) families before d.part

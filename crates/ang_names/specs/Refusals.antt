@@ -13,15 +13,15 @@ use Rattle.ang_tree.specs.declared.type_name.TypeName.{TypeName}
 use Rattle.ang_types.specs.declared.asks.Asks.TheVariants as asks
 use Rattle.ang_types.specs.declared.asks.Refused.{Refused}
 use Rattle.ang_names_listed.specs.declared.listed.Attributes.{Attributes}
-use Rattle.ang_names_listed.specs.declared.listed.Declared.{Declared}
-use Rattle.ang_names_listed.specs.declared.listed.Member.{Member}
+use Rattle.ang_names_listed.specs.declared.listed.ListedDeclaration.{ListedDeclaration}
+use Rattle.ang_names_listed.specs.declared.listed.ListedMember.{ListedMember}
 use Rattle.ang_names_listed.specs.declared.listed.MemberKind.{MemberKind}
 use Rattle.ang_names_listed.specs.declared.listed.MemberKind.TheVariants as member
 use Rattle.ang_names_listed.specs.declared.listed.Part.{Part}
 use Rattle.ang_names_listed.specs.declared.listed.Part.TheVariants as part
-use Rattle.ang_names_listed.specs.declared.listed.Shape.{Shape}
-use Rattle.ang_names_listed.specs.declared.role.Role.{Role}
-use Rattle.ang_names_listed.specs.declared.role.Role.TheVariants as role
+use Rattle.ang_names_listed.specs.declared.listed.ListedFamily.{ListedFamily}
+use Rattle.ang_names_listed.specs.declared.role.TypePosition.{TypePosition}
+use Rattle.ang_names_listed.specs.declared.role.TypePosition.TheVariants as role
 use Rattle.ang_names_known.specs.Spaces.{Space}
 use Rattle.ang_names_listed.specs.Declarations.{Declaring, families_of, family_name}
 use Rattle.ang_types.specs.Refusals.{plain_refusal}
@@ -55,7 +55,7 @@ abbrev pub most_parameters : ℕ
 most_parameters = 32
 
 -- the role of the result of an import, or of any other function
-abbrev pub result_role : Bool → Role
+abbrev pub result_role : Bool → TypePosition
 result_role true = role.ImportResult
 result_role false = role.Result
 
@@ -65,7 +65,7 @@ parameter_limit text name ps = refusal_if (nat_lt most_parameters (length ps)) k
 
 -- In the space of a build, in a section of these bytes:
 module _ (E : Space) (text : List ℕ) where
-  abbrev pub type_refusal_of : Role → TypeName → Option Refused
+  abbrev pub type_refusal_of : TypePosition → TypeName → Option Refused
   type_refusal_of r y = why_refused text y.name (type_in E r text y)
 
   -- the first refusal of a parameter, of an import's or of another function's
@@ -101,16 +101,16 @@ module _ (text : List ℕ) where
   excludes_member (member.Constructor ps) (member.Method z qs b) = false
   excludes_member (member.Constructor ps) (member.Constructor qs) = same_spellings text ps text qs
 
-  abbrev pub clashes_with_member : Member → Member → Bool
+  abbrev pub clashes_with_member : ListedMember → ListedMember → Bool
   clashes_with_member m earlier = bytes_eq (text_of text m.name) (text_of text earlier.name) && excludes_member m.kind earlier.kind
 
-  abbrev pub duplicate : List Member → Member → Option Refused
+  abbrev pub duplicate : List ListedMember → ListedMember → Option Refused
   duplicate before m = refusal_if (list_any (clashes_with_member m) before) kind.Duplicate text m.name
 
 -- In the space of a build, in a section of these bytes:
 module _ (E : Space) (text : List ℕ) where
   -- a member of the family of this name, after those before it: its type, its name, then its parameters
-  abbrev pub member_refusal : List ℕ → List Member → Member → MemberKind → Option Refused
+  abbrev pub member_refusal : List ℕ → List ListedMember → ListedMember → MemberKind → Option Refused
   member_refusal family before m (member.Field y) = option_or (type_refusal_of E text role.Field y) (duplicate text before m)
   member_refusal family before m (member.Method y ps a) =
       option_or (type_refusal_of E text role.Result y) (option_or (duplicate text before m) (parameter_list_refusal E text false m.name ps))
@@ -118,7 +118,7 @@ module _ (E : Space) (text : List ℕ) where
       option_or (refusal_if (not (bytes_eq (text_of text m.name) family)) kind.BadType text m.name)
       (option_or (duplicate text before m) (parameter_list_refusal E text false m.name ps))
 
-  abbrev pub members_refusal : List ℕ → List Member → List Member → Option Refused
+  abbrev pub members_refusal : List ℕ → List ListedMember → List ListedMember → Option Refused
   members_refusal family before [] = None
   members_refusal family before (m ∷ ms) = option_or (member_refusal family before m m.kind) (members_refusal family (before ++ m ∷ []) ms)
 
@@ -127,16 +127,16 @@ module _ (E : Space) (text : List ℕ) where
 abbrev pub most_members : ℕ
 most_members = 256
 
-abbrev pub shape_named : List Declaring → List ℕ → Option Shape
+abbrev pub shape_named : List Declaring → List ℕ → Option ListedFamily
 shape_named [] name = None
 shape_named (d ∷ ds) name = if bytes_eq (family_name d) name then Some d.shape else shape_named ds name
 
-abbrev pub names_class : Option Shape → Bool
+abbrev pub names_class : Option ListedFamily → Bool
 names_class None = false
 names_class (Some s) = s.is_class
 
 -- A name of no family, a second class, a `final` class, and a class as an interface's base.
-abbrev pub is_bad_base : Bool → Bool → Option Shape → Bool
+abbrev pub is_bad_base : Bool → Bool → Option ListedFamily → Bool
 is_bad_base is_class has_class None = true
 is_bad_base is_class has_class (Some s) = s.is_class && (not is_class || has_class || s.is_final)
 
@@ -152,20 +152,20 @@ module _ (families : List Declaring) (text : List ℕ) where
 -- ---- declarations
 
 -- too many members, at the name
-abbrev pub member_limit : Declared → Shape → Option Refused
+abbrev pub member_limit : ListedDeclaration → ListedFamily → Option Refused
 member_limit d s = refusal_if (nat_lt most_members (length s.members)) kind.Limit d.text d.name
 
 -- In the order of the text: how many members, the bases, the members.
-abbrev pub family_refusal : Space → List Declaring → Declared → Shape → Option Refused
+abbrev pub family_refusal : Space → List Declaring → ListedDeclaration → ListedFamily → Option Refused
 family_refusal E families d s =
     option_or (member_limit d s)
     (option_or (bases_refusal families d.text s.is_class false s.bases) (members_refusal E d.text (text_of d.text d.name) [] s.members))
 
-abbrev pub part_refusal : Space → List Declaring → Declared → Part → Option Refused
+abbrev pub part_refusal : Space → List Declaring → ListedDeclaration → Part → Option Refused
 part_refusal E families d (part.Family s) = family_refusal E families d s
 part_refusal E families d (part.Function y ps) = heading_refusal E d.text false d.name y ps
 part_refusal E families d (part.Import y ps) = heading_refusal E d.text true d.name y ps
 part_refusal E families d (part.Global y) = type_refusal_of E d.text role.Variable y
 
-unfoldable pub type_refusal : Space → List Declared → Declared → Option Refused
+unfoldable pub type_refusal : Space → List ListedDeclaration → ListedDeclaration → Option Refused
 type_refusal E all d = part_refusal E (families_of all) d d.part

@@ -5,7 +5,7 @@ use Rattle.std.specs.Option.{option_or}
 use Rattle.ang_index.specs.Rows.{Rows, items_at}
 use Rattle.ang_names_known.specs.declared.names.Family.{Family}
 use Rattle.ang_names_known.specs.declared.names.Field.{Field}
-use Rattle.ang_names_known.specs.declared.names.Method.{Method}
+use Rattle.ang_names_known.specs.declared.names.ScriptMethod.{ScriptMethod}
 use Rattle.ang_names_known.specs.Lookup.{fields_in}
 use Rattle.ang_names.specs.ByNumber.{methods_in}
 use Rattle.ang_names.specs.declared.indexed.MemberRows.{MemberRows}
@@ -16,21 +16,21 @@ places_from p n [] = []
 places_from p n (x ∷ xs) = if p x then n ∷ places_from p (n + 1) xs else places_from p (n + 1) xs
 
 -- the places of the methods of a slot
-unfoldable pub slot_row : ℕ → List Method → List ℕ
-slot_row slot ms = places_from (λ (m : Method). m.slot == slot) 0 ms
+unfoldable pub slot_row : ℕ → List ScriptMethod → List ℕ
+slot_row slot ms = places_from (λ (m : ScriptMethod). m.slot == slot) 0 ms
 
 -- the places of the fields of a name
 unfoldable pub field_row : List ℕ → List Field → List ℕ
 field_row name xs = places_from (λ (x : Field). bytes_eq x.name name) 0 xs
 
 -- the places of the methods of a name
-unfoldable pub method_row : List ℕ → List Method → List ℕ
-method_row name ms = places_from (λ (m : Method). bytes_eq m.function.name name) 0 ms
+unfoldable pub method_row : List ℕ → List ScriptMethod → List ℕ
+method_row name ms = places_from (λ (m : ScriptMethod). bytes_eq m.function.name name) 0 ms
 
 -- ---- as they are kept
 
 -- under each slot the places of its methods
-pub record HasSlots (ms : List Method) (rows : Rows ℕ) : Type 0 where
+pub record HasSlots (ms : List ScriptMethod) (rows : Rows ℕ) : Type 0 where
   pub places : (slot : ℕ) → items_at slot [] rows ≡ slot_row slot ms
 
 -- under each name the places of its fields
@@ -38,7 +38,7 @@ pub record HasFields (xs : List Field) (rows : Rows ℕ) : Type 0 where
   pub places : (name : List ℕ) → items_at 0 name rows ≡ field_row name xs
 
 -- under each name the places of its methods
-pub record HasMethods (ms : List Method) (rows : Rows ℕ) : Type 0 where
+pub record HasMethods (ms : List ScriptMethod) (rows : Rows ℕ) : Type 0 where
   pub places : (name : List ℕ) → items_at 0 name rows ≡ method_row name ms
 
 pub record HasMembers (f : Family) (r : MemberRows) : Type 0 where
@@ -88,4 +88,4 @@ first_at p xs (n ∷ ns) = option_or (passing p (slice_get xs n)) (first_at p xs
 abbrev pub declares : List ℕ → Option Family → Bool
 declares name o =
     list_any (λ (x : Field). bytes_eq x.name name) (fields_in o)
-    || list_any (λ (x : Method). bytes_eq x.function.name name) (methods_in o)
+    || list_any (λ (x : ScriptMethod). bytes_eq x.function.name name) (methods_in o)

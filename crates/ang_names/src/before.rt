@@ -5,7 +5,7 @@ ghost use Rattle.ang_names.specs.Before as spec;
 ghost use Rattle.ang_names.specs.Refusals.{clashes_with_member};
 
 use ang_index::Index;
-use ang_names_listed::{Member, text_at};
+use ang_names_listed::{ListedMember, text_at};
 use std::alloc::{AllocError, Global};
 use std::marker::Model;
 
@@ -16,7 +16,7 @@ const MEMBERS: u64 = 0;
 #[derive(Drop)]
 pub struct Before<'t, 'm, 'a> {
     text: &'t [u8],
-    items: &'m [Member<'a>],
+    items: &'m [ListedMember<'a>],
     places: Index<usize>,
 }
 
@@ -53,14 +53,14 @@ impl<'t, 'm, 'a> Before<'t, 'm, 'a> {
     }
 
     /// The members.
-    pub fn items(&self) -> &'m [Member<'a>]
+    pub fn items(&self) -> &'m [ListedMember<'a>]
         ensures same { result.now ≡ self.now.items }
     {
         self.items
     }
 
     /// The numbers of those that have this one's name. It takes no memory.
-    pub fn row(&self, member: &Member<'_>) -> &[usize]
+    pub fn row(&self, member: &ListedMember<'_>) -> &[usize]
         ensures all { list_any (spec.clashes_at self.now member.now) result.now
             ≡ list_any (clashes_with_member self.now.text member.now) self.now.items }
     {
@@ -73,8 +73,8 @@ impl<'t, 'm, 'a> Before<'t, 'm, 'a> {
     pub fn grow(
         &mut self,
         alloc: Global,
-        items: &'m [Member<'a>],
-        member: &Member<'a>,
+        items: &'m [ListedMember<'a>],
+        member: &ListedMember<'a>,
     ) -> Result<(), AllocError>
         requires one_more { items.now ≡ self.old.items ++ member.now ∷ [] }
         ensures text { OnOk result (self.new.text ≡ self.old.text) }

@@ -10,7 +10,7 @@ use crate::phases::{errors_in, refusals_over};
 use ang_kinds::{List, Unbuilt};
 use ang_names_classes::names_of;
 use ang_names_known::Names;
-use ang_names_listed::{Declared, declarations_of};
+use ang_names_listed::{ListedDeclaration, declarations_of};
 use ang_tree::Script;
 use ang_types::Refused;
 use ang_view::View;
@@ -33,7 +33,7 @@ fn declared_by<'a>(
     alloc: Global,
     view: &'a View,
     scripts: &[Script],
-    all: &[Declared<'a>],
+    all: &[ListedDeclaration<'a>],
 ) -> Result<Names, Unbuilt>
     requires listed { all.now ≡ listed.declarations_of (list_map source_of scripts.now) }
     ensures accepted { OnOk result (spec.refusals_of view.now (list_map source_of scripts.now)

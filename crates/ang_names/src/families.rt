@@ -3,10 +3,10 @@ ghost use Rattle.std.specs.Prelude.{◌≡◌, option_copied, option_map, slice_
 ghost use Rattle.ang_names.specs.Refusals as spec;
 
 use ang_names_classes::Placed;
-use ang_names_listed::{Declaring, Shape};
+use ang_names_listed::{Declaring, ListedFamily};
 
 /// What the class or interface of this number declares.
-fn shape_at<'l, 'a>(families: &[Declaring<'l, 'a>], number: usize) -> Option<&'l Shape<'a>>
+fn shape_at<'l, 'a>(families: &[Declaring<'l, 'a>], number: usize) -> Option<&'l ListedFamily<'a>>
     ensures exact { option_copied result
         ≡ option_map (λ d. d.shape) (slice_get families.now number) }
 {
@@ -18,7 +18,7 @@ fn shape_at<'l, 'a>(families: &[Declaring<'l, 'a>], number: usize) -> Option<&'l
 
 /// What the class or interface of this name declares, if there is one.
 #[tactic(auto, using(crate::proofs::Named::no_shape, crate::proofs::Named::shape_there))]
-fn shape_named<'l, 'a>(families: &Placed<'_, 'l, 'a>, name: &[u8]) -> Option<&'l Shape<'a>>
+fn shape_named<'l, 'a>(families: &Placed<'_, 'l, 'a>, name: &[u8]) -> Option<&'l ListedFamily<'a>>
     ensures exact { option_copied result ≡ spec.shape_named families.now name.now }
 {
     match families.place_of(name) {

@@ -8,7 +8,7 @@ use ang_kinds::ErrorKind;
 use ang_lex::Token;
 use ang_names_classes::parameter_role;
 use ang_names_known::Space;
-use ang_names_listed::{Role, error_at, type_in};
+use ang_names_listed::{TypePosition, error_at, type_in};
 use ang_tree::{Parameter, TypeName};
 use ang_types::{ArgType, Asks, Refused};
 use std::alloc::{AllocError, Global};
@@ -90,7 +90,7 @@ pub fn type_refusal_of(
     alloc: Global,
     space: &Space<'_>,
     text: &[u8],
-    role: Role,
+    role: TypePosition,
     declared: &TypeName,
 ) -> Result<Option<Refused>, AllocError>
     ensures exact { IfOk result
@@ -152,13 +152,13 @@ pub fn parameter_list_refusal(
     parameters_refusal(alloc, space, text, imported, params)
 }
 
-fn result_role(imported: bool) -> Role
+fn result_role(imported: bool) -> TypePosition
     ensures exact { result ≡ spec.result_role imported }
 {
     if imported {
-        Role::ImportResult
+        TypePosition::ImportResult
     } else {
-        Role::Result
+        TypePosition::Result
     }
 }
 

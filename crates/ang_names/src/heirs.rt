@@ -11,7 +11,7 @@ use crate::indexed::{Indexed, index_members};
 use crate::rings::refused_at;
 use ang_kinds::{ErrorKind, Place};
 use ang_names_graph::after_first;
-use ang_names_known::{Access, Family, Field, Method, same_type};
+use ang_names_known::{Access, Family, Field, ScriptMethod, same_type};
 use ang_names_listed::push_refused;
 use ang_types::Refused;
 use std::alloc::{AllocError, Global};
@@ -19,7 +19,7 @@ use std::alloc::{AllocError, Global};
 // ---- methods of interfaces
 
 /// The methods that a class or an interface declares itself.
-fn methods_of(families: &[Family], number: usize) -> &[Method]
+fn methods_of(families: &[Family], number: usize) -> &[ScriptMethod]
     ensures exact { result.now ≡ numbered.methods_in (slice_get families.now number) }
 {
     match families.get(number) {
@@ -29,7 +29,7 @@ fn methods_of(families: &[Family], number: usize) -> &[Method]
 }
 
 /// The methods that an interface declares itself; a class asks for none.
-fn interface_methods(families: &[Family], number: usize) -> &[Method]
+fn interface_methods(families: &[Family], number: usize) -> &[ScriptMethod]
     ensures exact { result.now ≡ numbered.interface_methods (slice_get families.now number) }
 {
     match families.get(number) {
@@ -45,7 +45,7 @@ fn interface_methods(families: &[Family], number: usize) -> &[Method]
 }
 
 /// The method of this slot among those of some methods that stand at these places.
-fn first_at<'m>(methods: &'m [Method], row: &[usize], slot: usize) -> Option<&'m Method>
+fn first_at<'m>(methods: &'m [ScriptMethod], row: &[usize], slot: usize) -> Option<&'m ScriptMethod>
     ensures exact { option_copied result
         ≡ rows.first_at (λ m. m.slot == slot) methods.now row.now }
 {
@@ -58,7 +58,7 @@ fn first_at<'m>(methods: &'m [Method], row: &[usize], slot: usize) -> Option<&'m
 }
 
 /// The method at this place, if it is of this slot.
-fn passing(methods: &[Method], place: usize, slot: usize) -> Option<&Method>
+fn passing(methods: &[ScriptMethod], place: usize, slot: usize) -> Option<&ScriptMethod>
     ensures exact { option_copied result
         ≡ rows.passing (λ m. m.slot == slot) (slice_get methods.now place) }
 {
@@ -75,7 +75,7 @@ fn passing(methods: &[Method], place: usize, slot: usize) -> Option<&Method>
 }
 
 /// The method of this slot that a class or an interface declares itself.
-fn in_slot<'f>(families: &'f Indexed<'_>, number: usize, slot: usize) -> Option<&'f Method>
+fn in_slot<'f>(families: &'f Indexed<'_>, number: usize, slot: usize) -> Option<&'f ScriptMethod>
     ensures exact { option_copied result ≡ find (λ m. m.slot == slot)
         (numbered.methods_in (slice_get families.now number)) }
 {
@@ -84,7 +84,7 @@ fn in_slot<'f>(families: &'f Indexed<'_>, number: usize, slot: usize) -> Option<
 }
 
 /// The first method in a slot, of those of these classes and interfaces in their order.
-fn first_in_slot<'f>(families: &'f Indexed<'_>, order: &[usize], slot: usize) -> Option<&'f Method>
+fn first_in_slot<'f>(families: &'f Indexed<'_>, order: &[usize], slot: usize) -> Option<&'f ScriptMethod>
     ensures exact { option_copied result
         ≡ find (λ m. m.slot == slot) (numbered.methods_at families.now order.now) }
 {
@@ -109,7 +109,7 @@ fn order_of(families: &[Family], number: usize) -> &[usize]
 }
 
 /// The method that a class has in a slot, own or inherited: the nearest one.
-fn method_in_slot<'f>(families: &'f Indexed<'_>, number: usize, slot: usize) -> Option<&'f Method>
+fn method_in_slot<'f>(families: &'f Indexed<'_>, number: usize, slot: usize) -> Option<&'f ScriptMethod>
     ensures exact { option_copied result
         ≡ option_map (λ x. x.method) (lookup.method_in_slot families.now number slot) }
 {
@@ -127,7 +127,7 @@ fn is_public(access: Access) -> bool
 }
 
 /// Whether a class has a method that an interface asks for, own or inherited.
-fn has_public_method(families: &Indexed<'_>, class: usize, wanted: &Method) -> bool
+fn has_public_method(families: &Indexed<'_>, class: usize, wanted: &ScriptMethod) -> bool
     ensures exact { result ≡ spec.has_public_method families.now class wanted.now }
 {
     match method_in_slot(families, class, wanted.slot) {
@@ -143,8 +143,8 @@ fn has_public_method(families: &Indexed<'_>, class: usize, wanted: &Method) -> b
 fn missing_among<'m>(
     families: &Indexed<'_>,
     class: usize,
-    methods: &'m [Method],
-) -> Option<&'m Method>
+    methods: &'m [ScriptMethod],
+) -> Option<&'m ScriptMethod>
     ensures exact { option_copied result
         ≡ spec.missing_among families.now class methods.now }
 {
@@ -157,7 +157,7 @@ fn missing_among<'m>(
 }
 
 /// The first method that a class has not, of the interfaces among these classes and interfaces.
-fn first_missing<'f>(families: &'f Indexed<'_>, class: usize, above: &[usize]) -> Option<&'f Method>
+fn first_missing<'f>(families: &'f Indexed<'_>, class: usize, above: &[usize]) -> Option<&'f ScriptMethod>
     ensures exact { option_copied result ≡ spec.missing_among
         families.now class (numbered.interface_methods_at families.now above.now) }
 {
@@ -212,7 +212,7 @@ fn is_field_at(fields: &[Field], place: usize, name: &[u8]) -> bool
     }
 }
 
-fn is_method_at(methods: &[Method], place: usize, name: &[u8]) -> bool
+fn is_method_at(methods: &[ScriptMethod], place: usize, name: &[u8]) -> bool
     ensures exact { result
         ≡ rows.is_at (λ x. bytes_eq x.function.name name.now) (slice_get methods.now place) }
 {
@@ -229,7 +229,7 @@ fn has_field_at(fields: &[Field], row: &[usize], name: &[u8]) -> bool
     row.iter().any(|place| is_field_at(fields, *place, name))
 }
 
-fn has_method_at(methods: &[Method], row: &[usize], name: &[u8]) -> bool
+fn has_method_at(methods: &[ScriptMethod], row: &[usize], name: &[u8]) -> bool
     ensures exact { result ≡ list_any (λ n. rows.is_at (λ x. bytes_eq x.function.name name.now)
         (slice_get methods.now n)) row.now }
 {
@@ -323,13 +323,13 @@ fn fields_refusal(
 // ---- methods
 
 /// Whether a method can't stand for one that is inherited.
-fn cannot_override(method: &Method, inherited: &Method) -> bool
+fn cannot_override(method: &ScriptMethod, inherited: &ScriptMethod) -> bool
     ensures exact { result ≡ spec.cannot_override method.now inherited.now }
 {
     inherited.is_final || !same_type(inherited.function.result.ty, method.function.result.ty)
 }
 
-fn has_slot_at(methods: &[Method], place: usize, slot: usize) -> bool
+fn has_slot_at(methods: &[ScriptMethod], place: usize, slot: usize) -> bool
     ensures exact { result ≡ rows.is_at (λ x. x.slot == slot) (slice_get methods.now place) }
 {
     match methods.get(place) {
@@ -338,7 +338,7 @@ fn has_slot_at(methods: &[Method], place: usize, slot: usize) -> bool
     }
 }
 
-fn has_slot_among(methods: &[Method], row: &[usize], slot: usize) -> bool
+fn has_slot_among(methods: &[ScriptMethod], row: &[usize], slot: usize) -> bool
     ensures exact { result ≡ list_any
         (λ n. rows.is_at (λ x. x.slot == slot) (slice_get methods.now n)) row.now }
 {
@@ -354,7 +354,7 @@ fn has_slot(families: &Indexed<'_>, number: usize, slot: usize) -> bool
     has_slot_among(methods, families.slot_row(number, slot), slot)
 }
 
-fn is_refused_at(methods: &[Method], place: usize, method: &Method) -> bool
+fn is_refused_at(methods: &[ScriptMethod], place: usize, method: &ScriptMethod) -> bool
     ensures exact { result
         ≡ rows.is_at (λ x. x.slot == method.now.slot && spec.cannot_override method.now x)
         (slice_get methods.now place) }
@@ -365,7 +365,7 @@ fn is_refused_at(methods: &[Method], place: usize, method: &Method) -> bool
     }
 }
 
-fn is_refused_among(methods: &[Method], row: &[usize], method: &Method) -> bool
+fn is_refused_among(methods: &[ScriptMethod], row: &[usize], method: &ScriptMethod) -> bool
     ensures exact { result ≡ list_any (λ n. rows.is_at
         (λ x. x.slot == method.now.slot && spec.cannot_override method.now x)
         (slice_get methods.now n)) row.now }
@@ -375,7 +375,7 @@ fn is_refused_among(methods: &[Method], row: &[usize], method: &Method) -> bool
 }
 
 /// Whether a method would stand for one that a class or an interface declares itself, and can't.
-fn is_refused_by(families: &Indexed<'_>, number: usize, method: &Method) -> bool
+fn is_refused_by(families: &Indexed<'_>, number: usize, method: &ScriptMethod) -> bool
     ensures exact { result
         ≡ list_any (λ x. x.slot == method.now.slot && spec.cannot_override method.now x)
         (numbered.methods_in (slice_get families.now number)) }
@@ -394,7 +394,7 @@ fn is_inherited(families: &Indexed<'_>, above: &[usize], slot: usize) -> bool
 }
 
 /// Whether a method would stand for one of these classes, and can't.
-fn is_refused(families: &Indexed<'_>, above: &[usize], method: &Method) -> bool
+fn is_refused(families: &Indexed<'_>, above: &[usize], method: &ScriptMethod) -> bool
     ensures exact { result ≡ list_any
         (λ n. list_any (λ x. x.slot == method.now.slot && spec.cannot_override method.now x)
         (numbered.methods_in (slice_get families.now n))) above.now }
@@ -406,7 +406,7 @@ fn is_refused(families: &Indexed<'_>, above: &[usize], method: &Method) -> bool
 
 /// Whether a method can't stand for all that it would of what these classes have.
 #[tactic(auto, using(crate::proofs::Inherited::none_in_slot, crate::proofs::Inherited::refused_in_slot))]
-fn is_bad_override(families: &Indexed<'_>, above: &[usize], method: &Method) -> bool
+fn is_bad_override(families: &Indexed<'_>, above: &[usize], method: &ScriptMethod) -> bool
     ensures exact { result ≡ spec.is_bad_override method.now
         (spec.in_slot method.now.slot (numbered.methods_at families.now above.now)) }
 {
@@ -419,7 +419,7 @@ fn method_refusal(
     alloc: Global,
     families: &Indexed<'_>,
     family: &Family,
-    method: &Method,
+    method: &ScriptMethod,
 ) -> Result<Option<Refused>, AllocError>
     ensures exact { IfOk result
         (λ r. r ≡ spec.method_refusal families.now family.now method.now) }

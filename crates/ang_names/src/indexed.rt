@@ -6,7 +6,7 @@ ghost use Rattle.ang_names.specs.ByNumber as numbered;
 ghost use Rattle.ang_names.specs.Rows as spec;
 
 use ang_index::Index;
-use ang_names_known::{Family, Field, Method};
+use ang_names_known::{Family, Field, ScriptMethod};
 use std::alloc::{AllocError, Global};
 use std::marker::Model;
 
@@ -44,7 +44,7 @@ impl<'a> Model for Indexed<'a> {
     ghost invariant = { λ i. HasRows i.families.now i.rows.items };
 }
 
-fn places_by_slot(alloc: Global, methods: &[Method]) -> Result<Index<usize>, AllocError>
+fn places_by_slot(alloc: Global, methods: &[ScriptMethod]) -> Result<Index<usize>, AllocError>
     ensures exact { IfOk result (λ slots. spec.HasSlots methods.now slots) }
 {
     let mut slots = Index::new(alloc);
@@ -64,7 +64,7 @@ fn places_of_fields(alloc: Global, fields: &[Field]) -> Result<Index<usize>, All
     Ok(names)
 }
 
-fn places_of_methods(alloc: Global, methods: &[Method]) -> Result<Index<usize>, AllocError>
+fn places_of_methods(alloc: Global, methods: &[ScriptMethod]) -> Result<Index<usize>, AllocError>
     ensures exact { IfOk result (λ names. spec.HasMethods methods.now names) }
 {
     let mut names = Index::new(alloc);

@@ -5,7 +5,7 @@ ghost use Rattle.ang_view.specs.Registration.{RegistrationList};
 ghost use Rattle.ang_names_known.specs.declared.names.Family.{Family};
 ghost use Rattle.ang_names_known.specs.Spaces.{AreFamilies};
 ghost use Rattle.ang_names_listed.specs.Sources.{Source};
-ghost use Rattle.ang_names_listed.specs.declared.listed.Declared.{Declared};
+ghost use Rattle.ang_names_listed.specs.declared.listed.ListedDeclaration.{ListedDeclaration};
 ghost use Rattle.ang_names_listed.specs.Declarations.{declarations_of, families_of};
 ghost use Rattle.ang_names.specs.Phases.{refusals_of};
 ghost use Rattle.ang_names.specs.Ranks.{can_hold, family_at, is_own_ancestor, reaches_itself};
@@ -15,7 +15,7 @@ ghost use Rattle.ang_names_classes.specs.Resolved.{names_of};
 /// there are 256 at most (`few`), and so where nothing is refused (`accepted`). A refusal that asks for a name comes from a
 /// phase after the first, which lets no more through (`asked`).
 pub fn few_families()
-    ensures few { (V : RegistrationList) (ds : List Declared) →
+    ensures few { (V : RegistrationList) (ds : List ListedDeclaration) →
         length (families_of ds) ≤ 256 → AreFamilies (names_of V ds).families }
     ensures accepted { (V : RegistrationList) (ss : List Source) →
         refusals_of V ss ≡ [] → AreFamilies (names_of V (declarations_of ss)).families }

@@ -22,7 +22,7 @@ mod rings;
 pub use ang_kinds::Unbuilt;
 pub use ang_names_classes::heading_of;
 pub use ang_names_known::{
-    Access, Constructor, Family, Field, Method, Names, Origin, ScriptFunction, ScriptGlobal,
+    Access, ScriptConstructor, Family, Field, ScriptMethod, Names, Origin, ScriptFunction, ScriptGlobal,
     ScriptParameter, Written,
 };
 pub use declaring::{declare, names_over, phase_refusals, unbuilt};

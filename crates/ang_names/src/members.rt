@@ -14,7 +14,7 @@ use ang_lex::Token;
 use ang_names_classes::Placed;
 use ang_names_known::Space;
 use ang_names_listed::{
-    Attributes, Declared, Member, MemberKind, Role, Shape, have_same_types, text_at,
+    Attributes, ListedDeclaration, ListedMember, MemberKind, TypePosition, ListedFamily, have_same_types, text_at,
 };
 use ang_tree::Parameter;
 use ang_types::Refused;
@@ -48,7 +48,7 @@ fn excludes_member(text: &[u8], kind: &MemberKind<'_>, other: &MemberKind<'_>) -
     }
 }
 
-fn clashes(text: &[u8], member: &Member<'_>, earlier: &Member<'_>) -> bool
+fn clashes(text: &[u8], member: &ListedMember<'_>, earlier: &ListedMember<'_>) -> bool
     ensures exact { result ≡ spec.clashes_with_member text.now member.now earlier.now }
 {
     text_at(text, &member.name) == text_at(text, &earlier.name)
@@ -56,7 +56,7 @@ fn clashes(text: &[u8], member: &Member<'_>, earlier: &Member<'_>) -> bool
 }
 
 /// Whether a member clashes with the earlier one of this number.
-fn clashes_with_earlier(before: &Before<'_, '_, '_>, number: usize, member: &Member<'_>) -> bool
+fn clashes_with_earlier(before: &Before<'_, '_, '_>, number: usize, member: &ListedMember<'_>) -> bool
     ensures exact { result ≡ earlier.clashes_at before.now member.now number }
 {
     match before.items().get(number) {
@@ -66,14 +66,14 @@ fn clashes_with_earlier(before: &Before<'_, '_, '_>, number: usize, member: &Mem
 }
 
 /// Whether a member clashes with one of the earlier ones of these numbers.
-fn clashes_with_one(before: &Before<'_, '_, '_>, row: &[usize], member: &Member<'_>) -> bool
+fn clashes_with_one(before: &Before<'_, '_, '_>, row: &[usize], member: &ListedMember<'_>) -> bool
     ensures exact { result ≡ list_any (earlier.clashes_at before.now member.now) row.now }
 {
     row.iter()
         .any(|number| clashes_with_earlier(before, *number, member))
 }
 
-fn is_duplicate(before: &Before<'_, '_, '_>, member: &Member<'_>) -> bool
+fn is_duplicate(before: &Before<'_, '_, '_>, member: &ListedMember<'_>) -> bool
     ensures exact { result
         ≡ list_any (spec.clashes_with_member before.now.text member.now) before.now.items }
 {
@@ -83,7 +83,7 @@ fn is_duplicate(before: &Before<'_, '_, '_>, member: &Member<'_>) -> bool
 fn duplicate(
     alloc: Global,
     before: &Before<'_, '_, '_>,
-    member: &Member<'_>,
+    member: &ListedMember<'_>,
 ) -> Result<Option<Refused>, AllocError>
     ensures exact { IfOk result
         (λ r. r ≡ spec.duplicate before.now.text before.now.items member.now) }
@@ -103,7 +103,7 @@ fn name_refusal(
     alloc: Global,
     space: &Space<'_>,
     before: &Before<'_, '_, '_>,
-    member: &Member<'_>,
+    member: &ListedMember<'_>,
     params: &[Parameter],
 ) -> Result<Option<Refused>, AllocError>
     ensures exact { IfOk result (λ r. r
@@ -137,7 +137,7 @@ fn member_refusal(
     space: &Space<'_>,
     family: &[u8],
     before: &Before<'_, '_, '_>,
-    member: &Member<'_>,
+    member: &ListedMember<'_>,
 ) -> Result<Option<Refused>, AllocError>
     ensures exact { IfOk result (λ r. r ≡ spec.member_refusal space.now before.now.text
         family.now before.now.items member.now member.now.kind) }
@@ -145,13 +145,13 @@ fn member_refusal(
     let text = before.text();
     match &member.kind {
         MemberKind::Field(declared) => {
-            match type_refusal_of(alloc, space, text, Role::Field, declared)? {
+            match type_refusal_of(alloc, space, text, TypePosition::Field, declared)? {
                 Some(refused) => Ok(Some(refused)),
                 None => duplicate(alloc, before, member),
             }
         }
         MemberKind::Method(declared, params, _) => {
-            match type_refusal_of(alloc, space, text, Role::Result, declared)? {
+            match type_refusal_of(alloc, space, text, TypePosition::Result, declared)? {
                 Some(refused) => Ok(Some(refused)),
                 None => name_refusal(alloc, space, before, member, params.items()),
             }
@@ -169,7 +169,7 @@ fn members_refusal(
     space: &Space<'_>,
     text: &[u8],
     family: &[u8],
-    members: &[Member<'_>],
+    members: &[ListedMember<'_>],
 ) -> Result<Option<Refused>, AllocError>
     ensures exact { IfOk result (λ r. r
         ≡ spec.members_refusal space.now text.now family.now [] members.now) }
@@ -210,8 +210,8 @@ fn bases_refusal(
 
 fn member_limit(
     alloc: Global,
-    declared: &Declared<'_>,
-    shape: &Shape<'_>,
+    declared: &ListedDeclaration<'_>,
+    shape: &ListedFamily<'_>,
 ) -> Result<Option<Refused>, AllocError>
     ensures exact { IfOk result (λ r. r ≡ spec.member_limit declared.now shape.now) }
 {
@@ -232,8 +232,8 @@ pub fn family_refusal(
     alloc: Global,
     space: &Space<'_>,
     families: &Placed<'_, '_, '_>,
-    declared: &Declared<'_>,
-    shape: &Shape<'_>,
+    declared: &ListedDeclaration<'_>,
+    shape: &ListedFamily<'_>,
 ) -> Result<Option<Refused>, AllocError>
     ensures exact { IfOk result (λ r. r
         ≡ spec.family_refusal space.now families.now declared.now shape.now) }

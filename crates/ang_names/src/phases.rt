@@ -14,7 +14,7 @@ use crate::{heir_refusals, ring_refusals};
 use ang_kinds::{Error, ErrorKind, List};
 use ang_names_classes::{Placed, Tables, families_among, space_of};
 use ang_names_known::{Family, Space};
-use ang_names_listed::{Declared, Part, Role, families_of, name_refusals, push_refused};
+use ang_names_listed::{ListedDeclaration, Part, TypePosition, families_of, name_refusals, push_refused};
 use ang_tree::Script;
 use ang_types::Refused;
 use ang_view::View;
@@ -25,7 +25,7 @@ fn type_refusal(
     alloc: Global,
     space: &Space<'_>,
     families: &Placed<'_, '_, '_>,
-    declared: &Declared<'_>,
+    declared: &ListedDeclaration<'_>,
 ) -> Result<Option<Refused>, AllocError>
     ensures exact { IfOk result (λ r. r
         ≡ refusing.part_refusal space.now families.now declared.now declared.now.part) }
@@ -40,7 +40,7 @@ fn type_refusal(
         Part::Import(ty, params) => {
             heading_refusal(alloc, space, text, true, name, ty, params.items())
         }
-        Part::Global(ty) => type_refusal_of(alloc, space, text, Role::Variable, ty),
+        Part::Global(ty) => type_refusal_of(alloc, space, text, TypePosition::Variable, ty),
     }
 }
 
@@ -48,7 +48,7 @@ fn type_refusals_in(
     alloc: Global,
     space: &Space<'_>,
     families: &Placed<'_, '_, '_>,
-    all: &[Declared<'_>],
+    all: &[ListedDeclaration<'_>],
 ) -> Result<Vec<Refused>, AllocError>
     ensures exact { IfOk result (λ found. found.items ≡ taken.each_refused
         (λ before d. refusing.part_refusal space.now families.now d d.part) all.now) }
@@ -65,7 +65,7 @@ fn type_refusals_in(
 fn type_refusals<'a>(
     alloc: Global,
     view: &'a View,
-    all: &[Declared<'a>],
+    all: &[ListedDeclaration<'a>],
 ) -> Result<Vec<Refused>, AllocError>
     requires few { length (listed.families_of all.now) ≤ 256 }
     ensures exact { IfOk result
@@ -133,7 +133,7 @@ fn heritage_in(
 fn heritage_refusals<'a>(
     alloc: Global,
     view: &'a View,
-    all: &[Declared<'a>],
+    all: &[ListedDeclaration<'a>],
 ) -> Result<Vec<Refused>, AllocError>
     requires few { length (listed.families_of all.now) ≤ 256 }
     ensures exact { IfOk result (λ found. found.items ≡ spec.first_refusals view.now all.now
@@ -148,7 +148,7 @@ fn heritage_refusals<'a>(
 fn later_refusals<'a>(
     alloc: Global,
     view: &'a View,
-    all: &[Declared<'a>],
+    all: &[ListedDeclaration<'a>],
 ) -> Result<Vec<Refused>, AllocError>
     requires few { length (listed.families_of all.now) ≤ 256 }
     ensures exact { IfOk result (λ found. found.items ≡ spec.first_refusals view.now all.now
@@ -165,7 +165,7 @@ fn later_refusals<'a>(
 fn first_refusals<'a>(
     alloc: Global,
     view: &'a View,
-    all: &[Declared<'a>],
+    all: &[ListedDeclaration<'a>],
 ) -> Result<Vec<Refused>, AllocError>
     ensures exact { IfOk result
         (λ found. found.items ≡ spec.first_refusals view.now all.now spec.all_phases) }
@@ -182,7 +182,7 @@ fn first_refusals<'a>(
 fn names_refused(
     alloc: Global,
     view: &View,
-    all: &[Declared<'_>],
+    all: &[ListedDeclaration<'_>],
 ) -> Result<Vec<Refused>, AllocError>
     ensures exact { IfOk result
         (λ found. found.items ≡ taken.name_refusals view.now all.now) }
@@ -200,7 +200,7 @@ pub fn refusals_over<'a>(
     alloc: Global,
     view: &'a View,
     scripts: &[Script],
-    all: &[Declared<'a>],
+    all: &[ListedDeclaration<'a>],
 ) -> Result<Vec<Refused>, AllocError>
     requires listed { all.now ≡ declarations_of (list_map source_of scripts.now) }
     ensures exact { IfOk result (λ found. found.items

@@ -10,7 +10,7 @@ use Rattle.ang_names_graph.proofs.Rings.{any_numbers, edge_shown, none_equal, so
 use Rattle.ang_names_graph.proofs.Rows.{lt_true}
 use Rattle.ang_names_known.specs.declared.names.Written.{Written}
 use Rattle.ang_names_known.specs.Spaces.{Space}
-use Rattle.ang_names_listed.specs.declared.listed.Member.{Member}
+use Rattle.ang_names_listed.specs.declared.listed.ListedMember.{ListedMember}
 use Rattle.ang_names_listed.specs.Declarations.{Declaring}
 use Rattle.ang_names_classes.specs.Hierarchy.{field_type, field_types_at, field_types_in, held_by, holds, is_base, is_parent, is_under_or}
 use Rattle.ang_names_classes.specs.Tables.{carries, held_in, held_of, holds_itself}
@@ -113,9 +113,9 @@ module _ (ds : List Declaring) (j : ℕ) (there : j < length ds) where
       by_type (Some m) e = ap (λ b. b || list_any (λ k. some_below (λ d. (k == d) && under d) n) places) (of_number m) ∙ ap (λ b. is_under_or ds j (Some m) || b) h
 
   module _ (E : Space) where
-    of_members : (d : Declaring) (ms : List Member)
-        → list_any (λ m. some_below (λ x. (m == x) && under x) n) (filter_map (λ (m : Member). held_in (field_type E d m.kind)) ms)
-        ≡ list_any (λ (w : Written). is_under_or ds j (held_by w.ty)) (filter_map (λ (m : Member). field_type E d m.kind) ms)
+    of_members : (d : Declaring) (ms : List ListedMember)
+        → list_any (λ m. some_below (λ x. (m == x) && under x) n) (filter_map (λ (m : ListedMember). held_in (field_type E d m.kind)) ms)
+        ≡ list_any (λ (w : Written). is_under_or ds j (held_by w.ty)) (filter_map (λ (m : ListedMember). field_type E d m.kind) ms)
     of_members d [] = refl
     of_members d (m ∷ ms) = of_field (field_type E d m.kind) _ _ (of_members d ms)
 

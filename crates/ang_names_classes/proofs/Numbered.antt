@@ -6,16 +6,16 @@ use Rattle.std.proofs.lemmas.List.{append-nil, length-take-le, take_more}
 use Rattle.std.proofs.lemmas.List.Elements.{filter_map-append}
 use Rattle.ang_tree.specs.declared.declaration.Parameter.{Parameter}
 use Rattle.ang_tree.specs.declared.type_name.TypeName.{TypeName}
-use Rattle.ang_names_known.specs.declared.names.Constructor.{Constructor}
+use Rattle.ang_names_known.specs.declared.names.ScriptConstructor.{ScriptConstructor}
 use Rattle.ang_names_known.specs.declared.names.Family.{Family}
 use Rattle.ang_names_known.specs.declared.names.Field.{Field}
-use Rattle.ang_names_known.specs.declared.names.Method.{Method}
+use Rattle.ang_names_known.specs.declared.names.ScriptMethod.{ScriptMethod}
 use Rattle.ang_names_known.specs.declared.names.ScriptFunction.{ScriptFunction}
 use Rattle.ang_names_known.specs.declared.names.Written.{Written}
 use Rattle.ang_names_known.specs.Items.{each_after}
 use Rattle.ang_names_known.specs.Spaces.{Space}
 use Rattle.ang_names_listed.specs.declared.listed.Attributes.{Attributes}
-use Rattle.ang_names_listed.specs.declared.listed.Member.{Member}
+use Rattle.ang_names_listed.specs.declared.listed.ListedMember.{ListedMember}
 use Rattle.ang_names_listed.specs.declared.listed.MemberKind.{MemberKind}
 use Rattle.ang_names_listed.specs.declared.listed.MemberKind.TheVariants as member
 use Rattle.ang_names_listed.specs.Declarations.{Declaring}
@@ -66,48 +66,48 @@ passed_more p xs x =
 
 -- ---- members
 
-numbered : (d : Declaring) (m : Member) (number : ℕ) (o : Option Written) → length (field_numbered d m number o) ≡ length (option_to_list o)
+numbered : (d : Declaring) (m : ListedMember) (number : ℕ) (o : Option Written) → length (field_numbered d m number o) ≡ length (option_to_list o)
 numbered d m number None = refl
 numbered d m number (Some w) = refl
 
-pub field_number : (E : Space) (d : Declaring) (ms : List Member) (i : ℕ) (m : Member) (number : ℕ) (was now : List Field)
-    → length was ≡ length (filter_map (λ (x : Member). field_type E d x.kind) (take i ms)) → i < length ms → m ≡ get_or ms i m
-    → now ≡ was ++ field_numbered d m number (field_type E d m.kind) → length now ≡ length (filter_map (λ (x : Member). field_type E d x.kind) (take (i + 1) ms))
+pub field_number : (E : Space) (d : Declaring) (ms : List ListedMember) (i : ℕ) (m : ListedMember) (number : ℕ) (was now : List Field)
+    → length was ≡ length (filter_map (λ (x : ListedMember). field_type E d x.kind) (take i ms)) → i < length ms → m ≡ get_or ms i m
+    → now ≡ was ++ field_numbered d m number (field_type E d m.kind) → length now ≡ length (filter_map (λ (x : ListedMember). field_type E d x.kind) (take (i + 1) ms))
 field_number E d ms i m number was now h lt is pushed =
-    let more = ap (λ xs. length (filter_map (λ (x : Member). field_type E d x.kind) xs)) (one_taken ms i m lt is) ∙ found_more (λ (x : Member). field_type E d x.kind) (take i ms) m in
+    let more = ap (λ xs. length (filter_map (λ (x : ListedMember). field_type E d x.kind) xs)) (one_taken ms i m lt is) ∙ found_more (λ (x : ListedMember). field_type E d x.kind) (take i ms) m in
     let grown = ap length pushed ∙ length-append was (field_numbered d m number (field_type E d m.kind)) in
     let one = numbered d m number (field_type E d m.kind) in
     omega (arith, h, grown, one, more)
 
-pub next_fields : (E : Space) (d : Declaring) (inherited : ℕ) (ms : List Member) (i : ℕ) (m : Member) (number : ℕ) (was now : List Field)
-    → number ≡ inherited + length was → length was ≡ length (filter_map (λ (x : Member). field_type E d x.kind) (take i ms))
+pub next_fields : (E : Space) (d : Declaring) (inherited : ℕ) (ms : List ListedMember) (i : ℕ) (m : ListedMember) (number : ℕ) (was now : List Field)
+    → number ≡ inherited + length was → length was ≡ length (filter_map (λ (x : ListedMember). field_type E d x.kind) (take i ms))
     → was ≡ each_after (fields_after E d inherited) [] (take i ms) → i < length ms → m ≡ get_or ms i m
     → now ≡ was ++ field_numbered d m number (field_type E d m.kind) → now ≡ each_after (fields_after E d inherited) [] (take (i + 1) ms)
 next_fields E d inherited ms i m number was now n count h lt is pushed =
     turned (fields_after E d inherited) ms i m was now h lt is (pushed ∙ ap (λ k. was ++ field_numbered d m k (field_type E d m.kind)) (n ∙ ap (λ k. inherited + k) count))
 
-pub body_next : (is_class : Bool) (ms : List Member) (i : ℕ) (m : Member) (bodies next : ℕ)
+pub body_next : (is_class : Bool) (ms : List ListedMember) (i : ℕ) (m : ListedMember) (bodies next : ℕ)
     → bodies ≡ length (with_bodies is_class (take i ms)) → i < length ms → m ≡ get_or ms i m
     → next ≡ bodies + (if has_body is_class m.kind then 1 else 0) → next ≡ length (with_bodies is_class (take (i + 1) ms))
 body_next is_class ms i m bodies next h lt is e =
-    let more = ap (λ xs. length (with_bodies is_class xs)) (one_taken ms i m lt is) ∙ passed_more (λ (x : Member). has_body is_class x.kind) (take i ms) m in
+    let more = ap (λ xs. length (with_bodies is_class xs)) (one_taken ms i m lt is) ∙ passed_more (λ (x : ListedMember). has_body is_class x.kind) (take i ms) m in
     omega (arith, h, e, more)
 
 -- a method after those before it
-pub one_method : (E : Space) (all : List (ScriptFunction × Bool)) (d : Declaring) (m : Member) (body : ℕ) (y : TypeName) (ps : List Parameter) (a : Attributes) (k : MemberKind)
-    (f : ScriptFunction) (method : Method) (was now : List Method) → k ≡ member.Method y ps a → f ≡ heading_of E d.origin d.text m.name y ps
+pub one_method : (E : Space) (all : List (ScriptFunction × Bool)) (d : Declaring) (m : ListedMember) (body : ℕ) (y : TypeName) (ps : List Parameter) (a : Attributes) (k : MemberKind)
+    (f : ScriptFunction) (method : ScriptMethod) (was now : List ScriptMethod) → k ≡ member.Method y ps a → f ≡ heading_of E d.origin d.text m.name y ps
     → method ≡ method_with all d m body f a → now ≡ was ++ method ∷ [] → now ≡ was ++ methods_by E all d m body k
 one_method E all d m body y ps a k f method was now kind heading made pushed =
     pushed ∙ ap (λ x. was ++ x ∷ []) (made ∙ ap (λ g. method_with all d m body g a) heading) ∙ ap (λ o. was ++ methods_by E all d m body o) (sym kind)
 
-pub next_methods : (E : Space) (all : List (ScriptFunction × Bool)) (d : Declaring) (first : ℕ) (ms : List Member) (i : ℕ) (m : Member) (body bodies : ℕ) (was now : List Method)
+pub next_methods : (E : Space) (all : List (ScriptFunction × Bool)) (d : Declaring) (first : ℕ) (ms : List ListedMember) (i : ℕ) (m : ListedMember) (body bodies : ℕ) (was now : List ScriptMethod)
     → body ≡ first + bodies → bodies ≡ length (with_bodies d.shape.is_class (take i ms))
     → was ≡ each_after (methods_after E all d first) [] (take i ms) → i < length ms → m ≡ get_or ms i m
     → now ≡ was ++ methods_by E all d m body m.kind → now ≡ each_after (methods_after E all d first) [] (take (i + 1) ms)
 next_methods E all d first ms i m body bodies was now n count h lt is pushed =
     turned (methods_after E all d first) ms i m was now h lt is (pushed ∙ ap (λ k. was ++ methods_by E all d m k m.kind) (n ∙ ap (λ k. first + k) count))
 
-pub next_constructors : (E : Space) (d : Declaring) (first : ℕ) (ms : List Member) (i : ℕ) (m : Member) (body bodies : ℕ) (was now : List Constructor)
+pub next_constructors : (E : Space) (d : Declaring) (first : ℕ) (ms : List ListedMember) (i : ℕ) (m : ListedMember) (body bodies : ℕ) (was now : List ScriptConstructor)
     → body ≡ first + bodies → bodies ≡ length (with_bodies d.shape.is_class (take i ms))
     → was ≡ each_after (constructors_after E d first) [] (take i ms) → i < length ms → m ≡ get_or ms i m
     → now ≡ was ++ constructors_by E d m body m.kind → now ≡ each_after (constructors_after E d first) [] (take (i + 1) ms)

@@ -13,17 +13,17 @@ use Rattle.ang_names_known.specs.declared.names.ScriptParameter.{ScriptParameter
 use Rattle.ang_names_known.specs.declared.names.Written.{Written}
 use Rattle.ang_names_known.specs.Lookup.{same_parameters}
 use Rattle.ang_names_known.specs.Spaces.{Space}
-use Rattle.ang_names_listed.specs.declared.listed.Member.{Member}
+use Rattle.ang_names_listed.specs.declared.listed.ListedMember.{ListedMember}
 use Rattle.ang_names_listed.specs.declared.listed.MemberKind.{MemberKind}
 use Rattle.ang_names_listed.specs.declared.listed.MemberKind.TheVariants as member
 use Rattle.ang_names_listed.specs.Declarations.{Declaring}
-use Rattle.ang_names_listed.specs.declared.role.Role.{Role}
-use Rattle.ang_names_listed.specs.declared.role.Role.TheVariants as role
+use Rattle.ang_names_listed.specs.declared.role.TypePosition.{TypePosition}
+use Rattle.ang_names_listed.specs.declared.role.TypePosition.TheVariants as role
 use Rattle.ang_names_listed.specs.Sources.{text_of, name_of}
 use Rattle.ang_names_listed.specs.Types.{written_in, pass_of, own_role, imported_role}
 
 -- the role of a parameter of an import, or of any other function
-abbrev pub parameter_role : Bool → Parameter → Role
+abbrev pub parameter_role : Bool → Parameter → TypePosition
 parameter_role imported p = if imported then imported_role p else own_role p
 
 -- a constructor gives nothing
@@ -57,14 +57,14 @@ module _ (E : Space) where
   -- ---- methods
 
   -- a method's heading, and whether it is `const`
-  abbrev pub signature_by : Declaring → Member → MemberKind → Option (ScriptFunction × Bool)
+  abbrev pub signature_by : Declaring → ListedMember → MemberKind → Option (ScriptFunction × Bool)
   signature_by d m (member.Field y) = None
   signature_by d m (member.Method y ps a) = Some (heading_of d.origin d.text m.name y ps, a.read_only)
   signature_by d m (member.Constructor ps) = None
 
   -- those of one family
   abbrev pub signatures_in : Declaring → List (ScriptFunction × Bool)
-  signatures_in d = filter_map (λ (m : Member). signature_by d m m.kind) d.shape.members
+  signatures_in d = filter_map (λ (m : ListedMember). signature_by d m m.kind) d.shape.members
 
   -- All methods of all families, in order: their places are their numbers.
   unfoldable pub signatures_of : List Declaring → List (ScriptFunction × Bool)

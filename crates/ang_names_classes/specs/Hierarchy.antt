@@ -7,11 +7,11 @@ use Rattle.ang_types.specs.declared.arg_type.ArgType.TheVariants as type
 use Rattle.ang_names_graph.specs.Graphs.{above, leads, order_of}
 use Rattle.ang_names_known.specs.declared.names.Written.{Written}
 use Rattle.ang_names_known.specs.Spaces.{Space, family_of_type}
-use Rattle.ang_names_listed.specs.declared.listed.Member.{Member}
+use Rattle.ang_names_listed.specs.declared.listed.ListedMember.{ListedMember}
 use Rattle.ang_names_listed.specs.declared.listed.MemberKind.{MemberKind}
 use Rattle.ang_names_listed.specs.declared.listed.MemberKind.TheVariants as member
 use Rattle.ang_names_listed.specs.Declarations.{Declaring, family_name}
-use Rattle.ang_names_listed.specs.declared.role.Role.TheVariants as role
+use Rattle.ang_names_listed.specs.declared.role.TypePosition.TheVariants as role
 use Rattle.ang_names_listed.specs.Sources.{text_of}
 use Rattle.ang_names_listed.specs.Types.{written_in}
 
@@ -58,7 +58,7 @@ module _ (E : Space) where
 
   -- the types of a family's own fields
   abbrev pub field_types : Declaring → List Written
-  field_types d = filter_map (λ (m : Member). field_type d m.kind) d.shape.members
+  field_types d = filter_map (λ (m : ListedMember). field_type d m.kind) d.shape.members
 
 abbrev pub field_types_in : Space → Option Declaring → List Written
 field_types_in E None = []

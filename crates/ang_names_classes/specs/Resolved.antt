@@ -7,22 +7,22 @@ use Rattle.ang_view.specs.Registration.{RegistrationList}
 use Rattle.ang_tree.specs.declared.declaration.Parameter.{Parameter}
 use Rattle.ang_tree.specs.declared.type_name.TypeName.{TypeName}
 use Rattle.ang_names_graph.specs.Graphs.{above, order_of, reach_of}
-use Rattle.ang_names_known.specs.declared.names.Constructor.{Constructor}
+use Rattle.ang_names_known.specs.declared.names.ScriptConstructor.{ScriptConstructor}
 use Rattle.ang_names_known.specs.declared.names.Family.{Family}
 use Rattle.ang_names_known.specs.declared.names.Field.{Field}
-use Rattle.ang_names_known.specs.declared.names.Method.{Method}
+use Rattle.ang_names_known.specs.declared.names.ScriptMethod.{ScriptMethod}
 use Rattle.ang_names_known.specs.declared.names.Names.{Names}
 use Rattle.ang_names_known.specs.declared.names.ScriptFunction.{ScriptFunction}
 use Rattle.ang_names_known.specs.declared.names.ScriptGlobal.{ScriptGlobal}
 use Rattle.ang_names_known.specs.declared.names.Written.{Written}
 use Rattle.ang_names_listed.specs.declared.listed.Attributes.{Attributes}
-use Rattle.ang_names_listed.specs.declared.listed.Declared.{Declared}
-use Rattle.ang_names_listed.specs.declared.listed.Member.{Member}
+use Rattle.ang_names_listed.specs.declared.listed.ListedDeclaration.{ListedDeclaration}
+use Rattle.ang_names_listed.specs.declared.listed.ListedMember.{ListedMember}
 use Rattle.ang_names_listed.specs.declared.listed.MemberKind.{MemberKind}
 use Rattle.ang_names_listed.specs.declared.listed.MemberKind.TheVariants as member
 use Rattle.ang_names_listed.specs.declared.listed.Part.{Part}
 use Rattle.ang_names_listed.specs.declared.listed.Part.TheVariants as part
-use Rattle.ang_names_listed.specs.declared.role.Role.TheVariants as role
+use Rattle.ang_names_listed.specs.declared.role.TypePosition.TheVariants as role
 use Rattle.ang_names_known.specs.Spaces.{Space}
 use Rattle.ang_names_known.specs.Items.{each_after}
 use Rattle.ang_names_listed.specs.Declarations.{Declaring, families_of, family_name, declared_name}
@@ -38,17 +38,17 @@ abbrev pub space_over : RegistrationList → List Declaring → Space
 space_over V families = record { view = V; families = map family_name families }
 
 -- the view, and the families of all declarations, whether before or after
-abbrev pub space_of_declared : RegistrationList → List Declared → Space
+abbrev pub space_of_declared : RegistrationList → List ListedDeclaration → Space
 space_of_declared V all = space_over V (families_of all)
 
 -- ---- functions, imports and globals
 
 -- In the space of a build:
 module _ (E : Space) where
-  abbrev pub import_of : Declared → TypeName → List Parameter → ScriptFunction
+  abbrev pub import_of : ListedDeclaration → TypeName → List Parameter → ScriptFunction
   import_of d y ps = function_as E d.origin d.text d.name (written_in E role.ImportResult d.text y) true ps
 
-  abbrev pub global_with : Declared → TypeName → ScriptGlobal
+  abbrev pub global_with : ListedDeclaration → TypeName → ScriptGlobal
   global_with d y = record {
     name = text_of d.text d.name;
     place = d.name.place;
@@ -56,49 +56,49 @@ module _ (E : Space) where
     origin = d.origin;
   }
 
-  abbrev pub function_by : Declared → Part → Option ScriptFunction
+  abbrev pub function_by : ListedDeclaration → Part → Option ScriptFunction
   function_by d (part.Family s) = None
   function_by d (part.Function y ps) = Some (heading_of E d.origin d.text d.name y ps)
   function_by d (part.Import y ps) = None
   function_by d (part.Global y) = None
 
-  abbrev pub import_by : Declared → Part → Option ScriptFunction
+  abbrev pub import_by : ListedDeclaration → Part → Option ScriptFunction
   import_by d (part.Family s) = None
   import_by d (part.Function y ps) = None
   import_by d (part.Import y ps) = Some (import_of d y ps)
   import_by d (part.Global y) = None
 
-  abbrev pub global_by : Declared → Part → Option ScriptGlobal
+  abbrev pub global_by : ListedDeclaration → Part → Option ScriptGlobal
   global_by d (part.Family s) = None
   global_by d (part.Function y ps) = None
   global_by d (part.Import y ps) = None
   global_by d (part.Global y) = Some (global_with d y)
 
   -- the function that a declaration declares, if it declares one
-  unfoldable pub function_of : Declared → Option ScriptFunction
+  unfoldable pub function_of : ListedDeclaration → Option ScriptFunction
   function_of d = function_by d d.part
 
-  unfoldable pub imported_of : Declared → Option ScriptFunction
+  unfoldable pub imported_of : ListedDeclaration → Option ScriptFunction
   imported_of d = import_by d d.part
 
-  unfoldable pub global_of : Declared → Option ScriptGlobal
+  unfoldable pub global_of : ListedDeclaration → Option ScriptGlobal
   global_of d = global_by d d.part
 
 -- ---- members
 
-abbrev pub field_with : Declaring → Member → ℕ → Written → Field
+abbrev pub field_with : Declaring → ListedMember → ℕ → Written → Field
 field_with d m number w = record { name = text_of d.text m.name; place = m.name.place; written = w; access = m.access; number = number }
 
-abbrev pub field_numbered : Declaring → Member → ℕ → Option Written → List Field
+abbrev pub field_numbered : Declaring → ListedMember → ℕ → Option Written → List Field
 field_numbered d m number None = []
 field_numbered d m number (Some w) = field_with d m number w ∷ []
 
 -- In the space of a build:
 module _ (E : Space) where
   -- A field's number is how many stand before it: `inherited` in base classes, and those of the members before it.
-  abbrev pub fields_after : Declaring → ℕ → List Member → Member → List Field
+  abbrev pub fields_after : Declaring → ℕ → List ListedMember → ListedMember → List Field
   fields_after d inherited before m =
-      field_numbered d m (inherited + length (filter_map (λ (x : Member). field_type E d x.kind) before)) (field_type E d m.kind)
+      field_numbered d m (inherited + length (filter_map (λ (x : ListedMember). field_type E d x.kind) before)) (field_type E d m.kind)
 
 -- whether a member has a body, in a class or in an interface
 abbrev pub has_body : Bool → MemberKind → Bool
@@ -107,10 +107,10 @@ has_body is_class (member.Method y ps a) = is_class
 has_body is_class (member.Constructor ps) = true
 
 -- the members of a family that have bodies
-abbrev pub with_bodies : Bool → List Member → List Member
-with_bodies is_class ms = filter (λ (m : Member). has_body is_class m.kind) ms
+abbrev pub with_bodies : Bool → List ListedMember → List ListedMember
+with_bodies is_class ms = filter (λ (m : ListedMember). has_body is_class m.kind) ms
 
-abbrev pub body_members : Declaring → List Member
+abbrev pub body_members : Declaring → List ListedMember
 body_members d = with_bodies d.shape.is_class d.shape.members
 
 abbrev pub body_number : Bool → ℕ → Option ℕ
@@ -118,7 +118,7 @@ body_number true n = Some n
 body_number false n = None
 
 -- a method with this heading, where all methods are these
-abbrev pub method_with : List (ScriptFunction × Bool) → Declaring → Member → ℕ → ScriptFunction → Attributes → Method
+abbrev pub method_with : List (ScriptFunction × Bool) → Declaring → ListedMember → ℕ → ScriptFunction → Attributes → ScriptMethod
 method_with all d m body f a = record {
   function = f;
   access = m.access;
@@ -131,24 +131,24 @@ method_with all d m body f a = record {
 
 -- In the space of a build, whose methods are these:
 module _ (E : Space) (all : List (ScriptFunction × Bool)) where
-  abbrev pub methods_by : Declaring → Member → ℕ → MemberKind → List Method
+  abbrev pub methods_by : Declaring → ListedMember → ℕ → MemberKind → List ScriptMethod
   methods_by d m body (member.Field y) = []
   methods_by d m body (member.Method y ps a) = method_with all d m body (heading_of E d.origin d.text m.name y ps) a ∷ []
   methods_by d m body (member.Constructor ps) = []
 
   -- A body's number is how many stand before it: `first` before the family, and those of the members before it.
-  abbrev pub methods_after : Declaring → ℕ → List Member → Member → List Method
+  abbrev pub methods_after : Declaring → ℕ → List ListedMember → ListedMember → List ScriptMethod
   methods_after d first before m = methods_by d m (first + length (with_bodies d.shape.is_class before)) m.kind
 
 -- In the space of a build:
 module _ (E : Space) where
-  abbrev pub constructors_by : Declaring → Member → ℕ → MemberKind → List Constructor
+  abbrev pub constructors_by : Declaring → ListedMember → ℕ → MemberKind → List ScriptConstructor
   constructors_by d m body (member.Field y) = []
   constructors_by d m body (member.Method y ps a) = []
   constructors_by d m body (member.Constructor ps) = record { function = maker_of E d.origin d.text m.name ps; body = body } ∷ []
 
   -- Constructors are numbered as methods are, among the same bodies.
-  abbrev pub constructors_after : Declaring → ℕ → List Member → Member → List Constructor
+  abbrev pub constructors_after : Declaring → ℕ → List ListedMember → ListedMember → List ScriptConstructor
   constructors_after d first before m = constructors_by d m (first + length (with_bodies d.shape.is_class before)) m.kind
 
 -- ---- what stands above a family
@@ -190,17 +190,17 @@ module _ (E : Space) (ds : List Declaring) (all : List (ScriptFunction × Bool))
   abbrev pub families_after : ℕ → List Declaring → Declaring → List Family
   families_after functions before d = family_with (length before) (functions + length (flat_map body_members before)) d ∷ []
 
-abbrev pub functions_in : Space → List Declared → List ScriptFunction
+abbrev pub functions_in : Space → List ListedDeclaration → List ScriptFunction
 functions_in E ds = filter_map (function_of E) ds
 
 -- The families of the declarations.
-unfoldable pub families_in : Space → List Declared → List Family
+unfoldable pub families_in : Space → List ListedDeclaration → List Family
 families_in E ds =
     let families = families_of ds in
     each_after (families_after E families (signatures_of E families) (length (functions_in E ds))) [] families
 
 -- All names of the declarations over a view, each kind in order.
-unfoldable pub names_of : RegistrationList → List Declared → Names
+unfoldable pub names_of : RegistrationList → List ListedDeclaration → Names
 names_of V ds = record {
   declared = map declared_name ds;
   families = families_in (space_of_declared V ds) ds;

@@ -6,7 +6,7 @@ use Rattle.ang_names_graph.specs.Tables.{Shows}
 use Rattle.ang_lex.specs.declared.token.Token.{Token}
 use Rattle.ang_names_known.specs.declared.names.Written.{Written}
 use Rattle.ang_names_known.specs.Spaces.{Space}
-use Rattle.ang_names_listed.specs.declared.listed.Member.{Member}
+use Rattle.ang_names_listed.specs.declared.listed.ListedMember.{ListedMember}
 use Rattle.ang_names_listed.specs.declared.listed.MemberKind.{MemberKind}
 use Rattle.ang_names_listed.specs.declared.listed.MemberKind.TheVariants as member
 use Rattle.ang_names_listed.specs.Declarations.{Declaring}
@@ -34,7 +34,7 @@ is_field (member.Constructor ps) = false
 
 -- the numbers of the families to which a family's own fields are handles
 abbrev pub held_places : Space → Declaring → List ℕ
-held_places E d = filter_map (λ (m : Member). held_in (field_type E d m.kind)) d.shape.members
+held_places E d = filter_map (λ (m : ListedMember). held_in (field_type E d m.kind)) d.shape.members
 
 abbrev pub held_of : Space → Option Declaring → List ℕ
 held_of E None = []

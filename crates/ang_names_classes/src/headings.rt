@@ -5,20 +5,20 @@ ghost use Rattle.ang_names_classes.specs.Headings as spec;
 use ang_kinds::List;
 use ang_lex::Token;
 use ang_names_known::{Origin, ScriptFunction, ScriptParameter, Space, Written};
-use ang_names_listed::{Role, copy_at, name_at, pass_of, written_in};
+use ang_names_listed::{TypePosition, copy_at, name_at, pass_of, written_in};
 use ang_tree::{Parameter, TypeName};
 use ang_types::ArgType;
 use std::alloc::{AllocError, Global};
 
 /// The role of a parameter of an import, or of any other function.
-pub fn parameter_role(imported: bool, parameter: &Parameter) -> Role
+pub fn parameter_role(imported: bool, parameter: &Parameter) -> TypePosition
     ensures exact { result ≡ spec.parameter_role imported parameter.now }
 {
     let pass = pass_of(&parameter.reference);
     if imported {
-        Role::ImportParameter(pass)
+        TypePosition::ImportParameter(pass)
     } else {
-        Role::Parameter(pass)
+        TypePosition::Parameter(pass)
     }
 }
 
@@ -100,7 +100,7 @@ pub fn heading_of(
     ensures exact { IfOk result (λ f. f
         ≡ spec.heading_of space.now origin text.now name.now declared.now params.now) }
 {
-    let result_type = written_in(space, Role::Result, text, declared);
+    let result_type = written_in(space, TypePosition::Result, text, declared);
     let params = parameters_of(alloc, space, text, false, params)?;
     function_with(alloc, origin, text, name, result_type, params)
 }

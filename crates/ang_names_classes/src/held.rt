@@ -5,7 +5,7 @@ ghost use Rattle.ang_names_classes.specs.Hierarchy as spec;
 ghost use Rattle.ang_names_classes.specs.Tables as tables;
 
 use ang_names_known::{Space, Written, family_of_type};
-use ang_names_listed::{Declaring, MemberKind, Role, written_in};
+use ang_names_listed::{Declaring, MemberKind, TypePosition, written_in};
 use ang_types::ArgType;
 use std::alloc::{AllocError, Global};
 
@@ -19,7 +19,7 @@ pub fn field_type(
 {
     match kind {
         MemberKind::Field(declared) => {
-            Some(written_in(space, Role::Field, family.text(), declared))
+            Some(written_in(space, TypePosition::Field, family.text(), declared))
         }
         MemberKind::Method(_, _, _) | MemberKind::Constructor(_) => None,
     }

@@ -6,15 +6,15 @@ ghost use Rattle.ang_names_classes.specs.Resolved as spec;
 
 use crate::{Signatures, field_type, heading_of, maker_of, slot_of};
 use ang_kinds::List;
-use ang_names_known::{Constructor, Field, Method, ScriptFunction, Space, Written};
-use ang_names_listed::{Attributes, Declaring, Member, MemberKind, copy_at};
+use ang_names_known::{ScriptConstructor, Field, ScriptMethod, ScriptFunction, Space, Written};
+use ang_names_listed::{Attributes, Declaring, ListedMember, MemberKind, copy_at};
 use std::alloc::{AllocError, Global};
 
 /// A field of this number.
 fn field_with(
     alloc: Global,
     family: &Declaring<'_, '_>,
-    member: &Member<'_>,
+    member: &ListedMember<'_>,
     number: usize,
     written: Written,
 ) -> Result<Field, AllocError>
@@ -34,7 +34,7 @@ fn push_field(
     alloc: Global,
     space: &Space<'_>,
     family: &Declaring<'_, '_>,
-    member: &Member<'_>,
+    member: &ListedMember<'_>,
     number: usize,
     found: &mut Vec<Field>,
 ) -> Result<(), AllocError>
@@ -123,16 +123,16 @@ fn method_with(
     alloc: Global,
     signatures: &Signatures,
     family: &Declaring<'_, '_>,
-    member: &Member<'_>,
+    member: &ListedMember<'_>,
     body: usize,
     function: ScriptFunction,
     attributes: Attributes,
-) -> Result<Method, AllocError>
+) -> Result<ScriptMethod, AllocError>
     ensures exact { IfOk result (λ method. method ≡ spec.method_with
         signatures.now family.now member.now body function attributes) }
 {
     let slot = slot_of(alloc, signatures, &function, attributes.read_only)?;
-    Ok(Method {
+    Ok(ScriptMethod {
         function,
         access: member.access,
         read_only: attributes.read_only,
@@ -149,9 +149,9 @@ fn push_method(
     space: &Space<'_>,
     signatures: &Signatures,
     family: &Declaring<'_, '_>,
-    member: &Member<'_>,
+    member: &ListedMember<'_>,
     body: usize,
-    found: &mut Vec<Method>,
+    found: &mut Vec<ScriptMethod>,
 ) -> Result<(), AllocError>
     ensures pushed { OnOk result (found.new.items ≡ found.old.items
         ++ spec.methods_by space.now signatures.now family.now member.now body member.now.kind) }
@@ -192,7 +192,7 @@ pub fn methods_of(
     signatures: &Signatures,
     family: &Declaring<'_, '_>,
     before: &[u8],
-) -> Result<List<Method>, AllocError>
+) -> Result<List<ScriptMethod>, AllocError>
     ensures exact { IfOk result (λ ms. ms ≡ each_after
         (spec.methods_after space.now signatures.now family.now
         (length before.now)) [] family.now.shape.members) }
@@ -213,9 +213,9 @@ fn push_constructor(
     alloc: Global,
     space: &Space<'_>,
     family: &Declaring<'_, '_>,
-    member: &Member<'_>,
+    member: &ListedMember<'_>,
     body: usize,
-    found: &mut Vec<Constructor>,
+    found: &mut Vec<ScriptConstructor>,
 ) -> Result<(), AllocError>
     ensures pushed { OnOk result (found.new.items ≡ found.old.items
         ++ spec.constructors_by space.now family.now member.now body member.now.kind) }
@@ -230,7 +230,7 @@ fn push_constructor(
                 &member.name,
                 params.items(),
             )?;
-            found.push(Constructor { function, body })?;
+            found.push(ScriptConstructor { function, body })?;
             Ok(())
         }
         MemberKind::Field(_) | MemberKind::Method(_, _, _) => Ok(()),
@@ -245,7 +245,7 @@ pub fn constructors_of(
     space: &Space<'_>,
     family: &Declaring<'_, '_>,
     before: &[u8],
-) -> Result<List<Constructor>, AllocError>
+) -> Result<List<ScriptConstructor>, AllocError>
     ensures exact { IfOk result (λ ks. ks ≡ each_after (spec.constructors_after
         space.now family.now (length before.now)) [] family.now.shape.members) }
 {

@@ -13,7 +13,7 @@ use crate::space::space_of;
 use crate::{Tables, function_with, heading_of, parameters_of, tables_of};
 use ang_kinds::List;
 use ang_names_known::{Family, NameLists, Names, ScriptFunction, ScriptGlobal, Space};
-use ang_names_listed::{Declared, Part, Role, copy_at, declares_function, families_of, written_in};
+use ang_names_listed::{ListedDeclaration, Part, TypePosition, copy_at, declares_function, families_of, written_in};
 use ang_tree::{Parameter, TypeName};
 use ang_view::View;
 use std::alloc::{AllocError, Global};
@@ -21,7 +21,7 @@ use std::alloc::{AllocError, Global};
 fn import_of(
     alloc: Global,
     space: &Space<'_>,
-    declared: &Declared<'_>,
+    declared: &ListedDeclaration<'_>,
     ty: &TypeName,
     params: &[Parameter],
 ) -> Result<ScriptFunction, AllocError>
@@ -29,7 +29,7 @@ fn import_of(
         (λ f. f ≡ spec.import_of space.now declared.now ty.now params.now) }
 {
     let text = declared.text.bytes();
-    let result_type = written_in(space, Role::ImportResult, text, ty);
+    let result_type = written_in(space, TypePosition::ImportResult, text, ty);
     let params = parameters_of(alloc, space, text, true, params)?;
     function_with(
         alloc,
@@ -44,7 +44,7 @@ fn import_of(
 fn global_with(
     alloc: Global,
     space: &Space<'_>,
-    declared: &Declared<'_>,
+    declared: &ListedDeclaration<'_>,
     ty: &TypeName,
 ) -> Result<ScriptGlobal, AllocError>
     ensures exact { IfOk result (λ g. g ≡ spec.global_with space.now declared.now ty.now) }
@@ -54,7 +54,7 @@ fn global_with(
     Ok(ScriptGlobal {
         name,
         place: declared.name.place,
-        written: written_in(space, Role::Variable, text, ty),
+        written: written_in(space, TypePosition::Variable, text, ty),
         origin: declared.origin,
     })
 }
@@ -64,7 +64,7 @@ fn global_with(
 fn function_of(
     alloc: Global,
     space: &Space<'_>,
-    declared: &Declared<'_>,
+    declared: &ListedDeclaration<'_>,
 ) -> Result<Option<ScriptFunction>, AllocError>
     ensures exact { IfOk result (λ f. f ≡ spec.function_of space.now declared.now) }
 {
@@ -92,7 +92,7 @@ fn function_of(
 fn imported_of(
     alloc: Global,
     space: &Space<'_>,
-    declared: &Declared<'_>,
+    declared: &ListedDeclaration<'_>,
 ) -> Result<Option<ScriptFunction>, AllocError>
     ensures exact { IfOk result (λ f. f ≡ spec.imported_of space.now declared.now) }
 {
@@ -110,7 +110,7 @@ fn imported_of(
 fn global_of(
     alloc: Global,
     space: &Space<'_>,
-    declared: &Declared<'_>,
+    declared: &ListedDeclaration<'_>,
 ) -> Result<Option<ScriptGlobal>, AllocError>
     ensures exact { IfOk result (λ g. g ≡ spec.global_of space.now declared.now) }
 {
@@ -123,7 +123,7 @@ fn global_of(
 fn functions_in(
     alloc: Global,
     space: &Space<'_>,
-    all: &[Declared<'_>],
+    all: &[ListedDeclaration<'_>],
 ) -> Result<List<ScriptFunction>, AllocError>
     ensures exact { IfOk result (λ fs. fs ≡ filter_map (spec.function_of space.now) all.now) }
 {
@@ -139,7 +139,7 @@ fn functions_in(
 fn imports_in(
     alloc: Global,
     space: &Space<'_>,
-    all: &[Declared<'_>],
+    all: &[ListedDeclaration<'_>],
 ) -> Result<List<ScriptFunction>, AllocError>
     ensures exact { IfOk result (λ fs. fs ≡ filter_map (spec.imported_of space.now) all.now) }
 {
@@ -155,7 +155,7 @@ fn imports_in(
 fn globals_in(
     alloc: Global,
     space: &Space<'_>,
-    all: &[Declared<'_>],
+    all: &[ListedDeclaration<'_>],
 ) -> Result<List<ScriptGlobal>, AllocError>
     ensures exact { IfOk result (λ gs. gs ≡ filter_map (spec.global_of space.now) all.now) }
 {
@@ -169,7 +169,7 @@ fn globals_in(
 }
 
 /// All names that are declared.
-fn declared_names(alloc: Global, all: &[Declared<'_>]) -> Result<List<List<u8>>, AllocError>
+fn declared_names(alloc: Global, all: &[ListedDeclaration<'_>]) -> Result<List<List<u8>>, AllocError>
     ensures exact { IfOk result (λ names. names ≡ list_map declared_name all.now) }
 {
     let mut names = Vec::new(alloc);
@@ -182,7 +182,7 @@ fn declared_names(alloc: Global, all: &[Declared<'_>]) -> Result<List<List<u8>>,
 
 /// How many functions are declared.
 #[tactic(auto, using(crate::proofs::MemberCounts::functions_counted))]
-fn function_count(all: &[Declared<'_>]) -> usize
+fn function_count(all: &[ListedDeclaration<'_>]) -> usize
     ensures exact { (E : spaces.Space) → result ≡ length (spec.functions_in E all.now) }
 {
     all.iter().filter(|d| declares_function(&d.part)).count()
@@ -195,7 +195,7 @@ fn function_count(all: &[Declared<'_>]) -> usize
 pub fn families_among(
     alloc: Global,
     space: &Space<'_>,
-    all: &[Declared<'_>],
+    all: &[ListedDeclaration<'_>],
 ) -> Result<(List<Family>, Tables), AllocError>
     requires few { length (listed.families_of all.now) ≤ 256 }
     ensures families { IfOk result (λ found. found.0 ≡ spec.families_in space.now all.now) }
@@ -217,7 +217,7 @@ pub fn families_among(
 pub fn names_of<'a>(
     alloc: Global,
     view: &'a View,
-    all: &[Declared<'a>],
+    all: &[ListedDeclaration<'a>],
 ) -> Result<Names, AllocError>
     requires few { length (listed.families_of all.now) ≤ 256 }
     ensures exact { IfOk result (λ names. names ≡ spec.names_of view.now all.now) }

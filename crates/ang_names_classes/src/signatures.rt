@@ -4,19 +4,19 @@ ghost use Rattle.ang_names_classes.specs.Headings as spec;
 
 use crate::headings::heading_of;
 use ang_names_known::{ScriptFunction, Space, same_parameters};
-use ang_names_listed::{Declaring, Member, MemberKind};
+use ang_names_listed::{Declaring, ListedMember, MemberKind};
 use std::alloc::{AllocError, Global};
 
 /// A method's heading, and whether it is `const`.
-pub type Signature = (ScriptFunction, bool);
+pub type MethodSignature = (ScriptFunction, bool);
 
 /// The signature of a member, if it is a method.
 fn signature_of(
     alloc: Global,
     space: &Space<'_>,
     family: &Declaring<'_, '_>,
-    member: &Member<'_>,
-) -> Result<Option<Signature>, AllocError>
+    member: &ListedMember<'_>,
+) -> Result<Option<MethodSignature>, AllocError>
     ensures exact { IfOk result (λ s. s
         ≡ spec.signature_by space.now family.now member.now member.now.kind) }
 {
@@ -42,7 +42,7 @@ fn push_signatures(
     alloc: Global,
     space: &Space<'_>,
     family: &Declaring<'_, '_>,
-    found: &mut Vec<Signature>,
+    found: &mut Vec<MethodSignature>,
 ) -> Result<(), AllocError>
     ensures pushed { OnOk result (found.new.items ≡ found.old.items
         ++ spec.signatures_in space.now family.now) }
@@ -62,7 +62,7 @@ pub fn all_signatures(
     alloc: Global,
     space: &Space<'_>,
     families: &[Declaring<'_, '_>],
-) -> Result<Vec<Signature>, AllocError>
+) -> Result<Vec<MethodSignature>, AllocError>
     ensures exact { IfOk result
         (λ found. found.items ≡ spec.signatures_of space.now families.now) }
 {
@@ -74,7 +74,7 @@ pub fn all_signatures(
 }
 
 /// Whether two methods stand for one another: by equal name, parameters and `const`.
-pub fn is_same(function: &ScriptFunction, read_only: bool, other: &Signature) -> bool
+pub fn is_same(function: &ScriptFunction, read_only: bool, other: &MethodSignature) -> bool
     ensures exact { result ≡ spec.same_signature (function.now, read_only) other.now }
 {
     function.name.as_slice() == other.0.name.as_slice()

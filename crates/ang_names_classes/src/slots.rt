@@ -5,7 +5,7 @@ ghost use Rattle.ang_names_classes.specs.Keys as keys;
 ghost use Rattle.ang_names_classes.specs.Slots as slots;
 
 use crate::keys::method_key;
-use crate::signatures::{Signature, all_signatures, is_same};
+use crate::signatures::{MethodSignature, all_signatures, is_same};
 use ang_index::Index;
 use ang_names_known::{ScriptFunction, Space};
 use ang_names_listed::Declaring;
@@ -19,7 +19,7 @@ const METHODS: u64 = 0;
 /// Beside them stand their numbers by key, so that a method is compared with those of its signature alone.
 #[derive(Drop)]
 pub struct Signatures {
-    items: Vec<Signature>,
+    items: Vec<MethodSignature>,
     numbers: Index<usize>,
 }
 
@@ -36,7 +36,7 @@ impl Model for Signatures {
 }
 
 /// The numbers of all methods by key.
-fn numbers_by_key(alloc: Global, signatures: &[Signature]) -> Result<Index<usize>, AllocError>
+fn numbers_by_key(alloc: Global, signatures: &[MethodSignature]) -> Result<Index<usize>, AllocError>
     ensures exact { IfOk result (λ numbers. slots.HasNumbers signatures.now numbers) }
 {
     let mut numbers = Index::new(alloc);
@@ -64,7 +64,7 @@ pub fn signatures_of(
 
 /// Whether the method of this number is of this signature.
 fn is_same_at(
-    signatures: &[Signature],
+    signatures: &[MethodSignature],
     function: &ScriptFunction,
     read_only: bool,
     number: usize,
@@ -79,7 +79,7 @@ fn is_same_at(
 
 /// The first of some numbers whose method is of this signature.
 fn first_same(
-    signatures: &[Signature],
+    signatures: &[MethodSignature],
     function: &ScriptFunction,
     read_only: bool,
     numbers: &[usize],
@@ -105,7 +105,7 @@ impl Signatures {
         self.numbers.find(METHODS, key)
     }
 
-    fn items(&self) -> &[Signature]
+    fn items(&self) -> &[MethodSignature]
         ensures exact { result.now ≡ self.now }
     {
         self.items.as_slice()
@@ -114,7 +114,7 @@ impl Signatures {
 
 /// The first of these numbers whose method is of this signature, or how many methods there are where none is.
 fn first_or_count(
-    items: &[Signature],
+    items: &[MethodSignature],
     function: &ScriptFunction,
     read_only: bool,
     keyed: &[usize],

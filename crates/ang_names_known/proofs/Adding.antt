@@ -16,7 +16,7 @@ use Rattle.ang_view.proofs.Seen.{length-seen, entry_at-seen}
 use Rattle.ang_view.proofs.ViewTypes.{has_mask-named, shown}
 use Rattle.ang_view.specs.Hidden.{names_entry, is_with, shown_from, seen_entry_with, seen_with}
 use Rattle.ang_types.specs.declared.arg_type.ArgType.TheVariants as type
-use Rattle.ang_names_known.specs.declared.host.HostFunction.{HostFunction}
+use Rattle.ang_names_known.specs.declared.host.SeenFunction.{SeenFunction}
 use Rattle.ang_names_known.specs.declared.host.Wanted.{Wanted}
 use Rattle.ang_names_known.specs.declared.host.Wanted.TheVariants as wanted
 use Rattle.ang_names_known.specs.Added.{put_in, added}
@@ -264,7 +264,7 @@ no_type (wanted.Function name) y e = function_no_type y.kind (and_gives (is_func
 no_type (wanted.Factory n) y e = factory_no_type y.kind (and_gives (is_factory y.kind) _ e).0
 no_type (wanted.Method n name) y e = method_no_type y.kind (and_gives (is_method y.kind) _ e).0
 
-pub where_wanted : (b : Bool) (o q : Option HostFunction) → (b ≡ true → o ≡ q) → cond b o None ≡ cond b q None
+pub where_wanted : (b : Bool) (o q : Option SeenFunction) → (b ≡ true → o ≡ q) → cond b o None ≡ cond b q None
 where_wanted true o q h = h refl
 where_wanted false o q h = refl
 
@@ -280,11 +280,11 @@ found_no_type w V n y t = rw (type_not_wanted w y (is_wanted w y) refl t) refl
 
 -- ---- scans
 
-unfoldable pub scan_n : (ℕ → Option HostFunction) → ℕ → ℕ → List HostFunction
+unfoldable pub scan_n : (ℕ → Option SeenFunction) → ℕ → ℕ → List SeenFunction
 scan_n F n zero = []
 scan_n F n (suc l) = option_to_list (F n) ++ scan_n F (n + 1) l
 
-pub scan-is : (f : ℕ → Option Entry → Option HostFunction) (R xs : RegistrationList) (n : ℕ) → ((j : ℕ) → entry_at xs j ≡ entry_at R (n + j)) → scan f n xs ≡ scan_n (λ k. f k (entry_at R k)) n (length xs)
+pub scan-is : (f : ℕ → Option Entry → Option SeenFunction) (R xs : RegistrationList) (n : ℕ) → ((j : ℕ) → entry_at xs j ≡ entry_at R (n + j)) → scan f n xs ≡ scan_n (λ k. f k (entry_at R k)) n (length xs)
 unfolding scan_n
 scan-is f R [] n h = refl
 scan-is f R (x ∷ xs) n h =
@@ -297,7 +297,7 @@ pub host_where-is : (w : Wanted) (V : RegistrationList) → host_where w V ≡ s
 unfolding host_where
 host_where-is w V = scan-is (found w V) V V 0 (λ j. let e : j ≡ 0 + j = omega arith in ap (entry_at V) e)
 
-pub scan_n-same : (F G : ℕ → Option HostFunction) (n l : ℕ) → ((k : ℕ) → n ≤ k → F k ≡ G k) → scan_n F n l ≡ scan_n G n l
+pub scan_n-same : (F G : ℕ → Option SeenFunction) (n l : ℕ) → ((k : ℕ) → n ≤ k → F k ≡ G k) → scan_n F n l ≡ scan_n G n l
 unfolding scan_n
 scan_n-same F G n zero h = refl
 scan_n-same F G n (suc l) h =
@@ -306,7 +306,7 @@ scan_n-same F G n (suc l) h =
     λ i. option_to_list (here i) ++ rest i
 
 -- each is found under its number
-abbrev pub HaveNumbers : (ℕ → Option HostFunction) → Type 0
+abbrev pub HaveNumbers : (ℕ → Option SeenFunction) → Type 0
 HaveNumbers G = (k : ℕ) → IfSome (G k) (λ h. h.entity.0 ≡ k)
 
 pub lt_is : (a b : ℕ) → a < b → nat_lt a b ≡ true
@@ -315,22 +315,22 @@ lt_is a b h = search arith
 pub not_lt_is : (a b : ℕ) → b ≤ a → nat_lt a b ≡ false
 not_lt_is a b h = search arith
 
-pub in_front_of : (f : HostFunction) (o : Option HostFunction) (rest : List HostFunction) (k : ℕ) → f.entity.0 < k → IfSome o (λ h. h.entity.0 ≡ k) → put_in f rest ≡ f ∷ rest → put_in f (option_to_list o ++ rest) ≡ f ∷ (option_to_list o ++ rest)
+pub in_front_of : (f : SeenFunction) (o : Option SeenFunction) (rest : List SeenFunction) (k : ℕ) → f.entity.0 < k → IfSome o (λ h. h.entity.0 ≡ k) → put_in f rest ≡ f ∷ rest → put_in f (option_to_list o ++ rest) ≡ f ∷ (option_to_list o ++ rest)
 in_front_of f None rest k lt e h = h
 in_front_of f (Some g) rest k lt e h =
     let less : f.entity.0 < g.entity.0 = subst (λ j. f.entity.0 < j) (sym e) lt in
     rw (lt_is f.entity.0 g.entity.0 less) refl
 
-pub put_front : (f : HostFunction) (G : ℕ → Option HostFunction) → HaveNumbers G → (n l : ℕ) → f.entity.0 < n → put_in f (scan_n G n l) ≡ f ∷ scan_n G n l
+pub put_front : (f : SeenFunction) (G : ℕ → Option SeenFunction) → HaveNumbers G → (n l : ℕ) → f.entity.0 < n → put_in f (scan_n G n l) ≡ f ∷ scan_n G n l
 unfolding scan_n
 put_front f G h n zero lt = refl
 put_front f G h n (suc l) lt = in_front_of f (G n) (scan_n G (n + 1) l) n lt (h n) (put_front f G h (n + 1) l (omega arith))
 
-pub front : (o : Option HostFunction) (G : ℕ → Option HostFunction) → HaveNumbers G → (x l : ℕ) → IfSome o (λ h. h.entity.0 ≡ x) → option_to_list o ++ scan_n G (x + 1) l ≡ added o (scan_n G (x + 1) l)
+pub front : (o : Option SeenFunction) (G : ℕ → Option SeenFunction) → HaveNumbers G → (x l : ℕ) → IfSome o (λ h. h.entity.0 ≡ x) → option_to_list o ++ scan_n G (x + 1) l ≡ added o (scan_n G (x + 1) l)
 front None G h x l e = refl
 front (Some f) G h x l e = let lt : f.entity.0 < x + 1 = omega (arith, e) in sym (put_front f G h (x + 1) l lt)
 
-pub past : (o q : Option HostFunction) (rest : List HostFunction) (n x : ℕ) → n < x → IfSome o (λ h. h.entity.0 ≡ n) → IfSome q (λ h. h.entity.0 ≡ x) → option_to_list o ++ added q rest ≡ added q (option_to_list o ++ rest)
+pub past : (o q : Option SeenFunction) (rest : List SeenFunction) (n x : ℕ) → n < x → IfSome o (λ h. h.entity.0 ≡ n) → IfSome q (λ h. h.entity.0 ≡ x) → option_to_list o ++ added q rest ≡ added q (option_to_list o ++ rest)
 past None q rest n x lt e f = refl
 past (Some g) None rest n x lt e f = refl
 past (Some g) (Some h) rest n x lt e f =
@@ -340,7 +340,7 @@ past (Some g) (Some h) rest n x lt e f =
 pub order : (n x : ℕ) → n ≤ x → (n ≡ x) ⊎ (n < x)
 order n x le = grind arith
 
-pub at_place : (F G : ℕ → Option HostFunction) (x : ℕ) → HaveNumbers F → HaveNumbers G → ((k : ℕ) → k ≢ x → F k ≡ G k) → G x ≡ None → (n l : ℕ) → n ≡ x
+pub at_place : (F G : ℕ → Option SeenFunction) (x : ℕ) → HaveNumbers F → HaveNumbers G → ((k : ℕ) → k ≢ x → F k ≡ G k) → G x ≡ None → (n l : ℕ) → n ≡ x
     → option_to_list (F n) ++ scan_n F (n + 1) l ≡ added (F x) (option_to_list (G n) ++ scan_n G (n + 1) l)
 at_place F G x a b same isnt n l is =
     let rest = scan_n-same F G (n + 1) l (λ k le. same k (omega arith)) in
@@ -350,7 +350,7 @@ at_place F G x a b same isnt n l is =
     ∙ front (F n) G b n l (a n)
     ∙ (λ i. added (e i) (option_to_list (sym g i) ++ scan_n G (n + 1) l))
 
-pub scan_n-added : (F G : ℕ → Option HostFunction) (x : ℕ) → HaveNumbers F → HaveNumbers G → ((k : ℕ) → k ≢ x → F k ≡ G k) → G x ≡ None → (n l : ℕ) → n ≤ x → x < n + l
+pub scan_n-added : (F G : ℕ → Option SeenFunction) (x : ℕ) → HaveNumbers F → HaveNumbers G → ((k : ℕ) → k ≢ x → F k ≡ G k) → G x ≡ None → (n l : ℕ) → n ≤ x → x < n + l
     → scan_n F n l ≡ added (F x) (scan_n G n l)
 unfolding scan_n
 scan_n-added F G x a b same isnt n zero le lt = absurd (omega arith)
@@ -422,8 +422,8 @@ pub one_added : (R : RegistrationList) (m x : ℕ) (w : Wanted) → entry_at (se
 one_added R m x w hidden =
     let V = seen_with R m x in
     let S = seen R m in
-    let F : ℕ → Option HostFunction = λ k. found w V k (entry_at V k) in
-    let G : ℕ → Option HostFunction = λ k. found w S k (entry_at S k) in
+    let F : ℕ → Option SeenFunction = λ k. found w V k (entry_at V k) in
+    let G : ℕ → Option SeenFunction = λ k. found w S k (entry_at S k) in
     let same : (k : ℕ) → k ≢ x → F k ≡ G k = λ k ne.
     ap (found w V k) (entry_at-seen_with R m x k) ∙ at_other R m x w k ne (entry_at R k) refl ∙ sym (ap (found w S k) (entry_at-seen R m k)) in
     let isnt : G x ≡ None = ap (found w S x) hidden in
@@ -447,6 +447,6 @@ one_added R m x w hidden =
           ∙ sym (ap (λ o. added (found w R x o) (host_where w S)) none)
     ]
   where
-    everywhere : (F G : ℕ → Option HostFunction) (x : ℕ) → ((k : ℕ) → k ≢ x → F k ≡ G k) → F x ≡ G x → (k : ℕ) (b : Bool) → (k == x) ≡ b → F k ≡ G k
+    everywhere : (F G : ℕ → Option SeenFunction) (x : ℕ) → ((k : ℕ) → k ≢ x → F k ≡ G k) → F x ≡ G x → (k : ℕ) (b : Bool) → (k == x) ≡ b → F k ≡ G k
     everywhere F G x h e k true t = let is : k ≡ x = search (arith, t) in ap F is ∙ e ∙ sym (ap G is)
     everywhere F G x h e k false t = let ne : k ≢ x = search (arith, t) in h k ne

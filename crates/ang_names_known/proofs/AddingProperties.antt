@@ -10,7 +10,7 @@ use Rattle.ang_view.specs.Hidden.{is_with, names_entry, seen_entry_with, seen_wi
 use Rattle.ang_view.proofs.Lists.{and_gives}
 use Rattle.ang_view.proofs.Seen.{length-seen, entry_at-seen}
 use Rattle.ang_types.specs.declared.arg_type.ArgType.{ArgType}
-use Rattle.ang_names_known.specs.declared.host.HostProperty.{HostProperty}
+use Rattle.ang_names_known.specs.declared.host.SeenProperty.{SeenProperty}
 use Rattle.ang_names_known.specs.declared.host.WantedProperty.{WantedProperty}
 use Rattle.ang_names_known.specs.declared.host.WantedProperty.TheVariants as wanted
 use Rattle.ang_names_known.specs.Added.{added_property}
@@ -44,7 +44,7 @@ no_type : (w : WantedProperty) (y : Entry) → is_wanted_property w y ≡ true �
 no_type (wanted.Global name) y e = global_no_type y.kind (and_gives (is_global y.kind) _ e).0
 no_type (wanted.Member n name) y e = property_no_type y.kind (and_gives (is_property y.kind) _ e).0
 
-where_wanted : (b : Bool) (o q : Option HostProperty) → (b ≡ true → o ≡ q) → cond b o None ≡ cond b q None
+where_wanted : (b : Bool) (o q : Option SeenProperty) → (b ≡ true → o ≡ q) → cond b o None ≡ cond b q None
 where_wanted true o q h = h refl
 where_wanted false o q h = refl
 
@@ -63,11 +63,11 @@ found_no_type w V n y t = rw (type_not_wanted w y (is_wanted_property w y) refl 
 
 -- ---- searches
 
-unfoldable pub first_n : (ℕ → Option HostProperty) → ℕ → ℕ → Option HostProperty
+unfoldable pub first_n : (ℕ → Option SeenProperty) → ℕ → ℕ → Option SeenProperty
 first_n F n zero = None
 first_n F n (suc l) = option_or (F n) (first_n F (n + 1) l)
 
-first-is : (f : ℕ → Option Entry → Option HostProperty) (R xs : RegistrationList) (n : ℕ) → ((j : ℕ) → entry_at xs j ≡ entry_at R (n + j))
+first-is : (f : ℕ → Option Entry → Option SeenProperty) (R xs : RegistrationList) (n : ℕ) → ((j : ℕ) → entry_at xs j ≡ entry_at R (n + j))
     → first_found f n xs ≡ first_n (λ k. f k (entry_at R k)) n (length xs)
 unfolding first_n
 first-is f R [] n h = refl
@@ -81,7 +81,7 @@ pub property_where-is : (w : WantedProperty) (V : RegistrationList) → property
 unfolding property_where
 property_where-is w V = first-is (property_found w V) V V 0 (λ j. let e : j ≡ 0 + j = omega arith in ap (entry_at V) e)
 
-first_n-same : (F G : ℕ → Option HostProperty) (n l : ℕ) → ((k : ℕ) → n ≤ k → F k ≡ G k) → first_n F n l ≡ first_n G n l
+first_n-same : (F G : ℕ → Option SeenProperty) (n l : ℕ) → ((k : ℕ) → n ≤ k → F k ≡ G k) → first_n F n l ≡ first_n G n l
 unfolding first_n
 first_n-same F G n zero h = refl
 first_n-same F G n (suc l) h =
@@ -90,27 +90,27 @@ first_n-same F G n (suc l) h =
     λ i. option_or (here i) (rest i)
 
 -- each is found under its number
-abbrev pub HaveNumbers : (ℕ → Option HostProperty) → Type 0
+abbrev pub HaveNumbers : (ℕ → Option SeenProperty) → Type 0
 HaveNumbers G = (k : ℕ) → IfSome (G k) (λ h. h.entity.0 ≡ k)
 
-low_or : (o r : Option HostProperty) (n : ℕ) → IfSome o (λ h. h.entity.0 ≡ n) → IfSome r (λ h. n + 1 ≤ h.entity.0) → IfSome (option_or o r) (λ h. n ≤ h.entity.0)
+low_or : (o r : Option SeenProperty) (n : ℕ) → IfSome o (λ h. h.entity.0 ≡ n) → IfSome r (λ h. n + 1 ≤ h.entity.0) → IfSome (option_or o r) (λ h. n ≤ h.entity.0)
 low_or None None n e f = tt
 low_or None (Some g) n e f = omega (arith, f)
 low_or (Some g) r n e f = omega (arith, e)
 
-first_n-low : (G : ℕ → Option HostProperty) → HaveNumbers G → (n l : ℕ) → IfSome (first_n G n l) (λ h. n ≤ h.entity.0)
+first_n-low : (G : ℕ → Option SeenProperty) → HaveNumbers G → (n l : ℕ) → IfSome (first_n G n l) (λ h. n ≤ h.entity.0)
 unfolding first_n
 first_n-low G h n zero = tt
 first_n-low G h n (suc l) = low_or (G n) (first_n G (n + 1) l) n (h n) (first_n-low G h (n + 1) l)
 
-front : (o r : Option HostProperty) (x : ℕ) → IfSome o (λ h. h.entity.0 ≡ x) → IfSome r (λ h. x + 1 ≤ h.entity.0) → option_or o r ≡ added_property o r
+front : (o r : Option SeenProperty) (x : ℕ) → IfSome o (λ h. h.entity.0 ≡ x) → IfSome r (λ h. x + 1 ≤ h.entity.0) → option_or o r ≡ added_property o r
 front None r x e f = refl
 front (Some p) None x e f = refl
 front (Some p) (Some q) x e f =
     let lt : p.entity.0 < q.entity.0 = omega (arith, e, f) in
     rw (lt_is p.entity.0 q.entity.0 lt) refl
 
-past : (o q rest : Option HostProperty) (n x : ℕ) → n < x → IfSome o (λ h. h.entity.0 ≡ n) → IfSome q (λ h. h.entity.0 ≡ x)
+past : (o q rest : Option SeenProperty) (n x : ℕ) → n < x → IfSome o (λ h. h.entity.0 ≡ n) → IfSome q (λ h. h.entity.0 ≡ x)
     → option_or o (added_property q rest) ≡ added_property q (option_or o rest)
 past None q rest n x lt e f = refl
 past (Some g) None rest n x lt e f = refl
@@ -118,7 +118,7 @@ past (Some g) (Some h) rest n x lt e f =
     let le : g.entity.0 ≤ h.entity.0 = omega (arith, e, f) in
     rw (not_lt_is h.entity.0 g.entity.0 le) refl
 
-at_place : (F G : ℕ → Option HostProperty) (x : ℕ) → HaveNumbers F → HaveNumbers G → ((k : ℕ) → k ≢ x → F k ≡ G k) → G x ≡ None → (n l : ℕ) → n ≡ x
+at_place : (F G : ℕ → Option SeenProperty) (x : ℕ) → HaveNumbers F → HaveNumbers G → ((k : ℕ) → k ≢ x → F k ≡ G k) → G x ≡ None → (n l : ℕ) → n ≡ x
     → option_or (F n) (first_n F (n + 1) l) ≡ added_property (F x) (option_or (G n) (first_n G (n + 1) l))
 at_place F G x a b same isnt n l is =
     let rest = first_n-same F G (n + 1) l (λ k le. same k (omega arith)) in
@@ -128,7 +128,7 @@ at_place F G x a b same isnt n l is =
     ∙ front (F n) (first_n G (n + 1) l) n (a n) (first_n-low G b (n + 1) l)
     ∙ (λ i. added_property (e i) (option_or (sym g i) (first_n G (n + 1) l)))
 
-first_n-added : (F G : ℕ → Option HostProperty) (x : ℕ) → HaveNumbers F → HaveNumbers G → ((k : ℕ) → k ≢ x → F k ≡ G k) → G x ≡ None → (n l : ℕ) → n ≤ x → x < n + l
+first_n-added : (F G : ℕ → Option SeenProperty) (x : ℕ) → HaveNumbers F → HaveNumbers G → ((k : ℕ) → k ≢ x → F k ≡ G k) → G x ≡ None → (n l : ℕ) → n ≤ x → x < n + l
     → first_n F n l ≡ added_property (F x) (first_n G n l)
 unfolding first_n
 first_n-added F G x a b same isnt n zero le lt = absurd (omega arith)
@@ -176,8 +176,8 @@ pub one_property_added : (R : RegistrationList) (m x : ℕ) (w : WantedProperty)
 one_property_added R m x w hidden =
     let V = seen_with R m x in
     let S = seen R m in
-    let F : ℕ → Option HostProperty = λ k. property_found w V k (entry_at V k) in
-    let G : ℕ → Option HostProperty = λ k. property_found w S k (entry_at S k) in
+    let F : ℕ → Option SeenProperty = λ k. property_found w V k (entry_at V k) in
+    let G : ℕ → Option SeenProperty = λ k. property_found w S k (entry_at S k) in
     let same : (k : ℕ) → k ≢ x → F k ≡ G k = λ k ne.
     ap (property_found w V k) (entry_at-seen_with R m x k) ∙ at_other R m x w k ne (entry_at R k) refl ∙ sym (ap (property_found w S k) (entry_at-seen R m k)) in
     let isnt : G x ≡ None = ap (property_found w S x) hidden in
@@ -201,6 +201,6 @@ one_property_added R m x w hidden =
           ∙ sym (ap (λ o. added_property (property_found w R x o) (property_where w S)) none)
     ]
   where
-    everywhere : (F G : ℕ → Option HostProperty) (x : ℕ) → ((k : ℕ) → k ≢ x → F k ≡ G k) → F x ≡ G x → (k : ℕ) (b : Bool) → (k == x) ≡ b → F k ≡ G k
+    everywhere : (F G : ℕ → Option SeenProperty) (x : ℕ) → ((k : ℕ) → k ≢ x → F k ≡ G k) → F x ≡ G x → (k : ℕ) (b : Bool) → (k == x) ≡ b → F k ≡ G k
     everywhere F G x h e k true t = let is : k ≡ x = search (arith, t) in ap F is ∙ e ∙ sym (ap G is)
     everywhere F G x h e k false t = let ne : k ≢ x = search (arith, t) in h k ne

@@ -10,8 +10,8 @@ use Rattle.ang_view.specs.declared.entry.EntryKind.TheVariants as entry
 use Rattle.ang_view.specs.Registration.{RegistrationList, entry_at, is_function, is_number}
 use Rattle.ang_view.specs.Hidden.{numbers_of}
 use Rattle.ang_view.specs.Named.{find, has_name, is_bare, is_maker, is_member, is_member_kind, makers, makes, owned}
-use Rattle.ang_names_known.specs.declared.host.HostFunction.{HostFunction}
-use Rattle.ang_names_known.specs.declared.host.HostProperty.{HostProperty}
+use Rattle.ang_names_known.specs.declared.host.SeenFunction.{SeenFunction}
+use Rattle.ang_names_known.specs.declared.host.SeenProperty.{SeenProperty}
 use Rattle.ang_names_known.specs.declared.host.Wanted.{Wanted}
 use Rattle.ang_names_known.specs.declared.host.Wanted.TheVariants as wanted
 use Rattle.ang_names_known.specs.declared.host.WantedProperty.{WantedProperty}
@@ -95,7 +95,7 @@ not_found : (w : Wanted) (V : RegistrationList) (n : ℕ) (o : Option Entry) →
 not_found w V n None e = refl
 not_found w V n (Some x) e = ap (λ b. cond b (function_of_entry V n x) None) e
 
-abbrev numbered : Wanted → RegistrationList → List ℕ → List HostFunction
+abbrev numbered : Wanted → RegistrationList → List ℕ → List SeenFunction
 numbered w V [] = []
 numbered w V (n ∷ ns) = option_to_list (found w V n (entry_at V n)) ++ numbered w V ns
 
@@ -168,7 +168,7 @@ no_property : (w : WantedProperty) (V : RegistrationList) (n : ℕ) (o : Option 
 no_property w V n None e = refl
 no_property w V n (Some x) e = ap (λ b. cond b (property_with n x (host_type V x.signature.result)) None) e
 
-abbrev properties : WantedProperty → RegistrationList → List ℕ → Option HostProperty
+abbrev properties : WantedProperty → RegistrationList → List ℕ → Option SeenProperty
 properties w V [] = None
 properties w V (n ∷ ns) = option_or (property_found w V n (entry_at V n)) (properties w V ns)
 

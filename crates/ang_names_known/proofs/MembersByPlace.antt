@@ -8,7 +8,7 @@ use Rattle.std.proofs.lemmas.List.{append-nil, take_more, length-take-le}
 use Rattle.ang_names_known.specs.declared.names.Family.{Family}
 use Rattle.ang_names_known.specs.declared.names.Field.{Field}
 use Rattle.ang_names_known.specs.declared.names.FoundField.{FoundField}
-use Rattle.ang_names_known.specs.declared.names.Method.{Method}
+use Rattle.ang_names_known.specs.declared.names.ScriptMethod.{ScriptMethod}
 use Rattle.ang_names_known.specs.Lookup.{declares_method, field_of, fields_in}
 use Rattle.ang_names_known.specs.NameIndex.{field_names, first_place, method_names, places_from, places_of}
 use Rattle.ang_names_known.specs.Nearest.{at_places, methods_declared, named_among, of_owner}
@@ -85,11 +85,11 @@ field_is o n name places place found row first is =
     ∙ ap (λ r. option_map (field_of n) (option_and_then (slice_get (fields_in o)) r)) (first ∙ ap first_place row ∙ first_from (λ (x : Field). x.name) name 0 (fields_in o))
     ∙ ap (option_map (field_of n)) (found_from (λ (x : Field). bytes_eq x.name name) 0 (fields_in o) (fields_in o) (from_start (fields_in o)))
 
-any_among : (name : List ℕ) (n : ℕ) (ms : List Method)
-    → is_some_place (places_from n (map (λ (m : Method). m.function.name) ms) name) ≡ list_any (λ (m : Method). bytes_eq m.function.name name) ms
+any_among : (name : List ℕ) (n : ℕ) (ms : List ScriptMethod)
+    → is_some_place (places_from n (map (λ (m : ScriptMethod). m.function.name) ms) name) ≡ list_any (λ (m : ScriptMethod). bytes_eq m.function.name name) ms
 any_among name n [] = refl
 any_among name n (m ∷ ms) =
-    any_step (bytes_eq m.function.name name) n (places_from (n + 1) (map (λ (x : Method). x.function.name) ms) name)
+    any_step (bytes_eq m.function.name name) n (places_from (n + 1) (map (λ (x : ScriptMethod). x.function.name) ms) name)
     ∙ ap (λ b. bytes_eq m.function.name name || b) (any_among name (n + 1) ms)
 
 pub any_method_is : (o : Option Family) (n : ℕ) (name places : List ℕ) → places ≡ places_of (method_names o) name
@@ -97,8 +97,8 @@ pub any_method_is : (o : Option Family) (n : ℕ) (name places : List ℕ) → p
 any_method_is None n name places row = not_empty places ∙ ap is_some_place row
 any_method_is (Some f) n name places row = not_empty places ∙ ap is_some_place row ∙ any_among name 0 f.methods
 
-named_from : (n : ℕ) (name : List ℕ) (all : List Method) (k : ℕ) (ms : List Method) → ((j : ℕ) → slice_get all (k + j) ≡ slice_get ms j)
-    → at_places n all (places_from k (map (λ (m : Method). m.function.name) ms) name) ≡ named_among name n ms
+named_from : (n : ℕ) (name : List ℕ) (all : List ScriptMethod) (k : ℕ) (ms : List ScriptMethod) → ((j : ℕ) → slice_get all (k + j) ≡ slice_get ms j)
+    → at_places n all (places_from k (map (λ (m : ScriptMethod). m.function.name) ms) name) ≡ named_among name n ms
 named_from n name all k [] stands = refl
 named_from n name all k (m ∷ ms) stands =
     let first : k + 0 ≡ k = omega arith in
@@ -106,7 +106,7 @@ named_from n name all k (m ∷ ms) stands =
     by (bytes_eq m.function.name name) here (named_from n name all (k + 1) ms (λ j. let up : (k + 1) + j ≡ k + suc j = omega arith in ap (slice_get all) up ∙ stands (suc j)))
   where
     rest : List ℕ
-    rest = places_from (k + 1) (map (λ (x : Method). x.function.name) ms) name
+    rest = places_from (k + 1) (map (λ (x : ScriptMethod). x.function.name) ms) name
 
     by : (b : Bool) → slice_get all k ≡ Some m → at_places n all rest ≡ named_among name n ms
         → at_places n all (cond b (k ∷ rest) rest) ≡ cond b (of_owner n m ∷ named_among name n ms) (named_among name n ms)

@@ -6,7 +6,7 @@ use Rattle.std.proofs.lemmas.List.{append-nil, drop_all, drop-append-le, length-
 use Rattle.std.proofs.lemmas.List.Elements.{filter-append}
 use Rattle.std.proofs.lemmas.List.Folds.{list_any-append}
 use Rattle.ang_names_known.specs.declared.names.Family.{Family}
-use Rattle.ang_names_known.specs.declared.names.Method.{Method}
+use Rattle.ang_names_known.specs.declared.names.ScriptMethod.{ScriptMethod}
 use Rattle.ang_names_known.specs.Items.{each_after}
 use Rattle.ang_names_known.specs.Lookup.{FoundMethod, with_family, families_at, methods_in, stands_in, is_named, if_nearest}
 use Rattle.ang_names_known.specs.Nearest.{at_places, methods_declared, of_owner, named_among, nearest_at}
@@ -86,13 +86,13 @@ one_more before old new (Some x) so_far pushed =
 
 -- ---- a loop over the places of methods of a family
 
-at_places-append : (n : ℕ) (ms : List Method) (ps qs : List ℕ) → at_places n ms (ps ++ qs) ≡ at_places n ms ps ++ at_places n ms qs
+at_places-append : (n : ℕ) (ms : List ScriptMethod) (ps qs : List ℕ) → at_places n ms (ps ++ qs) ≡ at_places n ms ps ++ at_places n ms qs
 at_places-append n ms [] qs = refl
 at_places-append n ms (p ∷ ps) qs =
     let own : List FoundMethod = option_to_list (option_map (of_owner n) (slice_get ms p)) in
     ap (λ r. own ++ r) (at_places-append n ms ps qs) ∙ sym (append_assoc own (at_places n ms ps) (at_places n ms qs))
 
-pub place_more : (before : List FoundMethod) (n : ℕ) (ms : List Method) (ps : List ℕ) (i : ℕ) (o : Option FoundMethod) (old new : List FoundMethod)
+pub place_more : (before : List FoundMethod) (n : ℕ) (ms : List ScriptMethod) (ps : List ℕ) (i : ℕ) (o : Option FoundMethod) (old new : List FoundMethod)
     → i < length ps → o ≡ option_map (of_owner n) (slice_get ms (get_or ps i 0)) → old ≡ nearest (before ++ at_places n ms (take i ps)) → new ≡ old ++ nearest_at old o
     → new ≡ nearest (before ++ at_places n ms (take (i + 1) ps))
 place_more before n ms ps i o old new lt is so_far pushed =

@@ -17,8 +17,8 @@ use Rattle.ang_view.specs.Registration.{RegistrationList, is_function, is_number
 use Rattle.ang_view.specs.Types.{enumeration_named, type_named}
 use Rattle.ang_types.specs.declared.arg_type.ArgType.{ArgType}
 use Rattle.ang_types.specs.declared.arg_type.ArgType.TheVariants as type
-use Rattle.ang_names_known.specs.declared.host.HostFunction.{HostFunction}
-use Rattle.ang_names_known.specs.declared.host.HostProperty.{HostProperty}
+use Rattle.ang_names_known.specs.declared.host.SeenFunction.{SeenFunction}
+use Rattle.ang_names_known.specs.declared.host.SeenProperty.{SeenProperty}
 use Rattle.ang_names_known.specs.declared.host.Wanted.{Wanted}
 use Rattle.ang_names_known.specs.declared.host.Wanted.TheVariants as wanted
 use Rattle.ang_names_known.specs.declared.host.WantedProperty.{WantedProperty}
@@ -53,7 +53,7 @@ abbrev pub host_parameters : RegistrationList → List Param → Option (List (A
 host_parameters V [] = Some []
 host_parameters V (p ∷ ps) = in_front (host_type V p.ty) p.pass (host_parameters V ps)
 
-abbrev pub host_function : ℕ → Entry → Option ArgType → Option (List (ArgType × Pass)) → Option HostFunction
+abbrev pub host_function : ℕ → Entry → Option ArgType → Option (List (ArgType × Pass)) → Option SeenFunction
 host_function n x None params = None
 host_function n x (Some t) None = None
 host_function n x (Some t) (Some params) = Some (record {
@@ -66,7 +66,7 @@ host_function n x (Some t) (Some params) = Some (record {
 })
 
 -- the function of an entry
-abbrev pub function_of_entry : RegistrationList → ℕ → Entry → Option HostFunction
+abbrev pub function_of_entry : RegistrationList → ℕ → Entry → Option SeenFunction
 function_of_entry V n x = host_function n x (host_type V x.signature.result) (host_parameters V x.signature.params)
 
 abbrev pub is_factory : EntryKind → Bool
@@ -100,16 +100,16 @@ wants_in w None = false
 wants_in w (Some x) = is_wanted w x
 
 -- what is found in the entry of a number
-abbrev pub found : Wanted → RegistrationList → ℕ → Option Entry → Option HostFunction
+abbrev pub found : Wanted → RegistrationList → ℕ → Option Entry → Option SeenFunction
 found w V n None = None
 found w V n (Some x) = if is_wanted w x then function_of_entry V n x else None
 
-abbrev pub scan : (ℕ → Option Entry → Option HostFunction) → ℕ → RegistrationList → List HostFunction
+abbrev pub scan : (ℕ → Option Entry → Option SeenFunction) → ℕ → RegistrationList → List SeenFunction
 scan f n [] = []
 scan f n (x ∷ xs) = option_to_list (f n x) ++ scan f (n + 1) xs
 
 -- All that is wanted in a view, in the order of the numbers.
-unfoldable pub host_where : Wanted → RegistrationList → List HostFunction
+unfoldable pub host_where : Wanted → RegistrationList → List SeenFunction
 host_where w V = scan (found w V) 0 V
 
 -- ---- properties
@@ -139,18 +139,18 @@ abbrev pub is_wanted_property : WantedProperty → Entry → Bool
 is_wanted_property (property.Global name) x = is_global x.kind && bytes_eq x.signature.name name
 is_wanted_property (property.Member n name) x = is_property x.kind && (is_number n x.owner && bytes_eq x.signature.name name)
 
-abbrev pub property_with : ℕ → Entry → Option ArgType → Option HostProperty
+abbrev pub property_with : ℕ → Entry → Option ArgType → Option SeenProperty
 property_with n x None = None
 property_with n x (Some t) = Some (record { entity = record { 0 = n }; driver = x.driver; f = x.f; ty = t; read_only = x.signature.read_only })
 
-abbrev pub property_found : WantedProperty → RegistrationList → ℕ → Option Entry → Option HostProperty
+abbrev pub property_found : WantedProperty → RegistrationList → ℕ → Option Entry → Option SeenProperty
 property_found w V n None = None
 property_found w V n (Some x) = if is_wanted_property w x then property_with n x (host_type V x.signature.result) else None
 
-abbrev pub first_found : (ℕ → Option Entry → Option HostProperty) → ℕ → RegistrationList → Option HostProperty
+abbrev pub first_found : (ℕ → Option Entry → Option SeenProperty) → ℕ → RegistrationList → Option SeenProperty
 first_found f n [] = None
 first_found f n (x ∷ xs) = option_or (f n x) (first_found f (n + 1) xs)
 
 -- The property that is wanted, in a view. The registry has one at most.
-unfoldable pub property_where : WantedProperty → RegistrationList → Option HostProperty
+unfoldable pub property_where : WantedProperty → RegistrationList → Option SeenProperty
 property_where w V = first_found (property_found w V) 0 V

@@ -11,13 +11,13 @@ use Rattle.ang_types.specs.declared.arg_type.ArgType.TheVariants as type
 use Rattle.ang_view.specs.Numbers.{primitive_number, pass_number}
 use Rattle.ang_names_known.specs.declared.names.Access.{Access}
 use Rattle.ang_names_known.specs.declared.names.Access.TheVariants as access
-use Rattle.ang_names_known.specs.declared.names.Constructor.{Constructor}
+use Rattle.ang_names_known.specs.declared.names.ScriptConstructor.{ScriptConstructor}
 use Rattle.ang_names_known.specs.declared.names.Default.{Default}
 use Rattle.ang_names_known.specs.declared.names.Default.TheVariants as default
 use Rattle.ang_names_known.specs.declared.names.Family.{Family}
 use Rattle.ang_names_known.specs.declared.names.Field.{Field}
 use Rattle.ang_names_known.specs.declared.names.FoundField.{FoundField}
-use Rattle.ang_names_known.specs.declared.names.Method.{Method}
+use Rattle.ang_names_known.specs.declared.names.ScriptMethod.{ScriptMethod}
 use Rattle.ang_names_known.specs.declared.names.ScriptFunction.{ScriptFunction}
 use Rattle.ang_names_known.specs.declared.names.ScriptGlobal.{ScriptGlobal}
 use Rattle.ang_names_known.specs.declared.names.ScriptParameter.{ScriptParameter}
@@ -148,10 +148,10 @@ field_named fs c name = first_field name (kin_of fs c)
 -- a method, with the family that declares it
 pub record FoundMethod : Type 0 where
   pub owner : ℕ
-  pub method : Method
+  pub method : ScriptMethod
 
 abbrev pub methods_in : Numbered → List FoundMethod
-methods_in f = map (λ (x : Method). record { owner = f.0; method = x }) f.1.methods
+methods_in f = map (λ (x : ScriptMethod). record { owner = f.0; method = x }) f.1.methods
 
 -- All methods of a family and of those that it has members of, the nearest first.
 unfoldable pub methods_of : List Family → ℕ → List FoundMethod
@@ -176,7 +176,7 @@ unfoldable pub methods_named : List Family → ℕ → List ℕ → List FoundMe
 methods_named fs c name = each_after if_nearest [] (filter (is_named name) (methods_of fs c))
 
 abbrev pub declares_method : List ℕ → Numbered → Bool
-declares_method name f = list_any (λ (x : Method). bytes_eq x.function.name name) f.1.methods
+declares_method name f = list_any (λ (x : ScriptMethod). bytes_eq x.function.name name) f.1.methods
 
 -- some method of the family has the name, own or inherited
 unfoldable pub has_method : List Family → ℕ → List ℕ → Bool
@@ -188,12 +188,12 @@ has_member fs c name = is_some (field_named fs c name) || has_method fs c name
 
 -- ---- constructors
 
-abbrev pub takes_nothing : Constructor → Bool
+abbrev pub takes_nothing : ScriptConstructor → Bool
 takes_nothing k = is_empty k.function.params
 
 -- the body of the one without parameters among some
-abbrev pub default_among : List Constructor → Option ℕ
-default_among ks = option_map (λ (k : Constructor). k.body) (find takes_nothing ks)
+abbrev pub default_among : List ScriptConstructor → Option ℕ
+default_among ks = option_map (λ (k : ScriptConstructor). k.body) (find takes_nothing ks)
 
 -- what a class with constructors is made by
 abbrev pub own_default : Option ℕ → Default
@@ -212,7 +212,7 @@ has_constructors f = not (is_empty f.1.constructors)
 abbrev pub nearest_default : List Numbered → Option ℕ
 nearest_default kin = option_and_then (λ (f : Numbered). default_among f.1.constructors) (find has_constructors kin)
 
-abbrev pub constructors_in : Option Family → List Constructor
+abbrev pub constructors_in : Option Family → List ScriptConstructor
 constructors_in None = []
 constructors_in (Some f) = f.constructors
 

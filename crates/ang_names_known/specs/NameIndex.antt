@@ -3,7 +3,7 @@ use Rattle.std.specs.Prelude.{ℕ, ◌≡◌, ◌+◌, ◌==◌, if◌then◌els
 use Rattle.ang_index.specs.Rows.{Rows, items_at}
 use Rattle.ang_names_known.specs.declared.names.Family.{Family}
 use Rattle.ang_names_known.specs.declared.names.Field.{Field}
-use Rattle.ang_names_known.specs.declared.names.Method.{Method}
+use Rattle.ang_names_known.specs.declared.names.ScriptMethod.{ScriptMethod}
 use Rattle.ang_names_known.specs.declared.names.Names.{Names}
 use Rattle.ang_names_known.specs.declared.names.ScriptFunction.{ScriptFunction}
 use Rattle.ang_names_known.specs.declared.names.ScriptGlobal.{ScriptGlobal}
@@ -60,7 +60,7 @@ field_names f = map (λ (x : Field). x.name) (fields_in f)
 
 -- those of its methods
 abbrev pub method_names : Option Family → List (List ℕ)
-method_names f = map (λ (m : Method). m.function.name) (methods_declared f)
+method_names f = map (λ (m : ScriptMethod). m.function.name) (methods_declared f)
 
 -- the rows have in the scope of each family's number the places of its members' names among these members
 abbrev pub IndexesMembers : (Option Family → List (List ℕ)) → List Family → Rows ℕ → Type 0

@@ -3,23 +3,23 @@ use Rattle.std.specs.Prelude.{ℕ, ◌≡◌, nat_eq, List, [], ◌∷◌, ◌++
 use Rattle.std.specs.HashSet.{HashSet, contains}
 use Rattle.std.specs.List.{list_any}
 use Rattle.ang_names_known.specs.declared.names.Family.{Family}
-use Rattle.ang_names_known.specs.declared.names.Method.{Method}
+use Rattle.ang_names_known.specs.declared.names.ScriptMethod.{ScriptMethod}
 use Rattle.ang_names_known.specs.Lookup.{FoundMethod, is_named, if_nearest, stands_in}
 
 -- the methods that a family declares itself
-abbrev pub methods_declared : Option Family → List Method
+abbrev pub methods_declared : Option Family → List ScriptMethod
 methods_declared None = []
 methods_declared (Some f) = f.methods
 
-abbrev pub of_owner : ℕ → Method → FoundMethod
+abbrev pub of_owner : ℕ → ScriptMethod → FoundMethod
 of_owner n m = record { owner = n; method = m }
 
 -- those of a name among some methods of family n
-abbrev pub named_among : List ℕ → ℕ → List Method → List FoundMethod
+abbrev pub named_among : List ℕ → ℕ → List ScriptMethod → List FoundMethod
 named_among name n ms = filter (is_named name) (map (of_owner n) ms)
 
 -- the methods of family n at some places of those that it declares
-abbrev pub at_places : ℕ → List Method → List ℕ → List FoundMethod
+abbrev pub at_places : ℕ → List ScriptMethod → List ℕ → List FoundMethod
 at_places n ms [] = []
 at_places n ms (p ∷ ps) = option_to_list (option_map (of_owner n) (slice_get ms p)) ++ at_places n ms ps
 

@@ -3,11 +3,11 @@ use std::marker::Model;
 
 /// Bytes of a section, which contracts see as the list of them.
 #[derive(Drop)]
-pub struct Text<'a> {
+pub struct BorrowedText<'a> {
     bytes: &'a [u8],
 }
 
-impl<'a> Model for Text<'a> {
+impl<'a> Model for BorrowedText<'a> {
     ghost use Rattle.std.specs.Prelude.{List, ℕ};
 
     ghost Value = { List ℕ };
@@ -15,14 +15,14 @@ impl<'a> Model for Text<'a> {
     ghost view = { λ t. t.bytes.now };
 }
 
-impl<'a> Text<'a> {
+impl<'a> BorrowedText<'a> {
     ghost use Rattle.std.specs.Prelude.{◌≡◌};
 
     /// Borrows these bytes, which are neither copied nor checked.
-    pub fn new(bytes: &'a [u8]) -> Text<'a>
+    pub fn new(bytes: &'a [u8]) -> BorrowedText<'a>
         ensures exact { result ≡ bytes.now }
     {
-        Text { bytes }
+        BorrowedText { bytes }
     }
 
     /// The bytes that were borrowed, which can be kept when this value is gone.

@@ -6,7 +6,7 @@ ghost use Rattle.ang_types.specs.declared.arg_type.ArgType.TheVariants as type;
 ghost use Rattle.ang_names_known.specs.Among.{found_among, property_among};
 ghost use Rattle.ang_names_known.specs.Host as spec;
 
-use crate::{Text, enumeration_number, type_number};
+use crate::{BorrowedText, enumeration_number, type_number};
 use ang_kinds::{EntityNo, List, Param, Pass, Shape, TypeRef};
 use ang_types::ArgType;
 use ang_view::{Entry, EntryKind, View, belongs_to};
@@ -14,7 +14,7 @@ use std::alloc::{AllocError, Global};
 
 /// A function, a factory or a method of the host that a module sees.
 #[derive(Drop)]
-pub struct HostFunction {
+pub struct SeenFunction {
     /// Its entry.
     pub entity: EntityNo,
     /// The driver that answers for it.
@@ -31,7 +31,7 @@ pub struct HostFunction {
 
 /// A global property or an object property of the host that a module sees.
 #[derive(Clone, Copy)]
-pub struct HostProperty {
+pub struct SeenProperty {
     /// Its entry.
     pub entity: EntityNo,
     /// The driver that answers for it.
@@ -48,20 +48,20 @@ pub struct HostProperty {
 #[derive(Drop)]
 pub enum Wanted<'a> {
     /// The functions of this name.
-    Function(Text<'a>),
+    Function(BorrowedText<'a>),
     /// The factories of the type of this number.
     Factory(u32),
     /// The methods of the type of this number, of this name.
-    Method(u32, Text<'a>),
+    Method(u32, BorrowedText<'a>),
 }
 
 /// Which property of the host is looked for.
 #[derive(Drop)]
 pub enum WantedProperty<'a> {
     /// The global property of this name.
-    Global(Text<'a>),
+    Global(BorrowedText<'a>),
     /// The property of the type of this number, of this name.
-    Member(u32, Text<'a>),
+    Member(u32, BorrowedText<'a>),
 }
 
 fn shaped(shape: Shape, number: u32, read_only: bool) -> ArgType
@@ -124,7 +124,7 @@ fn function_in(
     view: &View,
     entity: EntityNo,
     entry: &Entry,
-) -> Result<Option<HostFunction>, AllocError>
+) -> Result<Option<SeenFunction>, AllocError>
     ensures exact { IfOk result (λ found. found
         ≡ spec.function_of_entry view.now entity.0 entry.now) }
 {
@@ -134,7 +134,7 @@ fn function_in(
     let Some(params) = host_parameters(alloc, view, entry.signature.params.as_slice())? else {
         return Ok(None);
     };
-    Ok(Some(HostFunction {
+    Ok(Some(SeenFunction {
         entity,
         driver: entry.driver,
         f: entry.f,
@@ -171,7 +171,7 @@ pub fn found_at(
     view: &View,
     wanted: &Wanted<'_>,
     entity: EntityNo,
-) -> Result<Option<HostFunction>, AllocError>
+) -> Result<Option<SeenFunction>, AllocError>
     ensures exact { IfOk result (λ found. found
         ≡ spec.found wanted.now view.now entity.0 (entry_at view.now entity.0)) }
 {
@@ -192,8 +192,8 @@ fn wants_at(view: &View, wanted: &Wanted<'_>, entity: EntityNo) -> bool
 }
 
 fn push_function(
-    functions: &mut Vec<HostFunction>,
-    function: Option<HostFunction>,
+    functions: &mut Vec<SeenFunction>,
+    function: Option<SeenFunction>,
 ) -> Result<(), AllocError>
     ensures pushed { OnOk result
         (functions.new.items ≡ functions.old.items ++ option_to_list function) }
@@ -207,7 +207,7 @@ fn push_function(
 /// Puts what is found in the entry of this number at the end: most entries are not wanted, and nothing is made of them.
 fn push_found(
     alloc: Global,
-    functions: &mut Vec<HostFunction>,
+    functions: &mut Vec<SeenFunction>,
     view: &View,
     wanted: &Wanted<'_>,
     entity: EntityNo,
@@ -228,7 +228,7 @@ fn functions_among(
     view: &View,
     wanted: &Wanted<'_>,
     numbers: &[EntityNo],
-) -> Result<Vec<HostFunction>, AllocError>
+) -> Result<Vec<SeenFunction>, AllocError>
     ensures among { IfOk result (λ found. found.items
         ≡ found_among wanted.now view.now numbers.now) }
 {
@@ -247,7 +247,7 @@ pub fn host_where(
     alloc: Global,
     view: &View,
     wanted: &Wanted<'_>,
-) -> Result<Vec<HostFunction>, AllocError>
+) -> Result<Vec<SeenFunction>, AllocError>
     ensures exact { IfOk result (λ found. found.items ≡ spec.host_where wanted.now view.now) }
 {
     match wanted {
@@ -278,13 +278,13 @@ fn is_wanted_property(wanted: &WantedProperty<'_>, entry: &Entry) -> bool
     }
 }
 
-fn property_in(view: &View, entity: EntityNo, entry: &Entry) -> Option<HostProperty>
+fn property_in(view: &View, entity: EntityNo, entry: &Entry) -> Option<SeenProperty>
     ensures exact { result
         ≡ spec.property_with entity.0 entry.now
         (spec.host_type view.now entry.now.signature.result) }
 {
     let ty = host_type(view, &entry.signature.result)?;
-    Some(HostProperty {
+    Some(SeenProperty {
         entity,
         driver: entry.driver,
         f: entry.f,
@@ -298,7 +298,7 @@ pub fn property_at(
     view: &View,
     wanted: &WantedProperty<'_>,
     entity: EntityNo,
-) -> Option<HostProperty>
+) -> Option<SeenProperty>
     ensures exact { result
         ≡ spec.property_found wanted.now view.now entity.0 (entry_at view.now entity.0) }
 {
@@ -313,7 +313,7 @@ fn property_among_these(
     view: &View,
     wanted: &WantedProperty<'_>,
     numbers: &[EntityNo],
-) -> Option<HostProperty>
+) -> Option<SeenProperty>
     ensures among { result ≡ property_among wanted.now view.now numbers.now }
 {
     for number in numbers {
@@ -327,7 +327,7 @@ fn property_among_these(
 
 /// The property that is wanted, if the module sees it. It takes no memory.
 #[tactic(auto, using(crate::proofs::Among::global_in, crate::proofs::Among::member_in))]
-pub fn property_where(view: &View, wanted: &WantedProperty<'_>) -> Option<HostProperty>
+pub fn property_where(view: &View, wanted: &WantedProperty<'_>) -> Option<SeenProperty>
     ensures exact { result ≡ spec.property_where wanted.now view.now }
 {
     match wanted {

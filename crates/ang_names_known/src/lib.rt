@@ -21,11 +21,11 @@ mod names;
 mod places;
 mod space;
 
-pub use borrowed::Text;
+pub use borrowed::BorrowedText;
 pub use family_types::{FIRST_FAMILY, family_of_type, family_type};
 pub use functions::parameters_of;
 pub use host::{
-    HostFunction, HostProperty, Wanted, WantedProperty, found_at, host_where, property_at,
+    SeenFunction, SeenProperty, Wanted, WantedProperty, found_at, host_where, property_at,
     property_where,
 };
 pub use indexed::IndexedNames as Names;
@@ -36,7 +36,7 @@ pub use lookup::{
 };
 pub use methods::FoundMethod;
 pub use names::{
-    Access, Constructor, Default, Family, Field, FoundField, Method, Names as NameLists, Origin,
+    Access, ScriptConstructor, Default, Family, Field, FoundField, ScriptMethod, Names as NameLists, Origin,
     ScriptFunction, ScriptGlobal, ScriptParameter, Written,
 };
 pub use space::{Named, Space, enumeration_number, family_or_host, type_number};

@@ -4,7 +4,7 @@ ghost use Rattle.ang_names_known.specs.Headings as headings;
 ghost use Rattle.ang_names_known.specs.Lookup as spec;
 
 use crate::names::{
-    Access, Constructor, Default, Family, ScriptFunction, ScriptParameter, Written,
+    Access, ScriptConstructor, Default, Family, ScriptFunction, ScriptParameter, Written,
 };
 use ang_types::ArgType;
 
@@ -164,14 +164,14 @@ pub(crate) fn order_of(families: &[Family], family: usize) -> &[usize]
 }
 
 #[tactic(auto, using(crate::proofs::Kin::empty_is))]
-fn takes_nothing(constructor: &Constructor) -> bool
+fn takes_nothing(constructor: &ScriptConstructor) -> bool
     ensures exact { result ≡ spec.takes_nothing constructor.now }
 {
     constructor.function.params.as_slice().is_empty()
 }
 
 /// The body of the constructor without parameters among some.
-fn default_among(constructors: &[Constructor]) -> Option<usize>
+fn default_among(constructors: &[ScriptConstructor]) -> Option<usize>
     ensures exact { result ≡ spec.default_among constructors.now }
 {
     for constructor in constructors {
@@ -183,7 +183,7 @@ fn default_among(constructors: &[Constructor]) -> Option<usize>
 }
 
 /// The constructors that a family declares itself.
-fn constructors_of(families: &[Family], family: usize) -> &[Constructor]
+fn constructors_of(families: &[Family], family: usize) -> &[ScriptConstructor]
     ensures exact { result.now ≡ spec.constructors_in (slice_get families.now family) }
 {
     match families.get(family) {

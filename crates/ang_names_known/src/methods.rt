@@ -7,7 +7,7 @@ ghost use Rattle.ang_names_known.specs.NameIndex.{IndexesMethods};
 ghost use Rattle.ang_names_known.specs.Nearest.{HasSlots, at_places, methods_declared, nearest_at, of_owner};
 
 use crate::lookup::order_of;
-use crate::names::{Family, Method};
+use crate::names::{Family, ScriptMethod};
 use ang_index::Index;
 use std::alloc::{AllocError, Global};
 use std::collections::HashSet;
@@ -17,7 +17,7 @@ use std::marker::Model;
 #[derive(Drop)]
 pub struct FoundMethod<'a> {
     owner: usize,
-    method: &'a Method,
+    method: &'a ScriptMethod,
 }
 
 impl<'a> Model for FoundMethod<'a> {
@@ -37,7 +37,7 @@ impl<'a> FoundMethod<'a> {
     }
 
     /// The method.
-    pub fn method(&self) -> &'a Method
+    pub fn method(&self) -> &'a ScriptMethod
         ensures same { result.now ≡ self.now.method }
     {
         self.method
@@ -71,7 +71,7 @@ pub(crate) fn methods_in<'a>(
 }
 
 /// The methods that a family declares itself.
-fn own_methods(families: &[Family], number: usize) -> &[Method]
+fn own_methods(families: &[Family], number: usize) -> &[ScriptMethod]
     ensures exact { result.now ≡ methods_declared (slice_get families.now number) }
 {
     match families.get(number) {
@@ -85,7 +85,7 @@ fn push_methods<'a>(
     found: &mut Vec<FoundMethod<'a>>,
     slots: &mut HashSet<usize>,
     owner: usize,
-    methods: &'a [Method],
+    methods: &'a [ScriptMethod],
     places: &[usize],
 ) -> Result<(), AllocError>
     requires slots { HasSlots slots.old found.old.items }
@@ -103,7 +103,7 @@ fn push_methods<'a>(
 }
 
 /// The method at a place among those of the family of this number.
-fn method_at(methods: &[Method], owner: usize, place: usize) -> Option<FoundMethod<'_>>
+fn method_at(methods: &[ScriptMethod], owner: usize, place: usize) -> Option<FoundMethod<'_>>
     ensures exact { result ≡ option_map (of_owner owner) (slice_get methods.now place) }
 {
     let method = methods.get(place)?;

@@ -91,7 +91,7 @@ pub struct Field {
 
 /// A method of a class or an interface.
 #[derive(Drop)]
-pub struct Method {
+pub struct ScriptMethod {
     /// Its name, result and parameters, without the receiver.
     pub function: ScriptFunction,
     /// Who may use it.
@@ -111,7 +111,7 @@ pub struct Method {
 
 /// A constructor of a class.
 #[derive(Drop)]
-pub struct Constructor {
+pub struct ScriptConstructor {
     /// Its parameters; its name is the class's.
     pub function: ScriptFunction,
     /// The number of its body.
@@ -139,9 +139,9 @@ pub struct Family {
     /// Its own fields, in order of declaration.
     pub fields: List<Field>,
     /// Its own methods, in order of declaration.
-    pub methods: List<Method>,
+    pub methods: List<ScriptMethod>,
     /// Its constructors, in order of declaration.
-    pub constructors: List<Constructor>,
+    pub constructors: List<ScriptConstructor>,
     /// Where it stands.
     pub origin: Origin,
 }

@@ -2,8 +2,8 @@
 ghost use Rattle.std.specs.Prelude.{◌≡◌, IfOk, OnOk, map};
 ghost use Rattle.ang_names_known.specs.NameIndex as spec;
 
-use crate::borrowed::Text;
-use crate::names::{Family, Field, Method, Names, ScriptFunction, ScriptGlobal};
+use crate::borrowed::BorrowedText;
+use crate::names::{Family, Field, ScriptMethod, Names, ScriptFunction, ScriptGlobal};
 use ang_index::Index;
 use ang_kinds::List;
 use std::alloc::{AllocError, Global};
@@ -19,12 +19,12 @@ pub(crate) const GLOBALS: u64 = 3;
 /// The scope of the names of classes and interfaces.
 pub(crate) const FAMILIES: u64 = 4;
 
-fn declared_texts<'a>(alloc: Global, names: &'a [List<u8>]) -> Result<Vec<Text<'a>>, AllocError>
+fn declared_texts<'a>(alloc: Global, names: &'a [List<u8>]) -> Result<Vec<BorrowedText<'a>>, AllocError>
     ensures exact { IfOk result (λ texts. texts.items ≡ names.now) }
 {
     let mut texts = Vec::new(alloc);
     for name in names {
-        texts.push(Text::new(name.as_slice()))?;
+        texts.push(BorrowedText::new(name.as_slice()))?;
     }
     Ok(texts)
 }
@@ -32,32 +32,32 @@ fn declared_texts<'a>(alloc: Global, names: &'a [List<u8>]) -> Result<Vec<Text<'
 fn function_texts<'a>(
     alloc: Global,
     functions: &'a [ScriptFunction],
-) -> Result<Vec<Text<'a>>, AllocError>
+) -> Result<Vec<BorrowedText<'a>>, AllocError>
     ensures exact { IfOk result (λ texts. texts.items ≡ spec.function_names functions.now) }
 {
     let mut texts = Vec::new(alloc);
     for function in functions {
-        texts.push(Text::new(function.name.as_slice()))?;
+        texts.push(BorrowedText::new(function.name.as_slice()))?;
     }
     Ok(texts)
 }
 
-fn global_texts<'a>(alloc: Global, globals: &'a [ScriptGlobal]) -> Result<Vec<Text<'a>>, AllocError>
+fn global_texts<'a>(alloc: Global, globals: &'a [ScriptGlobal]) -> Result<Vec<BorrowedText<'a>>, AllocError>
     ensures exact { IfOk result (λ texts. texts.items ≡ spec.global_names globals.now) }
 {
     let mut texts = Vec::new(alloc);
     for global in globals {
-        texts.push(Text::new(global.name.as_slice()))?;
+        texts.push(BorrowedText::new(global.name.as_slice()))?;
     }
     Ok(texts)
 }
 
-fn family_texts<'a>(alloc: Global, families: &'a [Family]) -> Result<Vec<Text<'a>>, AllocError>
+fn family_texts<'a>(alloc: Global, families: &'a [Family]) -> Result<Vec<BorrowedText<'a>>, AllocError>
     ensures exact { IfOk result (λ texts. texts.items ≡ spec.families_names families.now) }
 {
     let mut texts = Vec::new(alloc);
     for family in families {
-        texts.push(Text::new(family.name.as_slice()))?;
+        texts.push(BorrowedText::new(family.name.as_slice()))?;
     }
     Ok(texts)
 }
@@ -67,7 +67,7 @@ fn push_all(
     alloc: Global,
     index: &mut Index<usize>,
     scope: u64,
-    names: &[Text<'_>],
+    names: &[BorrowedText<'_>],
 ) -> Result<(), AllocError>
     ensures pushed { OnOk result (spec.PutsAll index.old index.new scope names.now) }
 {
@@ -105,22 +105,22 @@ pub(crate) fn places_by_kind(alloc: Global, names: &Names) -> Result<Index<usize
     Ok(index)
 }
 
-fn field_texts<'a>(alloc: Global, fields: &'a [Field]) -> Result<Vec<Text<'a>>, AllocError>
+fn field_texts<'a>(alloc: Global, fields: &'a [Field]) -> Result<Vec<BorrowedText<'a>>, AllocError>
     ensures exact { IfOk result (λ texts. texts.items ≡ map (λ x. x.name) fields.now) }
 {
     let mut texts = Vec::new(alloc);
     for field in fields {
-        texts.push(Text::new(field.name.as_slice()))?;
+        texts.push(BorrowedText::new(field.name.as_slice()))?;
     }
     Ok(texts)
 }
 
-fn method_texts<'a>(alloc: Global, methods: &'a [Method]) -> Result<Vec<Text<'a>>, AllocError>
+fn method_texts<'a>(alloc: Global, methods: &'a [ScriptMethod]) -> Result<Vec<BorrowedText<'a>>, AllocError>
     ensures exact { IfOk result (λ texts. texts.items ≡ map (λ m. m.function.name) methods.now) }
 {
     let mut texts = Vec::new(alloc);
     for method in methods {
-        texts.push(Text::new(method.function.name.as_slice()))?;
+        texts.push(BorrowedText::new(method.function.name.as_slice()))?;
     }
     Ok(texts)
 }

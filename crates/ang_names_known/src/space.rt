@@ -4,7 +4,7 @@ ghost use Rattle.std.specs.List.{position};
 ghost use Rattle.ang_view.specs.Types.{enumeration_named, type_named};
 ghost use Rattle.ang_names_known.specs.Spaces as spaces;
 
-use crate::borrowed::Text;
+use crate::borrowed::BorrowedText;
 use crate::family_types::family_type;
 use crate::indexed::IndexedNames;
 use ang_kinds::EntityNo;
@@ -42,7 +42,7 @@ pub fn enumeration_number(view: &View, name: &[u8]) -> Option<u32>
 #[derive(Drop)]
 enum FamilyNames<'a> {
     /// Of families that are only listed so far.
-    Listed(Vec<Text<'a>>),
+    Listed(Vec<BorrowedText<'a>>),
     /// Of known ones.
     Known(&'a IndexedNames),
 }
@@ -67,7 +67,7 @@ impl<'a> Model for Space<'a> {
 
 impl<'a> Space<'a> {
     /// The types of a view, and the families of these names, in the order of their numbers. It takes no memory.
-    pub fn new(view: &'a View, families: Vec<Text<'a>>) -> Space<'a>
+    pub fn new(view: &'a View, families: Vec<BorrowedText<'a>>) -> Space<'a>
         requires few { length families.items ≤ 256 }
         ensures view { result.view ≡ view.now }
         ensures families { result.families ≡ families.entry.items }
@@ -121,7 +121,7 @@ impl<'a> Space<'a> {
     }
 }
 
-fn listed_as(names: &[Text<'_>], name: &[u8]) -> Option<usize>
+fn listed_as(names: &[BorrowedText<'_>], name: &[u8]) -> Option<usize>
     ensures exact { result ≡ position (bytes_eq name.now) names.now }
     ensures within { IfSome result (λ c. c < length names.now) }
 {

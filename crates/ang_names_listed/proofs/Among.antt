@@ -11,7 +11,7 @@ use Rattle.ang_names_known.specs.NameIndex.{places_from, places_of}
 use Rattle.ang_names_known.proofs.PlacesByName.{one_more_place as place_put}
 use Rattle.ang_names_listed.specs.Spellings.{same_spellings}
 use Rattle.ang_names_listed.proofs.Codes.{codes_alike}
-use Rattle.ang_names_listed.specs.declared.listed.Declared.{Declared}
+use Rattle.ang_names_listed.specs.declared.listed.ListedDeclaration.{ListedDeclaration}
 use Rattle.ang_names_listed.specs.declared.listed.Part.{Part}
 use Rattle.ang_names_listed.specs.declared.listed.Part.TheVariants as part
 use Rattle.ang_names_listed.specs.Declarations.{declared_name}
@@ -28,8 +28,8 @@ one_any f false c r i places here rest = rest
 bytes_eq-sym : (xs ys : List ℕ) → bytes_eq xs ys ≡ bytes_eq ys xs
 bytes_eq-sym xs ys = nat_list_eq_equiv.symm xs ys
 
-module _ (found_by : Declared → List ℕ) (key : List ℕ) (all : List Declared) (d : Declared) where
-  any_from : (ds : List Declared) (i : ℕ) → ((j : ℕ) → slice_get all (i + j) ≡ slice_get ds j)
+module _ (found_by : ListedDeclaration → List ℕ) (key : List ℕ) (all : List ListedDeclaration) (d : ListedDeclaration) where
+  any_from : (ds : List ListedDeclaration) (i : ℕ) → ((j : ℕ) → slice_get all (i + j) ≡ slice_get ds j)
       → list_any (clashes_at all d) (places_from i (map found_by ds) key) ≡ list_any (λ x. bytes_eq (found_by x) key && clashes d x) ds
   any_from [] i stands = refl
   any_from (x ∷ xs) i stands =
@@ -43,7 +43,7 @@ module _ (found_by : Declared → List ℕ) (key : List ℕ) (all : List Declare
   any_found : list_any (clashes_at all d) (places_of (map found_by all) key) ≡ list_any (λ x. bytes_eq (found_by x) key && clashes d x) all
   any_found = any_from all 0 (λ j. let first : 0 + j ≡ j = omega arith in ap (slice_get all) first)
 
-any_alike : (f g : Declared → Bool) → ((x : Declared) → f x ≡ g x) → (ds : List Declared) → list_any f ds ≡ list_any g ds
+any_alike : (f g : ListedDeclaration → Bool) → ((x : ListedDeclaration) → f x ≡ g x) → (ds : List ListedDeclaration) → list_any f ds ≡ list_any g ds
 any_alike f g same [] = refl
 any_alike f g same (x ∷ xs) = λ i. same x i || any_alike f g same xs i
 
@@ -53,7 +53,7 @@ either_one false true true d = refl
 either_one false true false d = refl
 either_one false false c d = refl
 
-any_either : (f g : Declared → Bool) (ds : List Declared) → (list_any f ds || list_any g ds) ≡ list_any (λ x. f x || g x) ds
+any_either : (f g : ListedDeclaration → Bool) (ds : List ListedDeclaration) → (list_any f ds || list_any g ds) ≡ list_any (λ x. f x || g x) ds
 any_either f g [] = refl
 any_either f g (x ∷ xs) = either_one (f x) (list_any f xs) (g x) (list_any g xs) ∙ ap (λ b. (f x || g x) || b) (any_either f g xs)
 
@@ -70,10 +70,10 @@ covered_once true false false h = refl
 covered_once false b c h = covered b c h
 
 -- what clashes has the name
-same_name : (d x : Declared) → clashes d x ≡ true → bytes_eq (declared_name x) (declared_name d) ≡ true
+same_name : (d x : ListedDeclaration) → clashes d x ≡ true → bytes_eq (declared_name x) (declared_name d) ≡ true
 same_name d x h = bytes_eq-sym (declared_name x) (declared_name d) ∙ (and_gives (bytes_eq (declared_name d) (declared_name x)) (excludes d.text d.part x.text x.part) h).0
 
-pub all_among : (all : List Declared) (d : Declared) (places : List ℕ) → places ≡ named all (declared_name d)
+pub all_among : (all : List ListedDeclaration) (d : ListedDeclaration) (places : List ℕ) → places ≡ named all (declared_name d)
     → list_any (clashes_at all d) places ≡ list_any (clashes d) all
 unfolding named
 all_among all d places is =
@@ -95,7 +95,7 @@ or_right false b h = h
 equal_bytes : (xs ys : List ℕ) → xs ≡ ys → bytes_eq xs ys ≡ true
 equal_bytes xs ys h = (bytes_eq-Decides xs ys).1 h
 
-same_key : (d x : Declared) (ps qs : List Parameter) → bytes_eq (declared_name d) (declared_name x) ≡ true → same_spellings d.text ps x.text qs ≡ true
+same_key : (d x : ListedDeclaration) (ps qs : List Parameter) → bytes_eq (declared_name d) (declared_name x) ≡ true → same_spellings d.text ps x.text qs ≡ true
     → function_key x qs ≡ function_key d ps
 same_key d x ps qs names spelled =
     let same = (bytes_eq-Decides (declared_name d) (declared_name x)).0 names in
@@ -106,7 +106,7 @@ same_some : (rs ps : List Parameter) → Some rs ≡ Some ps → rs ≡ ps
 same_some rs ps h = cc
 
 -- what clashes with a function stands under its bare name, or is a function of its key
-either_key : (d x : Declared) (ps : List Parameter) (p q : Part) → params_of p ≡ Some ps → bytes_eq (declared_name d) (declared_name x) ≡ true
+either_key : (d x : ListedDeclaration) (ps : List Parameter) (p q : Part) → params_of p ≡ Some ps → bytes_eq (declared_name d) (declared_name x) ≡ true
     → excludes d.text p x.text q ≡ true
     → (bytes_eq (key_with x (params_of q)) (declared_name d) || bytes_eq (key_with x (params_of q)) (function_key d ps)) ≡ true
 either_key d x ps p (part.Family s) is names h = or_left _ _ (bytes_eq-sym (declared_name x) (declared_name d) ∙ names)
@@ -124,13 +124,13 @@ either_key d x ps (part.Function z rs) (part.Import y qs) is names h =
 either_key d x ps (part.Import z rs) (part.Import y qs) is names h =
     or_right _ _ (equal_bytes _ _ (same_key d x rs qs names h ∙ ap (function_key d) (same_some rs ps is)))
 
-clashing_key : (d x : Declared) (ps : List Parameter) → params_of d.part ≡ Some ps → clashes d x ≡ true
+clashing_key : (d x : ListedDeclaration) (ps : List Parameter) → params_of d.part ≡ Some ps → clashes d x ≡ true
     → (bytes_eq (key_of x) (declared_name d) || bytes_eq (key_of x) (function_key d ps)) ≡ true
 clashing_key d x ps is h =
     let both = and_gives (bytes_eq (declared_name d) (declared_name x)) (excludes d.text d.part x.text x.part) h in
     either_key d x ps d.part x.part is both.0 both.1
 
-pub both_among : (all : List Declared) (d : Declared) (ps : List Parameter) (others functions : List ℕ) → params_of d.part ≡ Some ps
+pub both_among : (all : List ListedDeclaration) (d : ListedDeclaration) (ps : List Parameter) (others functions : List ℕ) → params_of d.part ≡ Some ps
     → others ≡ keyed all (declared_name d) → functions ≡ keyed all (function_key d ps)
     → (list_any (clashes_at all d) others || list_any (clashes_at all d) functions) ≡ list_any (clashes d) all
 unfolding keyed
@@ -144,7 +144,7 @@ both_among all d ps others functions is at_name at_key =
 
 -- ---- a declaration more
 
-pub one_more_place : (old new : Rows ℕ) (ds all : List Declared) (d : Declared) → HasPlaces ds old → PutsPlaces old new d (length ds)
+pub one_more_place : (old new : Rows ℕ) (ds all : List ListedDeclaration) (d : ListedDeclaration) → HasPlaces ds old → PutsPlaces old new d (length ds)
     → all ≡ ds ++ d ∷ [] → HasPlaces all new
 unfolding named keyed
 one_more_place old new ds all d has puts grown = record {
@@ -154,7 +154,7 @@ one_more_place old new ds all d has puts grown = record {
 }
 
 -- a number is put in under a name, and then under a key
-pub both_put : (old middle new : Rows ℕ) (d : Declared) (n : ℕ) (name key : List ℕ) → name ≡ declared_name d → key ≡ key_of d
+pub both_put : (old middle new : Rows ℕ) (d : ListedDeclaration) (n : ℕ) (name key : List ℕ) → name ≡ declared_name d → key ≡ key_of d
     → Puts old middle 0 name n → Puts middle new 1 key n → PutsPlaces old new d n
 both_put old middle new d n name key named keyed first second = record {
   under_name = λ other. second 0 other ∙ first 0 other ∙ ap (λ own. put_at own other n (items_at 0 other old)) named;

@@ -5,14 +5,14 @@ use Rattle.ang_types.specs.declared.asks.Refused.{Refused}
 use Rattle.ang_view.specs.Registration.{RegistrationList}
 use Rattle.ang_names_known.specs.Items.{each_after}
 use Rattle.ang_names_known.proofs.Turns.{each_after-turn}
-use Rattle.ang_names_listed.specs.declared.listed.Declared.{Declared}
+use Rattle.ang_names_listed.specs.declared.listed.ListedDeclaration.{ListedDeclaration}
 use Rattle.ang_names_listed.specs.Taken.{name_refusal}
 
 -- what is refused of one name
-abbrev refused_name : RegistrationList → List Declared → Declared → List Refused
+abbrev refused_name : RegistrationList → List ListedDeclaration → ListedDeclaration → List Refused
 refused_name V before d = option_to_list (name_refusal V before d)
 
-pub name_more : (V : RegistrationList) (all : List Declared) (i : ℕ) (d : Declared) (old new : List Refused) (before : List Declared) (r : Option Refused)
+pub name_more : (V : RegistrationList) (all : List ListedDeclaration) (i : ℕ) (d : ListedDeclaration) (old new : List Refused) (before : List ListedDeclaration) (r : Option Refused)
     → i < length all → d ≡ get_or all i d → before ≡ take i all → r ≡ name_refusal V before d → new ≡ old ++ option_to_list r
     → each_after (refused_name V) [] all ≡ old ++ each_after (refused_name V) (take i all) (drop i all)
     → each_after (refused_name V) [] all ≡ new ++ each_after (refused_name V) (take (i + 1) all) (drop (i + 1) all)

@@ -14,7 +14,7 @@ use Rattle.ang_view.specs.declared.entry.EntryKind.TheVariants as entry
 use Rattle.ang_view.specs.Registration.{RegistrationList}
 use Rattle.ang_names_known.specs.Items.{each_after}
 use Rattle.ang_names_known.specs.Spaces.{most_families}
-use Rattle.ang_names_listed.specs.declared.listed.Declared.{Declared}
+use Rattle.ang_names_listed.specs.declared.listed.ListedDeclaration.{ListedDeclaration}
 use Rattle.ang_names_listed.specs.declared.listed.Part.{Part}
 use Rattle.ang_names_listed.specs.declared.listed.Part.TheVariants as part
 use Rattle.ang_names_listed.specs.Declarations.{declared_name, families_of}
@@ -38,7 +38,7 @@ excludes text (part.Import y ps) other q = excludes_function text ps other q
 excludes text (part.Global y) other q = true
 
 -- the declaration can't stand beside the earlier one
-abbrev pub clashes : Declared → Declared → Bool
+abbrev pub clashes : ListedDeclaration → ListedDeclaration → Bool
 clashes d earlier = bytes_eq (declared_name d) (declared_name earlier) && excludes d.text d.part earlier.text earlier.part
 
 -- ---- against the host's names
@@ -61,12 +61,12 @@ excludes_host text p entry.Global qs = true
 excludes_host text p entry.Enumeration qs = true
 excludes_host text p (entry.EnumValue v) qs = false
 
-abbrev pub clashes_with_host : Declared → Option Entry → Bool
+abbrev pub clashes_with_host : ListedDeclaration → Option Entry → Bool
 clashes_with_host d None = false
 clashes_with_host d (Some x) = bytes_eq (declared_name d) x.signature.name && excludes_host d.text d.part x.kind x.signature.params
 
 -- The declaration's name is taken: by an earlier declaration, a refused one too, or by what the module sees of the host's.
-unfoldable pub is_taken : RegistrationList → List Declared → Declared → Bool
+unfoldable pub is_taken : RegistrationList → List ListedDeclaration → ListedDeclaration → Bool
 is_taken V before d = list_any (clashes d) before || list_any (clashes_with_host d) V
 
 -- ---- how many
@@ -105,22 +105,22 @@ declares_global (part.Import y ps) = false
 declares_global (part.Global y) = true
 
 -- as many of its kind stand before it as a module can have, so it is the first above
-abbrev pub is_first_above : List Declared → Part → Bool
+abbrev pub is_first_above : List ListedDeclaration → Part → Bool
 is_first_above before (part.Family s) = length (families_of before) == most_families
-is_first_above before (part.Function y ps) = count_by (λ (d : Declared). declares_function d.part) before == most_functions
-is_first_above before (part.Import y ps) = count_by (λ (d : Declared). declares_import d.part) before == most_imports
-is_first_above before (part.Global y) = count_by (λ (d : Declared). declares_global d.part) before == most_globals
+is_first_above before (part.Function y ps) = count_by (λ (d : ListedDeclaration). declares_function d.part) before == most_functions
+is_first_above before (part.Import y ps) = count_by (λ (d : ListedDeclaration). declares_import d.part) before == most_imports
+is_first_above before (part.Global y) = count_by (λ (d : ListedDeclaration). declares_global d.part) before == most_globals
 
 -- What is refused of a declaration's name, at the name, after the declarations before it.
-unfoldable pub name_refusal : RegistrationList → List Declared → Declared → Option Refused
+unfoldable pub name_refusal : RegistrationList → List ListedDeclaration → ListedDeclaration → Option Refused
 name_refusal V before d =
     if is_taken V before d then Some (plain_refusal (error_at kind.Duplicate d.text d.name))
     else (if is_first_above before d.part then Some (plain_refusal (error_at kind.Limit d.text d.name)) else None)
 
 -- what something says of each declaration, after those before it
-abbrev pub each_refused : (List Declared → Declared → Option Refused) → List Declared → List Refused
+abbrev pub each_refused : (List ListedDeclaration → ListedDeclaration → Option Refused) → List ListedDeclaration → List Refused
 each_refused p all = each_after (λ before d. option_to_list (p before d)) [] all
 
 -- What is refused of all names, in order.
-unfoldable pub name_refusals : RegistrationList → List Declared → List Refused
+unfoldable pub name_refusals : RegistrationList → List ListedDeclaration → List Refused
 name_refusals V all = each_refused (name_refusal V) all

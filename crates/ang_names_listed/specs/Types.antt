@@ -15,8 +15,8 @@ use Rattle.ang_tree.specs.declared.declaration.Parameter.{Parameter}
 use Rattle.ang_types.specs.declared.arg_type.ArgType.{ArgType}
 use Rattle.ang_types.specs.declared.arg_type.ArgType.TheVariants as type
 use Rattle.ang_names_known.specs.declared.names.Written.{Written}
-use Rattle.ang_names_listed.specs.declared.role.Role.{Role}
-use Rattle.ang_names_listed.specs.declared.role.Role.TheVariants as role
+use Rattle.ang_names_listed.specs.declared.role.TypePosition.{TypePosition}
+use Rattle.ang_names_listed.specs.declared.role.TypePosition.TheVariants as role
 use Rattle.ang_names_known.specs.declared.space.Named.{Named}
 use Rattle.ang_names_known.specs.declared.space.Named.TheVariants as named
 use Rattle.ang_names_known.specs.Spaces.{Space, type_of_name, is_family_type}
@@ -118,7 +118,7 @@ abbrev pub ◌and_then◌ : TypeOrError → (ArgType → TypeOrError) → TypeOr
 (Ok t) and_then f = f t
 (Err e) and_then f = Err e
 
-abbrev pub admitted : Role → ArgType → TypeOrError
+abbrev pub admitted : TypePosition → ArgType → TypeOrError
 admitted role.Result t = no_object t
 admitted role.Variable t = no_void t
 admitted role.Field t = no_void t and_then no_object
@@ -130,7 +130,7 @@ admitted role.Cast t = cast_to t
 -- The type that is written where it has this role. `UnknownType` where the name is that of no type, `BadType` of a handle to a
 -- primitive type, an enumeration or `void`, of `void` that is no result, and of `&inout` of what is no object; `ByValue` of an object where none
 -- can be by value, and `BadImport` of what does not pass between modules.
-unfoldable pub type_in : Space → Role → List ℕ → TypeName → TypeOrError
+unfoldable pub type_in : Space → TypePosition → List ℕ → TypeName → TypeOrError
 type_in E r text y = written_type E text y y.name.kind and_then admitted r
 
 -- a name that means no type; an entry of the host could help there
@@ -154,10 +154,10 @@ abbrev pub pass_of : Option Reference → Pass
 pass_of None = pass.Value
 pass_of (Some r) = pass_in r.direction
 
-abbrev pub own_role : Parameter → Role
+abbrev pub own_role : Parameter → TypePosition
 own_role p = role.Parameter (pass_of p.reference)
 
-abbrev pub imported_role : Parameter → Role
+abbrev pub imported_role : Parameter → TypePosition
 imported_role p = role.ImportParameter (pass_of p.reference)
 
 -- ---- a type with its `const`
@@ -172,5 +172,5 @@ settled (Ok t) = t
 settled (Err e) = type.Void
 
 -- a type as it is written, with what it means
-abbrev pub written_in : Space → Role → List ℕ → TypeName → Written
+abbrev pub written_in : Space → TypePosition → List ℕ → TypeName → Written
 written_in E r text y = record { ty = settled (type_in E r text y); constant = is_some y.constant; const_handle = is_const_handle y.handle }

@@ -3,7 +3,7 @@ ghost use Rattle.std.specs.Prelude.{◌≡◌, ◌<◌, ◌-◌, ◌^◌, ◌++�
 ghost use Rattle.ang_names_listed.specs.Declarations as declarations;
 ghost use Rattle.ang_names_listed.specs.Earlier as spec;
 
-use crate::listed::{Declared, Part};
+use crate::listed::{ListedDeclaration, Part};
 use crate::{push_spellings, text_at};
 use ang_index::Index;
 use ang_tree::Parameter;
@@ -34,17 +34,17 @@ pub struct Counts {
 /// numbers by name and by key, and how many there are of each kind.
 #[derive(Drop)]
 pub struct Earlier<'l, 'a> {
-    items: &'l [Declared<'a>],
+    items: &'l [ListedDeclaration<'a>],
     places: Index<usize>,
     counts: Counts,
 }
 
 impl<'l, 'a> Model for Earlier<'l, 'a> {
     ghost use Rattle.std.specs.Prelude.{◌≡◌, List};
-    ghost use Rattle.ang_names_listed.specs.declared.listed.Declared.{Declared};
+    ghost use Rattle.ang_names_listed.specs.declared.listed.ListedDeclaration.{ListedDeclaration};
     ghost use Rattle.ang_names_listed.specs.Earlier.{HasPlaces, counts_of};
 
-    ghost Value = { List Declared };
+    ghost Value = { List ListedDeclaration };
 
     ghost view = { λ e. e.items.now };
 
@@ -52,7 +52,7 @@ impl<'l, 'a> Model for Earlier<'l, 'a> {
 }
 
 /// The name that is declared.
-pub fn declared_name<'a>(declared: &Declared<'a>) -> &'a [u8]
+pub fn declared_name<'a>(declared: &ListedDeclaration<'a>) -> &'a [u8]
     ensures exact { result.now ≡ declarations.declared_name declared.now }
 {
     text_at(declared.text.bytes(), &declared.name)
@@ -62,7 +62,7 @@ pub fn declared_name<'a>(declared: &Declared<'a>) -> &'a [u8]
 #[tactic(auto, using(std::proofs::Common::append_assoc))]
 pub fn function_key(
     alloc: Global,
-    declared: &Declared<'_>,
+    declared: &ListedDeclaration<'_>,
     params: &[Parameter],
 ) -> Result<Vec<u8>, AllocError>
     ensures exact { IfOk result (λ key. key.items ≡ spec.function_key declared.now params.now) }
@@ -74,14 +74,14 @@ pub fn function_key(
 }
 
 /// The key of what is no function.
-fn name_key(alloc: Global, declared: &Declared<'_>) -> Result<Vec<u8>, AllocError>
+fn name_key(alloc: Global, declared: &ListedDeclaration<'_>) -> Result<Vec<u8>, AllocError>
     ensures exact { IfOk result (λ key. key.items ≡ declarations.declared_name declared.now) }
 {
     Ok(Vec::from_slice(alloc, declared_name(declared))?)
 }
 
 /// The key of a declaration.
-fn key_of(alloc: Global, declared: &Declared<'_>) -> Result<Vec<u8>, AllocError>
+fn key_of(alloc: Global, declared: &ListedDeclaration<'_>) -> Result<Vec<u8>, AllocError>
     ensures exact { IfOk result (λ key. key.items ≡ spec.key_of declared.now) }
 {
     match &declared.part {
@@ -125,7 +125,7 @@ fn counted(counts: Counts, part: &Part<'_>) -> Counts
 fn push_places(
     alloc: Global,
     places: &mut Index<usize>,
-    declared: &Declared<'_>,
+    declared: &ListedDeclaration<'_>,
     number: usize,
 ) -> Result<(), AllocError>
     ensures pushed { OnOk result (spec.PutsPlaces places.old places.new declared.now number) }
@@ -157,7 +157,7 @@ impl<'l, 'a> Earlier<'l, 'a> {
     }
 
     /// The declarations.
-    pub fn items(&self) -> &'l [Declared<'a>]
+    pub fn items(&self) -> &'l [ListedDeclaration<'a>]
         ensures same { result.now ≡ self.now }
     {
         self.items
@@ -190,8 +190,8 @@ impl<'l, 'a> Earlier<'l, 'a> {
     pub fn grown(
         self,
         alloc: Global,
-        items: &'l [Declared<'a>],
-        declared: &Declared<'a>,
+        items: &'l [ListedDeclaration<'a>],
+        declared: &ListedDeclaration<'a>,
     ) -> Result<Earlier<'l, 'a>, AllocError>
         requires one_more { items.now ≡ self ++ declared.now ∷ [] }
         ensures grown { IfOk result (λ all. all ≡ items.now) }

@@ -2,7 +2,7 @@
 ghost use Rattle.std.specs.Prelude.{◌≡◌, IfOk};
 ghost use Rattle.ang_names_listed.specs.Declarations as spec;
 
-use crate::listed::{Declared, Part, Shape};
+use crate::listed::{ListedDeclaration, Part, ListedFamily};
 use crate::text_at;
 use ang_lex::Token;
 use ang_names_known::Origin;
@@ -15,7 +15,7 @@ pub struct Declaring<'l, 'a> {
     origin: Origin,
     text: &'a [u8],
     name: Token,
-    shape: &'l Shape<'a>,
+    shape: &'l ListedFamily<'a>,
 }
 
 impl<'l, 'a> Model for Declaring<'l, 'a> {
@@ -49,7 +49,7 @@ impl<'l, 'a> Declaring<'l, 'a> {
     }
 
     /// What it declares.
-    pub fn shape(&self) -> &'l Shape<'a>
+    pub fn shape(&self) -> &'l ListedFamily<'a>
         ensures same { result.now ≡ self.now.shape }
     {
         self.shape
@@ -64,7 +64,7 @@ impl<'l, 'a> Declaring<'l, 'a> {
 }
 
 /// The class or interface that a declaration declares, if it declares one.
-fn declaring_of<'l, 'a>(declared: &'l Declared<'a>) -> Option<Declaring<'l, 'a>>
+fn declaring_of<'l, 'a>(declared: &'l ListedDeclaration<'a>) -> Option<Declaring<'l, 'a>>
     ensures exact { result ≡ spec.declaring_of declared.now }
 {
     match &declared.part {
@@ -86,7 +86,7 @@ fn declaring_of<'l, 'a>(declared: &'l Declared<'a>) -> Option<Declaring<'l, 'a>>
 #[tactic(auto, unfolding(crate::specs::Declarations::families_of))]
 pub fn families_of<'l, 'a>(
     alloc: Global,
-    all: &'l [Declared<'a>],
+    all: &'l [ListedDeclaration<'a>],
 ) -> Result<Vec<Declaring<'l, 'a>>, AllocError>
     ensures exact { IfOk result (λ found. found.items ≡ spec.families_of all.now) }
 {

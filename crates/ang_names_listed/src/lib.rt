@@ -21,9 +21,9 @@ mod types;
 
 pub use borrowed::WrittenParameters;
 pub use families::{Declaring, families_of};
-pub use listed::{Attributes, Declared, Member, MemberKind, Part, Shape};
+pub use listed::{Attributes, ListedDeclaration, ListedMember, MemberKind, Part, ListedFamily};
 pub use listing::declarations_of;
-pub use role::Role;
+pub use role::TypePosition;
 pub use sources::{copy_at, error_at, fault_at, name_at, text_at};
 pub use spelling::{
     Base, Sign, Spelling, have_same_types, have_same_types_as_host, push_spellings,

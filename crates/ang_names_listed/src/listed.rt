@@ -2,16 +2,16 @@
 use crate::WrittenParameters;
 use ang_kinds::List;
 use ang_lex::Token;
-use ang_names_known::{Access, Origin, Text};
+use ang_names_known::{Access, Origin, BorrowedText};
 use ang_tree::TypeName;
 
 /// A declaration of a script. Each name of a declaration of globals is one of its own.
 #[derive(Drop)]
-pub struct Declared<'a> {
+pub struct ListedDeclaration<'a> {
     /// Where it stands.
     pub origin: Origin,
     /// The bytes of its section.
-    pub text: Text<'a>,
+    pub text: BorrowedText<'a>,
     /// The name.
     pub name: Token,
     /// What is declared.
@@ -22,7 +22,7 @@ pub struct Declared<'a> {
 #[derive(Drop)]
 pub enum Part<'a> {
     /// A class or an interface.
-    Family(Shape<'a>),
+    Family(ListedFamily<'a>),
     /// A function with its result's type.
     Function(TypeName, WrittenParameters<'a>),
     /// An imported function with its result's type.
@@ -33,7 +33,7 @@ pub enum Part<'a> {
 
 /// What a class or an interface declares.
 #[derive(Drop)]
-pub struct Shape<'a> {
+pub struct ListedFamily<'a> {
     /// Whether it is a class, else an interface.
     pub is_class: bool,
     /// Whether it is a class that is written with `final`.
@@ -41,12 +41,12 @@ pub struct Shape<'a> {
     /// The names after `:`.
     pub bases: List<Token>,
     /// Its members, in order: each name of a declaration of fields is one of its own.
-    pub members: List<Member<'a>>,
+    pub members: List<ListedMember<'a>>,
 }
 
 /// A member of a class or an interface.
 #[derive(Drop)]
-pub struct Member<'a> {
+pub struct ListedMember<'a> {
     /// The name.
     pub name: Token,
     /// Who may use it.

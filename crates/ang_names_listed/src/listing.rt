@@ -6,10 +6,10 @@ ghost use Rattle.ang_names_listed.specs.Sources.{source_of};
 ghost use Rattle.ang_names_listed.specs.Declarations as spec;
 
 use crate::WrittenParameters;
-use crate::listed::{Declared, Part};
+use crate::listed::{ListedDeclaration, Part};
 use crate::members::{class_shape, interface_shape};
 use ang_lex::Token;
-use ang_names_known::{Origin, Text};
+use ang_names_known::{Origin, BorrowedText};
 use ang_tree::{Class, Declaration, Function, Import, Interface, Script, TypeName, Variables};
 use std::alloc::{AllocError, Global};
 
@@ -19,13 +19,13 @@ fn list_global<'a>(
     text: &'a [u8],
     declared_type: TypeName,
     name: Token,
-) -> Declared<'a>
+) -> ListedDeclaration<'a>
     ensures exact { result ≡ spec.declared_as origin.script text.now origin.declaration
         origin.variable name (Part.Global declared_type) }
 {
-    Declared {
+    ListedDeclaration {
         origin,
-        text: Text::new(text),
+        text: BorrowedText::new(text),
         name,
         part: Part::Global(declared_type),
     }
@@ -37,7 +37,7 @@ fn list_globals<'a>(
     declaration: usize,
     text: &'a [u8],
     variables: &'a Variables,
-    found: &mut Vec<Declared<'a>>,
+    found: &mut Vec<ListedDeclaration<'a>>,
 ) -> Result<(), AllocError>
     ensures listed { OnOk result (found.new.items ≡ found.old.items
         ++ spec.declared_at script text.now declaration (globals (view_vars variables.now))) }
@@ -69,15 +69,15 @@ fn list_function<'a>(
     declaration: usize,
     text: &'a [u8],
     written: &'a Function,
-    found: &mut Vec<Declared<'a>>,
+    found: &mut Vec<ListedDeclaration<'a>>,
 ) -> Result<(), AllocError>
     ensures listed { OnOk result (found.new.items ≡ found.old.items
         ++ spec.declared_at script text.now declaration (view_function written.now)) }
 {
     let params = WrittenParameters::new(written.parameters.items.as_slice());
-    found.push(Declared {
+    found.push(ListedDeclaration {
         origin: origin_of(script, declaration),
-        text: Text::new(text),
+        text: BorrowedText::new(text),
         name: written.name,
         part: Part::Function(written.result, params),
     })?;
@@ -89,15 +89,15 @@ fn list_import<'a>(
     declaration: usize,
     text: &'a [u8],
     written: &'a Import,
-    found: &mut Vec<Declared<'a>>,
+    found: &mut Vec<ListedDeclaration<'a>>,
 ) -> Result<(), AllocError>
     ensures listed { OnOk result (found.new.items ≡ found.old.items
         ++ spec.declared_at script text.now declaration (view_import written.now)) }
 {
     let params = WrittenParameters::new(written.parameters.items.as_slice());
-    found.push(Declared {
+    found.push(ListedDeclaration {
         origin: origin_of(script, declaration),
-        text: Text::new(text),
+        text: BorrowedText::new(text),
         name: written.name,
         part: Part::Import(written.result, params),
     })?;
@@ -110,15 +110,15 @@ fn list_class<'a>(
     declaration: usize,
     text: &'a [u8],
     written: &'a Class,
-    found: &mut Vec<Declared<'a>>,
+    found: &mut Vec<ListedDeclaration<'a>>,
 ) -> Result<(), AllocError>
     ensures listed { OnOk result (found.new.items ≡ found.old.items
         ++ spec.declared_at script text.now declaration (view_class written.now)) }
 {
     let shape = class_shape(alloc, written)?;
-    found.push(Declared {
+    found.push(ListedDeclaration {
         origin: origin_of(script, declaration),
-        text: Text::new(text),
+        text: BorrowedText::new(text),
         name: written.name,
         part: Part::Family(shape),
     })?;
@@ -131,15 +131,15 @@ fn list_interface<'a>(
     declaration: usize,
     text: &'a [u8],
     written: &'a Interface,
-    found: &mut Vec<Declared<'a>>,
+    found: &mut Vec<ListedDeclaration<'a>>,
 ) -> Result<(), AllocError>
     ensures listed { OnOk result (found.new.items ≡ found.old.items
         ++ spec.declared_at script text.now declaration (view_interface written.now)) }
 {
     let shape = interface_shape(alloc, written)?;
-    found.push(Declared {
+    found.push(ListedDeclaration {
         origin: origin_of(script, declaration),
-        text: Text::new(text),
+        text: BorrowedText::new(text),
         name: written.name,
         part: Part::Family(shape),
     })?;
@@ -153,7 +153,7 @@ fn list_declaration<'a>(
     declaration: usize,
     text: &'a [u8],
     written: &'a Declaration,
-    found: &mut Vec<Declared<'a>>,
+    found: &mut Vec<ListedDeclaration<'a>>,
 ) -> Result<(), AllocError>
     ensures listed { OnOk result (found.new.items
         ≡ found.old.items ++ spec.declared_at script text.now declaration (view_decl written.now)) }
@@ -187,7 +187,7 @@ fn list_script<'a>(
     alloc: Global,
     number: usize,
     script: &'a Script,
-    found: &mut Vec<Declared<'a>>,
+    found: &mut Vec<ListedDeclaration<'a>>,
 ) -> Result<(), AllocError>
     ensures listed { OnOk result (found.new.items
         ≡ found.old.items ++ spec.declared_from number script.now.source.items 0
@@ -204,7 +204,7 @@ fn list_script<'a>(
 ///
 /// The only error is want of memory.
 #[tactic(auto, unfolding(crate::specs::Declarations::declarations_of))]
-pub fn declarations_of(alloc: Global, scripts: &[Script]) -> Result<Vec<Declared<'_>>, AllocError>
+pub fn declarations_of(alloc: Global, scripts: &[Script]) -> Result<Vec<ListedDeclaration<'_>>, AllocError>
     ensures exact { IfOk result
         (λ found. found.items ≡ spec.declarations_of (list_map source_of scripts.now)) }
 {

@@ -5,7 +5,7 @@ ghost use Rattle.ang_tree.specs.View.{view_constructor, view_fields, view_member
 ghost use Rattle.ang_names_listed.specs.Declarations as spec;
 
 use crate::WrittenParameters;
-use crate::listed::{Attributes, Member, MemberKind, Shape};
+use crate::listed::{Attributes, ListedMember, MemberKind, ListedFamily};
 use ang_kinds::List;
 use ang_lex::{Token, TokenKind};
 use ang_names_known::Access;
@@ -63,10 +63,10 @@ fn attributes_of(constant: &Option<Token>, words: &[Token]) -> Attributes
 }
 
 /// One of the names of a declaration of fields.
-fn field_as<'a>(access: Access, declared: TypeName, field: &FieldName) -> Member<'a>
+fn field_as<'a>(access: Access, declared: TypeName, field: &FieldName) -> ListedMember<'a>
     ensures exact { result ≡ spec.field_as access declared field.now }
 {
-    Member {
+    ListedMember {
         name: field.name,
         access,
         kind: MemberKind::Field(declared),
@@ -74,7 +74,7 @@ fn field_as<'a>(access: Access, declared: TypeName, field: &FieldName) -> Member
 }
 
 /// All names of a declaration of fields.
-fn list_fields<'a>(written: &'a Fields, found: &mut Vec<Member<'a>>) -> Result<(), AllocError>
+fn list_fields<'a>(written: &'a Fields, found: &mut Vec<ListedMember<'a>>) -> Result<(), AllocError>
     ensures listed { OnOk result
         (found.new.items ≡ found.old.items ++ spec.members_by (view_fields written.now)) }
 {
@@ -85,13 +85,13 @@ fn list_fields<'a>(written: &'a Fields, found: &mut Vec<Member<'a>>) -> Result<(
     Ok(())
 }
 
-fn list_method<'a>(written: &'a Method, found: &mut Vec<Member<'a>>) -> Result<(), AllocError>
+fn list_method<'a>(written: &'a Method, found: &mut Vec<ListedMember<'a>>) -> Result<(), AllocError>
     ensures listed { OnOk result
         (found.new.items ≡ found.old.items ++ spec.members_by (view_own_method written.now)) }
 {
     let params = WrittenParameters::new(written.parameters.items.as_slice());
     let attributes = attributes_of(&written.constant, written.attributes.as_slice());
-    found.push(Member {
+    found.push(ListedMember {
         name: written.name,
         access: access_of(&written.access),
         kind: MemberKind::Method(written.result, params, attributes),
@@ -101,13 +101,13 @@ fn list_method<'a>(written: &'a Method, found: &mut Vec<Member<'a>>) -> Result<(
 
 fn list_constructor<'a>(
     written: &'a Constructor,
-    found: &mut Vec<Member<'a>>,
+    found: &mut Vec<ListedMember<'a>>,
 ) -> Result<(), AllocError>
     ensures listed { OnOk result
         (found.new.items ≡ found.old.items ++ spec.members_by (view_constructor written.now)) }
 {
     let params = WrittenParameters::new(written.parameters.items.as_slice());
-    found.push(Member {
+    found.push(ListedMember {
         name: written.name,
         access: Access::Public,
         kind: MemberKind::Constructor(params),
@@ -116,7 +116,7 @@ fn list_constructor<'a>(
 }
 
 /// What one declaration inside a class declares.
-fn list_member<'a>(written: &'a ClassMember, found: &mut Vec<Member<'a>>) -> Result<(), AllocError>
+fn list_member<'a>(written: &'a ClassMember, found: &mut Vec<ListedMember<'a>>) -> Result<(), AllocError>
     ensures listed { OnOk result
         (found.new.items ≡ found.old.items ++ spec.members_by (view_member written.now)) }
 {
@@ -130,7 +130,7 @@ fn list_member<'a>(written: &'a ClassMember, found: &mut Vec<Member<'a>>) -> Res
 fn class_members<'a>(
     alloc: Global,
     written: &'a [ClassMember],
-) -> Result<List<Member<'a>>, AllocError>
+) -> Result<List<ListedMember<'a>>, AllocError>
     ensures exact { IfOk result
         (λ found. found ≡ flat_map spec.members_by (list_map view_member written.now)) }
 {
@@ -142,7 +142,7 @@ fn class_members<'a>(
 }
 
 /// A method of an interface, which is public.
-fn interface_member<'a>(written: &'a InterfaceMethod) -> Member<'a>
+fn interface_member<'a>(written: &'a InterfaceMethod) -> ListedMember<'a>
     ensures exact { result ≡ spec.member_of (view_method written.now) }
 {
     let params = WrittenParameters::new(written.parameters.items.as_slice());
@@ -151,7 +151,7 @@ fn interface_member<'a>(written: &'a InterfaceMethod) -> Member<'a>
         is_final: false,
         is_override: false,
     };
-    Member {
+    ListedMember {
         name: written.name,
         access: Access::Public,
         kind: MemberKind::Method(written.result, params, attributes),
@@ -161,7 +161,7 @@ fn interface_member<'a>(written: &'a InterfaceMethod) -> Member<'a>
 fn interface_members<'a>(
     alloc: Global,
     written: &'a [InterfaceMethod],
-) -> Result<List<Member<'a>>, AllocError>
+) -> Result<List<ListedMember<'a>>, AllocError>
     ensures exact { IfOk result
         (λ found. found ≡ list_map spec.member_of (list_map view_method written.now)) }
 {
@@ -183,13 +183,13 @@ fn base_names(alloc: Global, bases: &[BaseName]) -> Result<List<Token>, AllocErr
 }
 
 /// What a class declares.
-pub fn class_shape<'a>(alloc: Global, class: &'a Class) -> Result<Shape<'a>, AllocError>
+pub fn class_shape<'a>(alloc: Global, class: &'a Class) -> Result<ListedFamily<'a>, AllocError>
     ensures exact { IfOk result (λ shape. shape ≡ spec.class_shape class.now.final_word
         class.now.bases.items (list_map view_member class.now.members.items)) }
 {
     let bases = base_names(alloc, class.bases.as_slice())?;
     let members = class_members(alloc, class.members.as_slice())?;
-    Ok(Shape {
+    Ok(ListedFamily {
         is_class: true,
         is_final: class.final_word.is_some(),
         bases,
@@ -198,13 +198,13 @@ pub fn class_shape<'a>(alloc: Global, class: &'a Class) -> Result<Shape<'a>, All
 }
 
 /// What an interface declares.
-pub fn interface_shape<'a>(alloc: Global, interface: &'a Interface) -> Result<Shape<'a>, AllocError>
+pub fn interface_shape<'a>(alloc: Global, interface: &'a Interface) -> Result<ListedFamily<'a>, AllocError>
     ensures exact { IfOk result (λ shape. shape ≡ spec.interface_shape
         interface.now.bases.items (list_map view_method interface.now.methods.items)) }
 {
     let bases = base_names(alloc, interface.bases.as_slice())?;
     let members = interface_members(alloc, interface.methods.as_slice())?;
-    Ok(Shape {
+    Ok(ListedFamily {
         is_class: false,
         is_final: false,
         bases,

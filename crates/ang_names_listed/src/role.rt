@@ -3,7 +3,7 @@ use ang_kinds::Pass;
 
 /// Where a type is written.
 #[derive(Clone, Copy)]
-pub enum Role {
+pub enum TypePosition {
     /// As a function's or a method's result.
     Result,
     /// As the type of a global variable or a local.

@@ -7,7 +7,7 @@ use crate::sources::text_at;
 use crate::types::pass_of;
 use ang_kinds::{Param, Pass, Prim, Shape, TypeRef};
 use ang_lex::TokenKind;
-use ang_names_known::Text;
+use ang_names_known::BorrowedText;
 use ang_tree::{Handle, Parameter, TypeName};
 use std::alloc::AllocError;
 
@@ -19,7 +19,7 @@ pub enum Base<'a> {
     /// A primitive type. `int32` is `int`, and `uint32` is `uint`.
     Primitive(Prim),
     /// A name.
-    Named(Text<'a>),
+    Named(BorrowedText<'a>),
 }
 
 /// What makes a type a handle. `T@+` is `T@`.
@@ -52,7 +52,7 @@ fn base_of<'a>(text: &'a [u8], declared: &TypeName) -> Base<'a>
     match declared.name.kind {
         TokenKind::Primitive(primitive) => Base::Primitive(primitive),
         TokenKind::Void => Base::Void,
-        _ => Base::Named(Text::new(text_at(text, &declared.name))),
+        _ => Base::Named(BorrowedText::new(text_at(text, &declared.name))),
     }
 }
 
@@ -95,8 +95,8 @@ fn host_base(ty: &TypeRef) -> Base<'_>
     match ty {
         TypeRef::Void => Base::Void,
         TypeRef::Plain(primitive) => Base::Primitive(*primitive),
-        TypeRef::Enumeration { name } => Base::Named(Text::new(name.as_slice())),
-        TypeRef::Object { name, .. } => Base::Named(Text::new(name.as_slice())),
+        TypeRef::Enumeration { name } => Base::Named(BorrowedText::new(name.as_slice())),
+        TypeRef::Object { name, .. } => Base::Named(BorrowedText::new(name.as_slice())),
     }
 }
 

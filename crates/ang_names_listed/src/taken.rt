@@ -8,7 +8,7 @@ ghost use Rattle.ang_names_listed.specs.Earlier as earlier;
 ghost use Rattle.ang_names_listed.specs.Taken as spec;
 
 use crate::earlier::{Earlier, declared_name, function_key};
-use crate::listed::{Declared, Part};
+use crate::listed::{ListedDeclaration, Part};
 use crate::{error_at, have_same_types, have_same_types_as_host};
 use ang_kinds::{EntityNo, ErrorKind, Param};
 use ang_tree::Parameter;
@@ -52,7 +52,7 @@ fn excludes(text: &[u8], part: &Part<'_>, other_text: &[u8], other: &Part<'_>) -
     }
 }
 
-fn clashes(declared: &Declared<'_>, earlier: &Declared<'_>) -> bool
+fn clashes(declared: &ListedDeclaration<'_>, earlier: &ListedDeclaration<'_>) -> bool
     ensures exact { result ≡ spec.clashes declared.now earlier.now }
 {
     declared_name(declared) == declared_name(earlier)
@@ -86,7 +86,7 @@ fn excludes_host(text: &[u8], part: &Part<'_>, kind: EntryKind, others: &[Param]
     }
 }
 
-fn clashes_with_entry(declared: &Declared<'_>, entry: &Entry) -> bool
+fn clashes_with_entry(declared: &ListedDeclaration<'_>, entry: &Entry) -> bool
     ensures exact { result ≡ spec.clashes_with_host declared.now (Some entry.now) }
 {
     declared_name(declared) == entry.signature.name.as_slice()
@@ -98,7 +98,7 @@ fn clashes_with_entry(declared: &Declared<'_>, entry: &Entry) -> bool
         )
 }
 
-fn clashes_at(view: &View, number: EntityNo, declared: &Declared<'_>) -> bool
+fn clashes_at(view: &View, number: EntityNo, declared: &ListedDeclaration<'_>) -> bool
     ensures exact { result ≡ spec.clashes_with_host declared.now (entry_at view.now number.0) }
 {
     match view.get(number) {
@@ -108,7 +108,7 @@ fn clashes_at(view: &View, number: EntityNo, declared: &Declared<'_>) -> bool
 }
 
 /// Whether a declaration clashes with one of the entries of these numbers.
-fn clashes_among(view: &View, numbers: &[EntityNo], declared: &Declared<'_>) -> bool
+fn clashes_among(view: &View, numbers: &[EntityNo], declared: &ListedDeclaration<'_>) -> bool
     ensures exact { result ≡ list_any
         (λ n. spec.clashes_with_host declared.now (entry_at view.now n.0)) numbers.now }
 {
@@ -118,14 +118,14 @@ fn clashes_among(view: &View, numbers: &[EntityNo], declared: &Declared<'_>) -> 
 }
 
 /// Whether a declaration clashes with what the module sees of the host: with an entry of its name.
-fn is_taken_by_host(view: &View, declared: &Declared<'_>) -> bool
+fn is_taken_by_host(view: &View, declared: &ListedDeclaration<'_>) -> bool
     ensures exact { result ≡ list_any (spec.clashes_with_host declared.now) view.now }
 {
     clashes_among(view, view.find(declared_name(declared)), declared)
 }
 
 /// Whether a declaration clashes with the earlier one of this number.
-fn clashes_with_earlier(before: &[Declared<'_>], number: usize, declared: &Declared<'_>) -> bool
+fn clashes_with_earlier(before: &[ListedDeclaration<'_>], number: usize, declared: &ListedDeclaration<'_>) -> bool
     ensures exact { result ≡ earlier.clashes_at before.now declared.now number }
 {
     let Some(earlier) = before.get(number) else {
@@ -135,7 +135,7 @@ fn clashes_with_earlier(before: &[Declared<'_>], number: usize, declared: &Decla
 }
 
 /// Whether a declaration clashes with one of the earlier ones of these numbers.
-fn clashes_with_one(before: &[Declared<'_>], row: &[usize], declared: &Declared<'_>) -> bool
+fn clashes_with_one(before: &[ListedDeclaration<'_>], row: &[usize], declared: &ListedDeclaration<'_>) -> bool
     ensures exact { result ≡ list_any (earlier.clashes_at before.now declared.now) row.now }
 {
     row.iter()
@@ -144,10 +144,10 @@ fn clashes_with_one(before: &[Declared<'_>], row: &[usize], declared: &Declared<
 
 /// Whether a declaration clashes with one of the earlier ones of these numbers, or of those.
 fn clashes_with_either(
-    before: &[Declared<'_>],
+    before: &[ListedDeclaration<'_>],
     others: &[usize],
     functions: &[usize],
-    declared: &Declared<'_>,
+    declared: &ListedDeclaration<'_>,
 ) -> bool
     ensures exact { result ≡ (list_any (earlier.clashes_at before.now declared.now) others.now
         || list_any (earlier.clashes_at before.now declared.now) functions.now) }
@@ -160,7 +160,7 @@ fn clashes_with_either(
 fn is_function_taken(
     alloc: Global,
     before: &Earlier<'_, '_>,
-    declared: &Declared<'_>,
+    declared: &ListedDeclaration<'_>,
     params: &[Parameter],
 ) -> Result<bool, AllocError>
     requires params { earlier.params_of declared.now.part ≡ Some params.now }
@@ -176,7 +176,7 @@ fn is_function_taken(
 
 /// Whether some earlier declaration has the name of this one, which is no function.
 #[tactic(auto, using(crate::proofs::Among::all_among))]
-fn is_name_taken(before: &Earlier<'_, '_>, declared: &Declared<'_>) -> bool
+fn is_name_taken(before: &Earlier<'_, '_>, declared: &ListedDeclaration<'_>) -> bool
     ensures exact { result ≡ list_any (spec.clashes declared.now) before.now }
 {
     let named = before.named(declared_name(declared));
@@ -187,7 +187,7 @@ fn is_name_taken(before: &Earlier<'_, '_>, declared: &Declared<'_>) -> bool
 fn is_taken_before(
     alloc: Global,
     before: &Earlier<'_, '_>,
-    declared: &Declared<'_>,
+    declared: &ListedDeclaration<'_>,
 ) -> Result<bool, AllocError>
     ensures exact { IfOk result
         (λ taken. taken ≡ list_any (spec.clashes declared.now) before.now) }
@@ -205,7 +205,7 @@ fn is_taken(
     alloc: Global,
     view: &View,
     before: &Earlier<'_, '_>,
-    declared: &Declared<'_>,
+    declared: &ListedDeclaration<'_>,
 ) -> Result<bool, AllocError>
     ensures exact { IfOk result (λ taken. taken ≡ spec.is_taken view.now before.now declared.now) }
 {
@@ -235,7 +235,7 @@ fn is_first_above(before: &Earlier<'_, '_>, part: &Part<'_>) -> bool
 /// An error at the name of a declaration, with which no entry of the host could help.
 fn refused_name(
     alloc: Global,
-    declared: &Declared<'_>,
+    declared: &ListedDeclaration<'_>,
     kind: ErrorKind,
 ) -> Result<Refused, AllocError>
     ensures exact { IfOk result (λ r. r
@@ -250,7 +250,7 @@ fn name_refusal(
     alloc: Global,
     view: &View,
     before: &Earlier<'_, '_>,
-    declared: &Declared<'_>,
+    declared: &ListedDeclaration<'_>,
 ) -> Result<Option<Refused>, AllocError>
     ensures exact { IfOk result (λ r. r ≡ spec.name_refusal view.now before.now declared.now) }
 {
@@ -285,7 +285,7 @@ pub fn push_refused(found: &mut Vec<Refused>, refused: Option<Refused>) -> Resul
 pub fn name_refusals(
     alloc: Global,
     view: &View,
-    all: &[Declared<'_>],
+    all: &[ListedDeclaration<'_>],
 ) -> Result<Vec<Refused>, AllocError>
     ensures exact { IfOk result (λ found. found.items ≡ spec.name_refusals view.now all.now) }
 {

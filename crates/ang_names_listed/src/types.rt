@@ -2,7 +2,7 @@
 ghost use Rattle.std.specs.Prelude.{◌≡◌};
 ghost use Rattle.ang_names_listed.specs.Types as spec;
 
-use crate::role::Role;
+use crate::role::TypePosition;
 use crate::sources::text_at;
 use ang_kinds::{ErrorKind, Pass};
 use ang_lex::{Token, TokenKind};
@@ -155,22 +155,22 @@ fn cast_to(ty: ArgType) -> Result<ArgType, ErrorKind>
 }
 
 fn parameter_type(pass: Pass, ty: ArgType) -> Result<ArgType, ErrorKind>
-    ensures exact { result ≡ spec.admitted (Role.Parameter pass) ty }
+    ensures exact { result ≡ spec.admitted (TypePosition.Parameter pass) ty }
 {
     passed(pass, no_void(ty)?)
 }
 
-fn admitted(role: Role, ty: ArgType) -> Result<ArgType, ErrorKind>
+fn admitted(role: TypePosition, ty: ArgType) -> Result<ArgType, ErrorKind>
     ensures exact { result ≡ spec.admitted role ty }
 {
     match role {
-        Role::Result => no_object(ty),
-        Role::Variable => no_void(ty),
-        Role::Field => no_object(no_void(ty)?),
-        Role::Parameter(pass) => parameter_type(pass, ty),
-        Role::ImportResult => crossing(true, no_object(ty)?),
-        Role::ImportParameter(pass) => crossing(is_by_value(pass), parameter_type(pass, ty)?),
-        Role::Cast => cast_to(ty),
+        TypePosition::Result => no_object(ty),
+        TypePosition::Variable => no_void(ty),
+        TypePosition::Field => no_object(no_void(ty)?),
+        TypePosition::Parameter(pass) => parameter_type(pass, ty),
+        TypePosition::ImportResult => crossing(true, no_object(ty)?),
+        TypePosition::ImportParameter(pass) => crossing(is_by_value(pass), parameter_type(pass, ty)?),
+        TypePosition::Cast => cast_to(ty),
     }
 }
 
@@ -182,7 +182,7 @@ fn admitted(role: Role, ty: ArgType) -> Result<ArgType, ErrorKind>
 #[tactic(auto, unfolding(crate::specs::Types::type_in))]
 pub fn type_in(
     space: &Space<'_>,
-    role: Role,
+    role: TypePosition,
     text: &[u8],
     declared: &TypeName,
 ) -> Result<ArgType, ErrorKind>
@@ -236,7 +236,7 @@ fn settled(meaning: Result<ArgType, ErrorKind>) -> ArgType
 
 /// A type as it is written, with what it means: `void` where it is no type, which phases have refused by then.
 /// It takes no memory.
-pub fn written_in(space: &Space<'_>, role: Role, text: &[u8], declared: &TypeName) -> Written
+pub fn written_in(space: &Space<'_>, role: TypePosition, text: &[u8], declared: &TypeName) -> Written
     ensures exact { result ≡ spec.written_in space.now role text.now declared.now }
 {
     Written {

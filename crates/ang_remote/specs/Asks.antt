@@ -4,8 +4,8 @@ use Rattle.std.specs.Fmt.{signed_decimal}
 use Rattle.ang_kinds.specs.declared.value.Value.{Value}
 use Rattle.ang_kinds.specs.declared.value.Value.TheVariants as value
 use Rattle.ang_host.specs.State.{Ask, make, call, read, write, end}
-use Rattle.ang_remote.specs.declared.asks.Kind.{Kind}
-use Rattle.ang_remote.specs.declared.asks.Kind.TheVariants as kind
+use Rattle.ang_remote.specs.declared.asks.AskKind.{AskKind}
+use Rattle.ang_remote.specs.declared.asks.AskKind.TheVariants as kind
 
 -- a key is `#k`
 abbrev pub key_text : ℕ → List ℕ
@@ -30,14 +30,14 @@ unfoldable pub object_text : Option ℕ → List ℕ
 object_text None = codes "-"
 object_text (Some k) = key_text k
 
-unfoldable pub kind_text : Kind → List ℕ
+unfoldable pub kind_text : AskKind → List ℕ
 kind_text kind.Make = codes "make"
 kind_text kind.Call = codes "call"
 kind_text kind.Read = codes "read"
 kind_text kind.Write = codes "write"
 
 -- `ask DRIVER KIND F OBJECT (V,V)`, with its LF
-unfoldable pub line_text : ℕ → Kind → ℕ → Option ℕ → List Value → List ℕ
+unfoldable pub line_text : ℕ → AskKind → ℕ → Option ℕ → List Value → List ℕ
 line_text driver kind f object values =
     codes "ask " ++ decimal driver ++ codes " " ++ kind_text kind ++ codes " " ++ decimal f ++ codes " "
     ++ object_text object ++ codes " (" ++ values_text values ++ codes ")\n"

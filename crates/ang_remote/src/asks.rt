@@ -9,7 +9,7 @@ use std::alloc::{AllocError, Global};
 
 /// What is asked.
 #[derive(Clone, Copy)]
-pub enum Kind {
+pub enum AskKind {
     /// A factory, for an object.
     Make,
     /// A function or a method.
@@ -106,14 +106,14 @@ fn push_object(out: &mut Vec<u8>, object: Option<u64>) -> Result<(), AllocError>
 }
 
 #[tactic(auto, unfolding(crate::specs::Asks::kind_text))]
-fn kind_name(kind: Kind) -> &'static str
+fn kind_name(kind: AskKind) -> &'static str
     ensures exact { result.now ≡ kind_text kind }
 {
     match kind {
-        Kind::Make => "make",
-        Kind::Call => "call",
-        Kind::Read => "read",
-        Kind::Write => "write",
+        AskKind::Make => "make",
+        AskKind::Call => "call",
+        AskKind::Read => "read",
+        AskKind::Write => "write",
     }
 }
 
@@ -125,7 +125,7 @@ fn kind_name(kind: Kind) -> &'static str
 pub fn ask_line(
     alloc: Global,
     driver: u32,
-    kind: Kind,
+    kind: AskKind,
     f: u32,
     object: Option<u64>,
     values: &[Value],

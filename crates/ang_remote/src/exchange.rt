@@ -4,7 +4,7 @@ ghost use Rattle.ang_remote.specs.Asks.{line_text};
 ghost use Rattle.ang_remote.specs.Wires.{IsExchanged, IsAnswered, heard_as};
 
 use crate::answers::{BAD_FORM, INPUT_ENDED, MOST_ANSWER, NOT_READ, NOT_WRITTEN, Said, said_by};
-use crate::asks::{Kind, ask_line};
+use crate::asks::{AskKind, ask_line};
 use crate::lines::{Heard, read_line};
 use crate::writing::write_text;
 use ang_kinds::Value;
@@ -39,7 +39,7 @@ pub fn exchange<R: Read, W: Write>(
     reader: &mut R,
     writer: &mut W,
     driver: u32,
-    kind: Kind,
+    kind: AskKind,
     f: u32,
     object: Option<u64>,
     values: &[Value],

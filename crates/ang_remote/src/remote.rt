@@ -6,7 +6,7 @@ ghost use Rattle.ang_remote.specs.declared.answers.Said.TheVariants as saying;
 ghost use Rattle.ang_remote.specs.Wires.{IsExchanged, MakesKey, answer_of, given_of, fresh_state};
 
 use crate::answers::{KEY_LIVE, NOT_LIVE, OTHER_KIND, Said};
-use crate::asks::Kind;
+use crate::asks::AskKind;
 use crate::exchange::exchange;
 use crate::keys::Keys;
 use ang_host::{Answer, Driver, Made};
@@ -48,7 +48,7 @@ impl<R: Read + Drop, W: Write + Drop> Remote<R, W> {
     }
 
     // Asks, and gives what is said.
-    fn ask(&mut self, kind: Kind, f: u32, object: Option<u64>, values: &[Value]) -> Said
+    fn ask(&mut self, kind: AskKind, f: u32, object: Option<u64>, values: &[Value]) -> Said
         ensures keys { self.new.keys ≡ self.old.keys }
         ensures number { self.new.number ≡ self.old.number }
         ensures exchanged { IsExchanged (line_text self.old.number kind f object values.now)
@@ -139,7 +139,7 @@ impl<R: Read + Drop, W: Write + Drop> Driver for Remote<R, W> {
         if !self.keys.ask() {
             return Made::Full;
         }
-        let said = self.ask(Kind::Make, f, None, args);
+        let said = self.ask(AskKind::Make, f, None, args);
         made(&mut self.keys, said)
     }
 
@@ -147,7 +147,7 @@ impl<R: Read + Drop, W: Write + Drop> Driver for Remote<R, W> {
         if !self.keys.ask() {
             return Answer::Full;
         }
-        let said = self.ask(Kind::Call, f, object, args);
+        let said = self.ask(AskKind::Call, f, object, args);
         answer(&self.keys, said)
     }
 
@@ -155,7 +155,7 @@ impl<R: Read + Drop, W: Write + Drop> Driver for Remote<R, W> {
         if !self.keys.ask() {
             return Answer::Full;
         }
-        let said = self.ask(Kind::Read, f, object, &[]);
+        let said = self.ask(AskKind::Read, f, object, &[]);
         answer(&self.keys, said)
     }
 
@@ -163,7 +163,7 @@ impl<R: Read + Drop, W: Write + Drop> Driver for Remote<R, W> {
         if !self.keys.ask() {
             return Answer::Full;
         }
-        let said = self.ask(Kind::Write, f, object, &[value]);
+        let said = self.ask(AskKind::Write, f, object, &[value]);
         answer(&self.keys, said)
     }
 

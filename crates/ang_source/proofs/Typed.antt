@@ -5,15 +5,15 @@ use Rattle.std.specs.Prelude.{Bool, true, false, ◌-◌, slice_get}
 use Rattle.std.specs.FinMap as map
 use Rattle.ang_kinds.specs.declared.fault.Fault.{Fault}
 use Rattle.ang_kinds.specs.declared.fault.Fault.TheVariants.{Null, Tally}
-use Rattle.ang_typed.specs.declared.expression.Variable.TheVariants as variable
-use Rattle.ang_typed.specs.declared.expression.Member.TheVariants as member
+use Rattle.ang_typed.specs.declared.expression.TypedVariable.TheVariants as variable
+use Rattle.ang_typed.specs.declared.expression.TypedMember.TheVariants as member
 use Rattle.ang_typed.specs.Typed as t
 use Rattle.ang_meaning.specs.declared.slot.Slot.{Slot}
 use Rattle.ang_meaning.specs.declared.slot.Slot.TheVariants.{Bits, Script, Host}
-use Rattle.ang_meaning.specs.declared.operation.Operation.TheVariants.{Work, FieldGet}
+use Rattle.ang_meaning.specs.declared.operation.Operation.TheVariants.{Binary, FieldGet}
 use Rattle.ang_meaning.specs.declared.routine.Callee.{Callee}
 use Rattle.ang_meaning.specs.World.{World, ScriptObjects, Tried, Yes, No, hold, or_else, one_more, give, give_all}
-use Rattle.ang_meaning.specs.Setting.{Setting, is_fit}
+use Rattle.ang_meaning.specs.Environment.{Environment, is_fit}
 use Rattle.ang_meaning.specs.Hosts.{Done, Fine, Fails}
 use Rattle.ang_meaning.specs.Perform.{perform}
 use Rattle.ang_meaning.specs.Results.{Evaluated, Gave, Failed, Gathered, Ready, Broke, local_at, local_set, loaded, performed, applied, assigned, then_rest, Reply, Yields, Raises, replied, called}
@@ -29,7 +29,7 @@ pub record Signature : Type 0 where
   pub params : List SlotType
   pub result : SlotType
 
-module _ (z : Setting) (o : Owners) (m : ℕ) (c other : Callees) (sigs : Callee → Option Signature) where
+module _ (z : Environment) (o : Owners) (m : ℕ) (c other : Callees) (sigs : Callee → Option Signature) where
   -- The places of a run are typed: the locals that are alive, what lies below them, and the fields of all objects; and each count is the number of the places.
   pub record IsGood (locals below : List SlotType) (ls under : List Slot) (w : World) : Type 0 where
     pub locals_typed : AllTyped z o w.objects m locals ls
@@ -73,7 +73,7 @@ module _ (z : Setting) (o : Owners) (m : ℕ) (c other : Callees) (sigs : Callee
   abbrev mutual
    pub evaluate_or : Fault → t.Expr → List Slot → ℕ → World → Evaluated
    evaluate_or f (t.read (t.member_of e (member.Field i)) a) ls t w = applied (perform_or f z m (FieldGet i)) (one (evaluate_or f e ls t w))
-   evaluate_or f (t.operate op p l r) ls t w = applied (perform_or f z m (Work (work_of op) p)) (two (evaluate_or f l ls t w) (evaluate_or f r))
+   evaluate_or f (t.operate op p l r) ls t w = applied (perform_or f z m (Binary (work_of op) p)) (two (evaluate_or f l ls t w) (evaluate_or f r))
    evaluate_or f (t.assign (t.named (variable.Local i)) a e) ls t w = assigned (inner ls i) (evaluate_or f e ls t w)
    evaluate_or f (t.call k a args) ls t w = called m (other (callee_of k)) (targets_of ls args) (evaluate_all_or f args [] ls t w)
    evaluate_or f e ls t w = evaluate z m c e ls t w
@@ -128,18 +128,18 @@ module _ (z : Setting) (o : Owners) (m : ℕ) (c other : Callees) (sigs : Callee
 
   -- the second operand, above the first
   second_good : (a : _) (p : _) (locals below : List SlotType) (v : Slot) (under : List Slot) (r : Evaluated) → IsGoodEnd Number locals (Number ∷ below) (v ∷ under) r
-      → IsGoodEnd Number locals below under (applied (perform z m (Work a p)) (then_rest (v ∷ []) r (λ u ls t w. Ready (u ∷ v ∷ []) ls t w)))
+      → IsGoodEnd Number locals below under (applied (perform z m (Binary a p)) (then_rest (v ∷ []) r (λ u ls t w. Ready (u ∷ v ∷ []) ls t w)))
   unfolding is_fit
   second_good a p locals below v under (Gave u ls t w) h =
       let q : IsCounted (u ∷ v ∷ (ls ++ under)) w = counted_as (u ∷ (ls ++ (v ∷ under))) (u ∷ v ∷ (ls ++ under)) w (λ x. omega (arith, many_append x ls (v ∷ under), many_append x ls under)) h.4 in
-      did_good Number locals below (u ∷ v ∷ []) ls under t w (perform z m (Work a p) (u ∷ v ∷ []) w) h.1 h.2.1 h.3
-      (work_typed z o m a p v u w h.2.0 h.0) (perform_counted z m (Work a p) (u ∷ v ∷ []) (ls ++ under) w refl q)
+      did_good Number locals below (u ∷ v ∷ []) ls under t w (perform z m (Binary a p) (u ∷ v ∷ []) w) h.1 h.2.1 h.3
+      (work_typed z o m a p v u w h.2.0 h.0) (perform_counted z m (Binary a p) (u ∷ v ∷ []) (ls ++ under) w refl q)
   second_good a p locals below v under (Failed x ls w) h =
       let q : IsCounted (v ∷ (ls ++ under)) w = counted_as (ls ++ (v ∷ under)) (v ∷ (ls ++ under)) w (λ y. omega (arith, many_append y ls (v ∷ under), many_append y ls under)) h.3 in
       failed Number locals below x ls under w (give v w) (give_kept_all v w) h.0 h.1.1 h.2 (give_counted v (ls ++ under) w q)
 
   second_same : (f : Fault) (a : _) (p : _) (locals below : List SlotType) (v : Slot) (under : List Slot) (r : Evaluated) → IsGoodEnd Number locals (Number ∷ below) (v ∷ under) r
-      → applied (perform_or f z m (Work a p)) (then_rest (v ∷ []) r (λ u ls t w. Ready (u ∷ v ∷ []) ls t w)) ≡ applied (perform z m (Work a p)) (then_rest (v ∷ []) r (λ u ls t w. Ready (u ∷ v ∷ []) ls t w))
+      → applied (perform_or f z m (Binary a p)) (then_rest (v ∷ []) r (λ u ls t w. Ready (u ∷ v ∷ []) ls t w)) ≡ applied (perform z m (Binary a p)) (then_rest (v ∷ []) r (λ u ls t w. Ready (u ∷ v ∷ []) ls t w))
   second_same f a p locals below v under (Gave u ls t w) h = ap (λ d. performed d (u ∷ v ∷ []) ls t) (work_fits z o f m a p v u w h.2.0 h.0)
   second_same f a p locals below v under (Failed x ls w) h = refl
 
@@ -148,12 +148,12 @@ module _ (z : Setting) (o : Owners) (m : ℕ) (c other : Callees) (sigs : Callee
 
   work_good : (f : Fault) (a : _) (p : _) (locals below : List SlotType) (under : List Slot) (l : Evaluated) (go other : Go) → IsGoodEnd Number locals below under l
       → ((v : Slot) (ls : List Slot) (t : ℕ) (w : World) → IsGood locals (Number ∷ below) ls (v ∷ under) w → IsGoodEnd Number locals (Number ∷ below) (v ∷ under) (go ls t w) × (other ls t w ≡ go ls t w))
-      → IsGoodEnd Number locals below under (applied (perform z m (Work a p)) (two l go)) × (applied (perform_or f z m (Work a p)) (two l other) ≡ applied (perform z m (Work a p)) (two l go))
+      → IsGoodEnd Number locals below under (applied (perform z m (Binary a p)) (two l go)) × (applied (perform_or f z m (Binary a p)) (two l other) ≡ applied (perform z m (Binary a p)) (two l go))
   work_good f a p locals below under (Gave v ls t w) go other h k =
       let q : IsCounted (ls ++ (v ∷ under)) w = counted_as (v ∷ (ls ++ under)) (ls ++ (v ∷ under)) w (λ x. omega (arith, many_append x ls (v ∷ under), many_append x ls under)) h.4 in
       let next = k v ls t w (record { locals_typed = h.1; under_typed = (h.0, h.2); objects = h.3; counted = q }) in
       (second_good a p locals below v under (go ls t w) next.0,
-      ap (λ r. applied (perform_or f z m (Work a p)) (then_rest (v ∷ []) r (λ u ls' t' w'. Ready (u ∷ v ∷ []) ls' t' w'))) next.1 ∙ second_same f a p locals below v under (go ls t w) next.0)
+      ap (λ r. applied (perform_or f z m (Binary a p)) (then_rest (v ∷ []) r (λ u ls' t' w'. Ready (u ∷ v ∷ []) ls' t' w'))) next.1 ∙ second_same f a p locals below v under (go ls t w) next.0)
   work_good f a p locals below under (Failed x ls w) go other h k = (h, refl)
 
   -- a value that is held stands in its local, and the old one is given up
@@ -266,7 +266,7 @@ module _ (z : Setting) (o : Owners) (m : ℕ) (c other : Callees) (sigs : Callee
        let both = work_good f (work_of op) p locals below under (evaluate z m c l ls n w) (evaluate z m c r) (evaluate_or f r) first.0
            (λ v ls' n' w' g'. core_is_typed f a calls r Number locals (Number ∷ below) ls' (v ∷ under) n' w' h.2 g') in
        (subst (λ x. IsGoodEnd x locals below under (evaluate z m c (t.operate op p l r) ls n w)) (sym h.0) both.0,
-       ap (λ x. applied (perform_or f z m (Work (work_of op) p)) (two x (evaluate_or f r))) first.1 ∙ both.1)
+       ap (λ x. applied (perform_or f z m (Binary (work_of op) p)) (two x (evaluate_or f r))) first.1 ∙ both.1)
    core_is_typed f a calls (t.truth b) ty locals below ls under t w h g = absurd h
    core_is_typed f a calls t.null ty locals below ls under t w h g = absurd h
    core_is_typed f a calls (t.convert x y e) ty locals below ls under t w h g = absurd h

@@ -10,21 +10,21 @@ use Rattle.ang_kinds.specs.declared.types.Pass.{Pass}
 use Rattle.ang_kinds.specs.declared.types.Pass.TheVariants as pass
 use Rattle.ang_types.specs.declared.arg_type.ArgType.{ArgType}
 use Rattle.ang_types.specs.declared.arg_type.ArgType.TheVariants as type
-use Rattle.ang_typed.specs.declared.expression.Variable.{Variable}
-use Rattle.ang_typed.specs.declared.expression.Variable.TheVariants as variable
-use Rattle.ang_typed.specs.declared.expression.Member.{Member}
-use Rattle.ang_typed.specs.declared.expression.Member.TheVariants as member
-use Rattle.ang_typed.specs.declared.expression.Callee as typed
-use Rattle.ang_typed.specs.declared.expression.Callee.TheVariants as callee
+use Rattle.ang_typed.specs.declared.expression.TypedVariable.{TypedVariable}
+use Rattle.ang_typed.specs.declared.expression.TypedVariable.TheVariants as variable
+use Rattle.ang_typed.specs.declared.expression.TypedMember.{TypedMember}
+use Rattle.ang_typed.specs.declared.expression.TypedMember.TheVariants as member
+use Rattle.ang_typed.specs.declared.expression.TypedCallee as typed
+use Rattle.ang_typed.specs.declared.expression.TypedCallee.TheVariants as callee
 use Rattle.ang_typed.specs.declared.expression.Operator.{Operator}
 use Rattle.ang_typed.specs.declared.expression.Operator.TheVariants as operator
 use Rattle.ang_typed.specs.declared.expression.Comparison.{Comparison}
 use Rattle.ang_typed.specs.declared.expression.Comparison.TheVariants as comparison
 use Rattle.ang_typed.specs.declared.expression.StepKind.{StepKind}
 use Rattle.ang_typed.specs.declared.expression.StepKind.TheVariants as kind
-use Rattle.ang_typed.specs.declared.program.Class as families
+use Rattle.ang_typed.specs.declared.program.TypedClass as families
 use Rattle.ang_typed.specs.declared.program.Heading.{Heading}
-use Rattle.ang_typed.specs.declared.program.Parameter.{Parameter}
+use Rattle.ang_typed.specs.declared.program.TypedParameter.{TypedParameter}
 use Rattle.ang_typed.specs.Typed as t
 use Rattle.ang_meaning.specs.declared.class.Class.{Class}
 use Rattle.ang_meaning.specs.declared.class.ValueKind.{ValueKind}
@@ -35,8 +35,8 @@ use Rattle.ang_meaning.specs.declared.operation.Arithmetic.{Arithmetic}
 use Rattle.ang_meaning.specs.declared.operation.Arithmetic.TheVariants as work
 use Rattle.ang_meaning.specs.declared.operation.Comparison as compared
 use Rattle.ang_meaning.specs.declared.operation.Comparison.TheVariants as holds
-use Rattle.ang_meaning.specs.declared.operation.Change.{Change}
-use Rattle.ang_meaning.specs.declared.operation.Operation.TheVariants.{Work, Compare, Convert, Negate, Complement, Not, Same, GlobalGet, GlobalSet, GlobalChange, Ask, Read, Write, Alter, Make, FieldGet, FieldSet, FieldChange, Cast}
+use Rattle.ang_meaning.specs.declared.operation.Update.{Update}
+use Rattle.ang_meaning.specs.declared.operation.Operation.TheVariants.{Binary, Compare, Convert, Negate, Complement, Not, Same, GlobalGet, GlobalSet, GlobalChange, Ask, Read, Write, Alter, Make, FieldGet, FieldSet, FieldChange, Cast}
 use Rattle.ang_meaning.specs.declared.routine.Routine.{Routine}
 use Rattle.ang_meaning.specs.declared.routine.Callee.{Callee}
 use Rattle.ang_meaning.specs.declared.routine.Callee.TheVariants.{Own, Import, Virtual}
@@ -47,7 +47,7 @@ use Rattle.ang_meaning.specs.declared.routine.Spot.TheVariants as spot
 use Rattle.ang_meaning.specs.declared.routine.Target.{Target}
 use Rattle.ang_meaning.specs.Numbers.{truth, is_signed}
 use Rattle.ang_meaning.specs.World.{World, or_else, give, give_all, memory_step}
-use Rattle.ang_meaning.specs.Setting.{Setting, default_of, params_of}
+use Rattle.ang_meaning.specs.Environment.{Environment, default_of, params_of}
 use Rattle.ang_meaning.specs.Perform.{perform}
 use Rattle.ang_meaning.specs.Results.{Evaluated, Gave, Gathered, Ready, Ran, Went, Returned, Halted, Broken, Continued, Reply, Yields, Raises, Calls, local_at, on_test, ticked, loaded, applied, assigned, altered, chosen, then_rest, called, leave, with_value, then_run, caught, finished, enter}
 
@@ -75,11 +75,11 @@ test_of comparison.Greater = holds.Greater
 test_of comparison.GreaterEqual = holds.GreaterEqual
 
 -- `operator=` of a variable of type `ty`, in the type `at`: the value is what was stored
-abbrev pub compound_of : Primitive → Operator → Primitive → Change
+abbrev pub compound_of : Primitive → Operator → Primitive → Update
 compound_of ty op at = record { work = work_of op; at = at; to = ty; old = false }
 
 -- `++` and `--` in the variable's type; after the variable the value is the old one
-abbrev pub step_of : Primitive → StepKind → Change
+abbrev pub step_of : Primitive → StepKind → Update
 step_of ty kind.IncrementBefore = record { work = work.Add; at = ty; to = ty; old = false }
 step_of ty kind.DecrementBefore = record { work = work.Subtract; at = ty; to = ty; old = false }
 step_of ty kind.IncrementAfter = record { work = work.Add; at = ty; to = ty; old = true }
@@ -147,46 +147,46 @@ abbrev pub this_of : List Slot → ℕ → World → Evaluated
 this_of ls t w = loaded (local_at ls (inner ls 0)) ls t w
 
 -- In a module of a setting:
-module _ (z : Setting) (m : ℕ) where
-  abbrev pub read_variable : Variable → List Slot → ℕ → World → Evaluated
+module _ (z : Environment) (m : ℕ) where
+  abbrev pub read_variable : TypedVariable → List Slot → ℕ → World → Evaluated
   read_variable (variable.Local i) ls t w = loaded (local_at ls (inner ls i)) ls t w
   read_variable (variable.Global g) ls t w = applied (perform z m (GlobalGet g)) (Ready [] ls t w)
   read_variable (variable.Property h) ls t w = applied (perform z m (Read h.entity)) (Ready [] ls t w)
   read_variable (variable.Field i) ls t w = applied (perform z m (FieldGet i)) (one (this_of ls t w))
 
   -- A member of the object that was evaluated.
-  abbrev pub read_member : Member → Evaluated → Evaluated
+  abbrev pub read_member : TypedMember → Evaluated → Evaluated
   read_member (member.Field i) o = applied (perform z m (FieldGet i)) (one o)
   read_member (member.Property h) o = applied (perform z m (Read h.entity)) (one o)
 
   -- A value is stored, and is the expression's value.
-  abbrev pub stored : Variable → List Slot → Evaluated → Evaluated
+  abbrev pub stored : TypedVariable → List Slot → Evaluated → Evaluated
   stored (variable.Local i) ls e = assigned (inner ls i) e
   stored (variable.Global g) ls e = applied (perform z m (GlobalSet g)) (one e)
   stored (variable.Property h) ls e = applied (perform z m (Write h.entity)) (one e)
   stored (variable.Field i) ls e = applied (perform z m (FieldSet i)) (two e this_of)
 
   -- A value is stored into a member of an object, which comes after it.
-  abbrev pub member_stored : Member → Evaluated → (List Slot → ℕ → World → Evaluated) → Evaluated
+  abbrev pub member_stored : TypedMember → Evaluated → (List Slot → ℕ → World → Evaluated) → Evaluated
   member_stored (member.Field i) e object = applied (perform z m (FieldSet i)) (two e object)
   member_stored (member.Property h) e object = applied (perform z m (Write h.entity)) (two e object)
 
   -- A variable is changed by an operand.
-  abbrev pub changed_by : Variable → List Slot → Change → Evaluated → Evaluated
+  abbrev pub changed_by : TypedVariable → List Slot → Update → Evaluated → Evaluated
   changed_by (variable.Local i) ls c e = altered (inner ls i) c e
   changed_by (variable.Global g) ls c e = applied (perform z m (GlobalChange g c)) (one e)
   changed_by (variable.Property h) ls c e = applied (perform z m (Alter h.entity c)) (one e)
   changed_by (variable.Field i) ls c e = applied (perform z m (FieldChange i c)) (two e this_of)
 
   -- A member of an object, which comes after the operand, is changed by it.
-  abbrev pub member_changed : Member → Change → Evaluated → (List Slot → ℕ → World → Evaluated) → Evaluated
+  abbrev pub member_changed : TypedMember → Update → Evaluated → (List Slot → ℕ → World → Evaluated) → Evaluated
   member_changed (member.Field i) c e object = applied (perform z m (FieldChange i c)) (two e object)
   member_changed (member.Property h) c e object = applied (perform z m (Alter h.entity c)) (two e object)
 
 -- ---- the targets of a call
 
 -- where a variable stands; no host property is a target
-abbrev pub spot_of : List Slot → Variable → Spot
+abbrev pub spot_of : List Slot → TypedVariable → Spot
 spot_of ls (variable.Local i) = spot.Local (inner ls i)
 spot_of ls (variable.Global g) = spot.Global g
 spot_of ls (variable.Property h) = spot.Local 0
@@ -205,7 +205,7 @@ targets_of ls args = targets_behind ls args []
 -- ---- expressions
 
 -- what the code of a module names by a callee of its tree
-abbrev pub callee_of : typed.Callee → Callee
+abbrev pub callee_of : typed.TypedCallee → Callee
 callee_of (callee.Own f) = Own f
 callee_of (callee.Import i) = Import i
 callee_of (callee.Chosen s) = Virtual s
@@ -217,7 +217,7 @@ Callees = Callee → List Slot → ℕ → World → Reply
 -- An expression in module m. Operands are evaluated from left to right; in an assignment the value comes first. An object is made
 -- before the arguments of its constructor, which gives it back.
 abbrev mutual
-  pub evaluate : Setting → ℕ → Callees → t.Expr → List Slot → ℕ → World → Evaluated
+  pub evaluate : Environment → ℕ → Callees → t.Expr → List Slot → ℕ → World → Evaluated
   evaluate z m c (t.number ty n) ls t w = Gave (Bits n) ls t w
   evaluate z m c (t.truth b) ls t w = Gave (Bits (truth b)) ls t w
   evaluate z m c (t.read (t.named x) ty) ls t w = read_variable z m x ls t w
@@ -228,7 +228,7 @@ abbrev mutual
   evaluate z m c (t.complement ty e) ls t w = applied (perform z m (Complement ty)) (one (evaluate z m c e ls t w))
   evaluate z m c (t.not e) ls t w = applied (perform z m Not) (one (evaluate z m c e ls t w))
   evaluate z m c (t.operate op ty l r) ls t w =
-      applied (perform z m (Work (work_of op) ty)) (two (evaluate z m c l ls t w) (evaluate z m c r))
+      applied (perform z m (Binary (work_of op) ty)) (two (evaluate z m c l ls t w) (evaluate z m c r))
   evaluate z m c (t.compare op ty l r) ls t w =
       applied (perform z m (Compare (test_of op) (is_signed ty))) (two (evaluate z m c l ls t w) (evaluate z m c r))
   evaluate z m c (t.and l r) ls t w = chosen (evaluate z m c l ls t w) (evaluate z m c r) (λ ls' t' w'. Gave (Bits (truth false)) ls' t' w')
@@ -252,12 +252,12 @@ abbrev mutual
   evaluate z m c (t.host_call h ty args) ls t w = applied (perform z m (Ask h.entity)) (evaluate_all z m c args [] ls t w)
 
   -- the arguments of a call, after those that there are; an `&out` parameter begins as 0, false or null
-  pub evaluate_all : Setting → ℕ → Callees → t.Args → List Slot → List Slot → ℕ → World → Gathered
+  pub evaluate_all : Environment → ℕ → Callees → t.Args → List Slot → List Slot → ℕ → World → Gathered
   evaluate_all z m c t.none vs ls t w = Ready vs ls t w
   evaluate_all z m c (t.more a args) vs ls t w =
       then_rest vs (evaluate_argument z m c a ls t w) (λ v ls' t' w'. evaluate_all z m c args (v ∷ vs) ls' t' w')
 
-  pub evaluate_argument : Setting → ℕ → Callees → t.Arg → List Slot → ℕ → World → Evaluated
+  pub evaluate_argument : Environment → ℕ → Callees → t.Arg → List Slot → ℕ → World → Evaluated
   evaluate_argument z m c (t.by_value ty e) ls t w = evaluate z m c e ls t w
   evaluate_argument z m c (t.out x from to) ls t w = Gave (default_in from) ls t w
 
@@ -268,12 +268,12 @@ abbrev pub Passes : Type 0
 Passes = Option t.Expr → t.Stmts → List t.Expr → List Slot → ℕ → World → Ran
 
 -- what a new local begins with: its initializer's value, or 0, false or null
-abbrev pub begin_local : Setting → ℕ → Callees → ArgType → Option t.Expr → List Slot → ℕ → World → Evaluated
+abbrev pub begin_local : Environment → ℕ → Callees → ArgType → Option t.Expr → List Slot → ℕ → World → Evaluated
 begin_local z m c ty None ls t w = Gave (default_in ty) ls t w
 begin_local z m c ty (Some e) ls t w = evaluate z m c e ls t w
 
 -- a value or a condition that is written or not
-abbrev pub evaluate_or : Setting → ℕ → Callees → ℕ → Option t.Expr → List Slot → ℕ → World → Evaluated
+abbrev pub evaluate_or : Environment → ℕ → Callees → ℕ → Option t.Expr → List Slot → ℕ → World → Evaluated
 evaluate_or z m c n None ls t w = Gave (Bits n) ls t w
 evaluate_or z m c n (Some e) ls t w = evaluate z m c e ls t w
 
@@ -286,13 +286,13 @@ abbrev pub branched : Evaluated → (List Slot → ℕ → World → Ran) → (L
 branched e go other = with_value e (λ v ls t w. on_test v (Halted Null ls (give v w)) (other ls t w) (go ls t w))
 
 -- new locals, each known after its own initializer
-abbrev pub run_locals : Setting → ℕ → Callees → List t.Local → List Slot → ℕ → World → Ran
+abbrev pub run_locals : Environment → ℕ → Callees → List t.Local → List Slot → ℕ → World → Ran
 run_locals z m c [] ls t w = Went ls t w
 run_locals z m c (l ∷ rest) ls t w =
     with_value (begin_local z m c l.ty l.initializer ls t w) (λ v ls' t' w'. run_locals z m c rest (v ∷ ls') t' w')
 
 -- the steps of a `for`
-abbrev pub run_steps : Setting → ℕ → Callees → List t.Expr → List Slot → ℕ → World → Ran
+abbrev pub run_steps : Environment → ℕ → Callees → List t.Expr → List Slot → ℕ → World → Ran
 run_steps z m c [] ls t w = Went ls t w
 run_steps z m c (e ∷ es) ls t w = then_run (discarded (evaluate z m c e ls t w)) (run_steps z m c es)
 
@@ -305,7 +305,7 @@ abbrev pub tested : (List Slot → ℕ → World → Ran) → List Slot → ℕ 
 tested go ls t w = ticked t (Halted Budget ls w) (λ t'. go ls t' w)
 
 abbrev mutual
-  pub run : Setting → ℕ → Callees → Passes → t.Stmt → List Slot → ℕ → World → Ran
+  pub run : Environment → ℕ → Callees → Passes → t.Stmt → List Slot → ℕ → World → Ran
   run z m c p (t.block ss) ls t w = in_block (run_all z m c p ss) ls t w
   run z m c p (t.locals locals) ls t w = run_locals z m c locals ls t w
   run z m c p (t.expression None) ls t w = Went ls t w
@@ -320,12 +320,12 @@ abbrev mutual
   run z m c p (t.for start e steps ss) ls t w =
       in_block (λ ls' t' w'. then_run (run_all z m c p start ls' t' w') (tested (p e ss steps))) ls t w
 
-  pub run_all : Setting → ℕ → Callees → Passes → t.Stmts → List Slot → ℕ → World → Ran
+  pub run_all : Environment → ℕ → Callees → Passes → t.Stmts → List Slot → ℕ → World → Ran
   run_all z m c p t.end ls t w = Went ls t w
   run_all z m c p (t.then s ss) ls t w = then_run (run z m c p s ls t w) (run_all z m c p ss)
 
 -- one pass of a loop: where the condition is true the body, which a `continue` ends, the steps, and the next pass
-abbrev pub pass_of : Setting → ℕ → Callees → Passes → Passes
+abbrev pub pass_of : Environment → ℕ → Callees → Passes → Passes
 pass_of z m c p e ss steps ls t w =
     branched (evaluate_or z m c 1 e ls t w)
     (λ ls' t' w'. caught (length ls') (run_all z m c p ss ls' t' w')
@@ -340,7 +340,7 @@ pub data Code : Type 0 where
   of_global : ℕ → t.Expr → Code
 
 -- what a whole body does
-abbrev pub run_code : Setting → ℕ → Callees → Passes → Code → List Slot → ℕ → World → Ran
+abbrev pub run_code : Environment → ℕ → Callees → Passes → Code → List Slot → ℕ → World → Ran
 run_code z m c p (of_function ss) ls t w = in_block (run_all z m c p ss) ls t w
 run_code z m c p (of_global g e) ls t w = discarded (stored z m (variable.Global g) ls (evaluate z m c e ls t w))
 
@@ -350,26 +350,26 @@ Codes = Routine → Code
 
 -- Bodies and loops where fewer than n ticks are left; d counts the callers of the body. With no n left a run has used up its ticks before.
 abbrev mutual
-  pub body_at : Setting → Codes → ℕ → ℕ → Calls
+  pub body_at : Environment → Codes → ℕ → ℕ → Calls
   body_at z codes zero d g vs t w = Raises Budget w
   body_at z codes (suc n) d g vs t w =
       finished (params_of z g) (run_code z g.home (enter z (body_at z codes n (suc d)) d g.home) (pass_at z codes n d g.home) (codes g) vs t w)
 
-  pub pass_at : Setting → Codes → ℕ → ℕ → ℕ → Passes
+  pub pass_at : Environment → Codes → ℕ → ℕ → ℕ → Passes
   pass_at z codes zero d m e ss steps ls t w = Halted Budget ls w
   pass_at z codes (suc n) d m e ss steps ls t w =
       pass_of z m (enter z (body_at z codes n (suc d)) d m) (pass_at z codes n d m) e ss steps ls t w
 
 -- the entry of a body that wants memory for its frame
-abbrev pub begun : Setting → Codes → Routine → List Slot → ℕ → World → Reply
+abbrev pub begun : Environment → Codes → Routine → List Slot → ℕ → World → Reply
 begun z codes g vs t w = or_else (memory_step w) (λ w'. Raises Memory (give_all vs w')) (λ w'. body_at z codes (suc t) 0 g vs t w')
 
 -- A command's call of a function with a budget of ticks: its entry takes one.
-abbrev pub called_with : Setting → Codes → ℕ → Routine → List Slot → World → Reply
+abbrev pub called_with : Environment → Codes → ℕ → Routine → List Slot → World → Reply
 called_with z codes budget g vs w = ticked budget (Raises Budget (give_all vs w)) (λ t. begun z codes g vs t w)
 
 -- An initializer's run, with t ticks left: its entry takes none.
-abbrev pub initialized : Setting → Codes → ℕ → Routine → World → Reply
+abbrev pub initialized : Environment → Codes → ℕ → Routine → World → Reply
 initialized z codes t g w = begun z codes g [] t w
 
 -- what follows an initializer
@@ -378,7 +378,7 @@ then_initialized (Yields v outs t w) go = go t (give v w)
 then_initialized (Raises f w) go = Raises f w
 
 -- A build's initializers in order of declaration, on one budget: a fault ends them.
-abbrev pub initialized_all : Setting → Codes → List Routine → ℕ → World → Reply
+abbrev pub initialized_all : Environment → Codes → List Routine → ℕ → World → Reply
 initialized_all z codes [] t w = Yields (Bits 0) [] t w
 initialized_all z codes (g ∷ gs) t w = then_initialized (initialized z codes t g w) (λ t' w'. initialized_all z codes gs t' w')
 
@@ -400,11 +400,11 @@ passing_by pass.RefOut ty = Out
 passing_by pass.RefInOut ty = referred ty
 
 -- how a parameter takes its argument
-abbrev pub passing_of : Parameter → Passing
+abbrev pub passing_of : TypedParameter → Passing
 passing_of p = passing_by p.pass p.ty
 
 -- how a function's parameters take their arguments, the last one first
-abbrev pub passings_of : List Parameter → List Passing
+abbrev pub passings_of : List TypedParameter → List Passing
 passings_of ps = reverse (map (λ p. passing_of p) ps)
 
 -- the initializers of globals, counted from this number on
@@ -443,10 +443,10 @@ codes_in ps g = code_or (slice_get (codes_of (slice_index_or ps g.home nothing))
 -- ---- a module's classes, methods and imports
 
 -- a class as its objects have it: it stands under itself, too
-abbrev pub class_of : ℕ → families.Class → Class
+abbrev pub class_of : ℕ → families.TypedClass → Class
 class_of n c = record { number = n; rank = c.rank; fields = map kind_of c.fields; under = n ∷ c.above }
 
-abbrev pub class_among : List families.Class → ℕ → Option Class
+abbrev pub class_among : List families.TypedClass → ℕ → Option Class
 class_among classes n = option_map (class_of n) (slice_get classes n)
 
 -- the class of a number, in the modules by their numbers
@@ -458,7 +458,7 @@ abbrev pub own_body : ℕ → List (ℕ × ℕ) → Option ℕ
 own_body s rows = option_map (λ (r : ℕ × ℕ). r.1) (find (λ (r : ℕ × ℕ). r.0 == s) rows)
 
 -- The body that class c has in a slot: its own, or else that of its base class. The class and n above it are asked.
-abbrev pub body_by : List families.Class → ℕ → ℕ → Option families.Class → Option ℕ
+abbrev pub body_by : List families.TypedClass → ℕ → ℕ → Option families.TypedClass → Option ℕ
 body_by classes s n None = None
 body_by classes s zero (Some c) = own_body s c.chosen
 body_by classes s (suc n) (Some c) = option_or (own_body s c.chosen) (body_by classes s n (option_and_then (slice_get classes) c.base))
@@ -466,7 +466,7 @@ body_by classes s (suc n) (Some c) = option_or (own_body s c.chosen) (body_by cl
 abbrev pub routine : ℕ → ℕ → Routine
 routine m k = record { home = m; number = k }
 
-abbrev pub method_among : ℕ → List families.Class → ℕ → ℕ → Option Routine
+abbrev pub method_among : ℕ → List families.TypedClass → ℕ → ℕ → Option Routine
 method_among m classes n s = option_map (routine m) (body_by classes s (length classes) (slice_get classes n))
 
 -- The method that a class has in a slot (the manual, "Inheritance and polymorphism").

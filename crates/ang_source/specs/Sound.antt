@@ -11,14 +11,14 @@ use Rattle.ang_view.specs.declared.entry.EntryKind.{EntryKind}
 use Rattle.ang_view.specs.declared.entry.EntryKind.TheVariants.{HostType, Factory, Method, Property, Function, Global, Enumeration, EnumValue}
 use Rattle.ang_view.specs.Registration.{RegistrationList, entry_at}
 use Rattle.ang_typed.specs.declared.expression.HostEntity.{HostEntity}
-use Rattle.ang_typed.specs.declared.expression.Callee.{Callee}
-use Rattle.ang_typed.specs.declared.expression.Callee.TheVariants as callee
-use Rattle.ang_typed.specs.declared.expression.Member.{Member}
-use Rattle.ang_typed.specs.declared.expression.Member.TheVariants as member
-use Rattle.ang_typed.specs.declared.expression.Variable.{Variable}
-use Rattle.ang_typed.specs.declared.expression.Variable.TheVariants as variable
-use Rattle.ang_typed.specs.declared.program.Class.{Class}
-use Rattle.ang_typed.specs.declared.program.Parameter.{Parameter}
+use Rattle.ang_typed.specs.declared.expression.TypedCallee.{TypedCallee}
+use Rattle.ang_typed.specs.declared.expression.TypedCallee.TheVariants as callee
+use Rattle.ang_typed.specs.declared.expression.TypedMember.{TypedMember}
+use Rattle.ang_typed.specs.declared.expression.TypedMember.TheVariants as member
+use Rattle.ang_typed.specs.declared.expression.TypedVariable.{TypedVariable}
+use Rattle.ang_typed.specs.declared.expression.TypedVariable.TheVariants as variable
+use Rattle.ang_typed.specs.declared.program.TypedClass.{TypedClass}
+use Rattle.ang_typed.specs.declared.program.TypedParameter.{TypedParameter}
 use Rattle.ang_typed.specs.Typed as t
 use Rattle.ang_source.specs.Meaning.{passings_of}
 
@@ -60,9 +60,9 @@ pub record IsHostCallee (V : RegistrationList) (h : HostEntity) (count : ℕ) : 
 -- its view of the host, the parameters of its functions, of the methods by slot and of its imports, how many globals and classes it has
 pub record Module : Type 0 where
   pub view : RegistrationList
-  pub parameters : List (List Parameter)
-  pub methods : List (List Parameter)
-  pub imports : List (List Parameter)
+  pub parameters : List (List TypedParameter)
+  pub methods : List (List TypedParameter)
+  pub imports : List (List TypedParameter)
   pub globals : ℕ
   pub classes : ℕ
 
@@ -103,37 +103,37 @@ declared_by (t.then s ss) = declared_by ss + declared s
 module _ (M : Module) where
   -- ---- expressions, where n locals are alive
 
-  abbrev pub IsVariable : ℕ → Variable → Type 0
+  abbrev pub IsVariable : ℕ → TypedVariable → Type 0
   IsVariable n (variable.Local i) = i < n
   IsVariable n (variable.Global g) = g < M.globals
   IsVariable n (variable.Property h) = IsEntity M.view Global h
   IsVariable n (variable.Field i) = 0 < n
 
   -- a variable that is stored into
-  abbrev pub IsStored : ℕ → Variable → Type 0
+  abbrev pub IsStored : ℕ → TypedVariable → Type 0
   IsStored n (variable.Local i) = i < n
   IsStored n (variable.Global g) = g < M.globals
   IsStored n (variable.Property h) = IsWritable M.view Global h
   IsStored n (variable.Field i) = 0 < n
 
   -- a variable that an `&out` value moves into, which is no host property
-  abbrev pub IsTarget : ℕ → Variable → Type 0
+  abbrev pub IsTarget : ℕ → TypedVariable → Type 0
   IsTarget n (variable.Local i) = i < n
   IsTarget n (variable.Global g) = g < M.globals
   IsTarget n (variable.Property h) = ⊥
   IsTarget n (variable.Field i) = 0 < n
 
   -- a member that is read, and one that is stored into; the fields of an object are its class's
-  abbrev pub IsMember : Member → Type 0
+  abbrev pub IsMember : TypedMember → Type 0
   IsMember (member.Field i) = Unit {0}
   IsMember (member.Property h) = IsEntity M.view Property h
 
-  abbrev pub IsStoredMember : Member → Type 0
+  abbrev pub IsStoredMember : TypedMember → Type 0
   IsStoredMember (member.Field i) = Unit {0}
   IsStoredMember (member.Property h) = IsWritable M.view Property h
 
   -- the parameters of what is called, the receiver's first
-  abbrev pub parameters_of : Callee → Option (List Parameter)
+  abbrev pub parameters_of : TypedCallee → Option (List TypedParameter)
   parameters_of (callee.Own f) = slice_get M.parameters f
   parameters_of (callee.Import i) = slice_get M.imports i
   parameters_of (callee.Chosen s) = slice_get M.methods s
@@ -158,18 +158,18 @@ module _ (M : Module) where
     Sound n (t.cast c e) = (c < M.classes) × Sound n e
     Sound n (t.make c None args) = (c < M.classes) × (args ≡ t.none)
     Sound n (t.make c (Some k) args) =
-        (c < M.classes) × ((own : Parameter) × (ps : List Parameter) × (slice_get M.parameters k ≡ Some (own ∷ ps)) × (own.pass ≢ RefOut) × SoundArguments n ps args)
+        (c < M.classes) × ((own : TypedParameter) × (ps : List TypedParameter) × (slice_get M.parameters k ≡ Some (own ∷ ps)) × (own.pass ≢ RefOut) × SoundArguments n ps args)
     Sound n (t.assign (t.named x) ty e) = IsStored n x × Sound n e
     Sound n (t.assign (t.member_of o a) ty e) = IsStoredMember a × Sound n o × Sound n e
     Sound n (t.compound (t.named x) ty op operating e) = IsStored n x × Sound n e
     Sound n (t.compound (t.member_of o a) ty op operating e) = IsStoredMember a × Sound n o × Sound n e
     Sound n (t.step (t.named x) ty kind) = IsStored n x
     Sound n (t.step (t.member_of o a) ty kind) = IsStoredMember a × Sound n o
-    Sound n (t.call f result args) = (ps : List Parameter) × (parameters_of f ≡ Some ps) × SoundArguments n ps args
+    Sound n (t.call f result args) = (ps : List TypedParameter) × (parameters_of f ≡ Some ps) × SoundArguments n ps args
     Sound n (t.host_call h result args) = IsHostCallee M.view h (argument_count args) × SoundValues n args
 
     -- an argument for each parameter, a variable for each `&out`
-    pub SoundArguments : ℕ → List Parameter → t.Args → Type 0
+    pub SoundArguments : ℕ → List TypedParameter → t.Args → Type 0
     SoundArguments n [] t.none = Unit {0}
     SoundArguments n [] (t.more a args) = ⊥
     SoundArguments n (p ∷ ps) t.none = ⊥
@@ -224,10 +224,10 @@ module _ (M : Module) where
 
   -- ---- modules
 
-  abbrev pub SoundFunction : t.Function → Type 0
+  abbrev pub SoundFunction : t.TypedFunction → Type 0
   SoundFunction f = SoundStatements false (length f.parameters) f.body
 
-  abbrev pub SoundFunctions : List t.Function → Type 0
+  abbrev pub SoundFunctions : List t.TypedFunction → Type 0
   SoundFunctions [] = Unit {0}
   SoundFunctions (f ∷ fs) = SoundFunction f × SoundFunctions fs
 
@@ -238,9 +238,9 @@ module _ (M : Module) where
 
   -- the body in a slot of a class takes what the methods of the slot take
   pub record IsChosen (slot body : ℕ) : Type 0 where
-    pub heading : List Parameter
+    pub heading : List TypedParameter
     pub slot_is : slice_get M.methods slot ≡ Some heading
-    pub parameters : List Parameter
+    pub parameters : List TypedParameter
     pub body_is : slice_get M.parameters body ≡ Some parameters
     pub alike : passings_of parameters ≡ passings_of heading
 
@@ -249,12 +249,12 @@ module _ (M : Module) where
   AreChosen (r ∷ rs) = IsChosen r.0 r.1 × AreChosen rs
 
   -- all bodies that a class has are so, and its base class and the families above it are there
-  pub record SoundClass (c : Class) : Type 0 where
+  pub record SoundClass (c : TypedClass) : Type 0 where
     pub chosen : AreChosen c.chosen
     pub base : IfSome c.base (λ b. b < M.classes)
     pub above : (n : ℕ) → list_any (λ k. k == n) c.above ≡ true → n < M.classes
 
-  abbrev pub SoundClasses : List Class → Type 0
+  abbrev pub SoundClasses : List TypedClass → Type 0
   SoundClasses [] = Unit {0}
   SoundClasses (c ∷ cs) = SoundClass c × SoundClasses cs
 

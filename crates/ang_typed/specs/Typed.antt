@@ -3,15 +3,15 @@ use Rattle.std.specs.Prelude.{ℕ, Bool, List, [], ◌∷◌, Option}
 use Rattle.ang_kinds.specs.declared.primitive.Primitive.{Primitive}
 use Rattle.ang_types.specs.declared.arg_type.ArgType.{ArgType}
 use Rattle.ang_typed.specs.declared.expression.HostEntity.{HostEntity}
-use Rattle.ang_typed.specs.declared.expression.Variable.{Variable}
-use Rattle.ang_typed.specs.declared.expression.Member.{Member}
-use Rattle.ang_typed.specs.declared.expression.Callee.{Callee}
+use Rattle.ang_typed.specs.declared.expression.TypedVariable.{TypedVariable}
+use Rattle.ang_typed.specs.declared.expression.TypedMember.{TypedMember}
+use Rattle.ang_typed.specs.declared.expression.TypedCallee.{TypedCallee}
 use Rattle.ang_typed.specs.declared.expression.Operator.{Operator}
 use Rattle.ang_typed.specs.declared.expression.Comparison.{Comparison}
 use Rattle.ang_typed.specs.declared.expression.StepKind.{StepKind}
-use Rattle.ang_typed.specs.declared.program.Class.{Class}
+use Rattle.ang_typed.specs.declared.program.TypedClass.{TypedClass}
 use Rattle.ang_typed.specs.declared.program.Heading.{Heading}
-use Rattle.ang_typed.specs.declared.program.Parameter.{Parameter}
+use Rattle.ang_typed.specs.declared.program.TypedParameter.{TypedParameter}
 
 -- ---- expressions
 
@@ -36,13 +36,13 @@ mutual
     assign : Site → ArgType → Expr → Expr
     compound : Site → Primitive → Operator → Primitive → Expr → Expr
     step : Site → Primitive → StepKind → Expr
-    call : Callee → ArgType → Args → Expr
+    call : TypedCallee → ArgType → Args → Expr
     host_call : HostEntity → ArgType → Args → Expr
 
   -- what can be read and written: a variable by its bare name, or a member of an object
   pub data Site : Type 0 where
-    named : Variable → Site
-    member_of : Expr → Member → Site
+    named : TypedVariable → Site
+    member_of : Expr → TypedMember → Site
 
   -- the arguments of a call
   pub data Args : Type 0 where
@@ -51,7 +51,7 @@ mutual
 
   pub data Arg : Type 0 where
     by_value : ArgType → Expr → Arg
-    out : Variable → ArgType → ArgType → Arg
+    out : TypedVariable → ArgType → ArgType → Arg
 
 abbrev pub args : List Arg → Args
 args [] = none
@@ -87,8 +87,8 @@ stmts (s ∷ ss) = then s (stmts ss)
 
 -- ---- modules
 
-pub record Function : Type 0 where
-  pub parameters : List Parameter
+pub record TypedFunction : Type 0 where
+  pub parameters : List TypedParameter
   pub result : ArgType
   pub body : Stmts
 
@@ -99,8 +99,8 @@ pub record Global : Type 0 where
 -- Functions, with the bodies of families after them, globals, families, the headings of methods, and those of imports, each in the
 -- order of their declarations.
 pub record Program : Type 0 where
-  pub functions : List Function
+  pub functions : List TypedFunction
   pub globals : List Global
-  pub classes : List Class
+  pub classes : List TypedClass
   pub methods : List Heading
   pub imports : List Heading

@@ -16,7 +16,7 @@ pub struct HostEntity {
 
 /// What a bare name stands for, where it can be read and written.
 #[derive(Clone, Copy)]
-pub enum Variable {
+pub enum TypedVariable {
     /// A parameter or local of the function, by its number.
     Local(usize),
     /// A global variable of the module, by its number.
@@ -30,7 +30,7 @@ pub enum Variable {
 
 /// What of an object can be read and written.
 #[derive(Clone, Copy)]
-pub enum Member {
+pub enum TypedMember {
     /// A field of a script's class, by its number, those of the base class first.
     Field(usize),
     /// An object property of the host: reading and writing each ask the driver.
@@ -39,7 +39,7 @@ pub enum Member {
 
 /// Which function of the scripts is called.
 #[derive(Clone, Copy)]
-pub enum Callee {
+pub enum TypedCallee {
     /// A body of the module, by its number in `Typed::functions`: a function, a constructor, or a method that is
     /// named by its class.
     Own(usize),
@@ -52,16 +52,16 @@ pub enum Callee {
 /// What can be read and written.
 #[cycle(expression)]
 #[derive(Drop)]
-pub enum Site {
+pub enum TypedSite {
     /// A variable by its bare name.
-    Named(Variable),
+    Named(TypedVariable),
     /// A member of an object, which is evaluated once. Where the site is written it is evaluated after the value;
     /// null is the fault `Null`.
     Of {
         /// The object, or a handle to it.
-        object: Box<Expression>,
+        object: Box<TypedExpression>,
         /// Which member of it.
-        member: Member,
+        member: TypedMember,
     },
 }
 
@@ -129,7 +129,7 @@ pub enum StepKind {
 /// first.
 #[cycle(expression)]
 #[derive(Drop)]
-pub enum Expression {
+pub enum TypedExpression {
     /// A number of an integer type: one that is written, which is not negative, or an enumeration's value, which is
     /// an `int`.
     Number {
@@ -143,7 +143,7 @@ pub enum Expression {
     /// The value of what stands at a site of type `ty`.
     Read {
         /// Where it stands.
-        site: Site,
+        site: TypedSite,
         /// The site's type.
         ty: ArgType,
     },
@@ -156,26 +156,26 @@ pub enum Expression {
         /// The type of the result, an integer type.
         to: Prim,
         /// The value that is converted.
-        operand: Box<Expression>,
+        operand: Box<TypedExpression>,
     },
     /// `-` of an integer of type `ty`, which wraps. The result has that type.
     Negate {
         /// The type of the operand and of the result, an integer type.
         ty: Prim,
         /// The value that is negated.
-        operand: Box<Expression>,
+        operand: Box<TypedExpression>,
     },
     /// `~` of an integer of type `ty`: each bit turned. The result has that type.
     Complement {
         /// The type of the operand and of the result, an integer type.
         ty: Prim,
         /// The value whose bits are turned.
-        operand: Box<Expression>,
+        operand: Box<TypedExpression>,
     },
     /// `!` of a `bool`: the other truth value.
     Not {
         /// The truth value that is denied.
-        operand: Box<Expression>,
+        operand: Box<TypedExpression>,
     },
     /// An operator on two integers. Both operands and the result are of type `ty`.
     Operate {
@@ -184,9 +184,9 @@ pub enum Expression {
         /// The integer type in which the operator works.
         ty: Prim,
         /// The first operand. Of a shift it is what is shifted.
-        left: Box<Expression>,
+        left: Box<TypedExpression>,
         /// The second operand. Of a shift it is the count.
-        right: Box<Expression>,
+        right: Box<TypedExpression>,
     },
     /// A comparison. Both operands are of type `ty`; the result is `bool`. `bool` itself is compared by `Equal` and
     /// `NotEqual` alone.
@@ -196,39 +196,39 @@ pub enum Expression {
         /// The type of both operands: an integer type or `bool`.
         ty: Prim,
         /// The first operand.
-        left: Box<Expression>,
+        left: Box<TypedExpression>,
         /// The second operand.
-        right: Box<Expression>,
+        right: Box<TypedExpression>,
     },
     /// `&&`: the right operand is evaluated only where the left one is true.
     And {
         /// The first truth value, which is always evaluated.
-        left: Box<Expression>,
+        left: Box<TypedExpression>,
         /// The second truth value, which is that of the whole where the first is true.
-        right: Box<Expression>,
+        right: Box<TypedExpression>,
     },
     /// `||`: the right operand is evaluated only where the left one is false.
     Or {
         /// The first truth value, which is always evaluated.
-        left: Box<Expression>,
+        left: Box<TypedExpression>,
         /// The second truth value, which is that of the whole where the first is false.
-        right: Box<Expression>,
+        right: Box<TypedExpression>,
     },
     /// `condition ? then : otherwise`: one of the two is evaluated, and both are of one type.
     Choose {
         /// The truth value that decides.
-        condition: Box<Expression>,
+        condition: Box<TypedExpression>,
         /// The value where the condition is true.
-        then: Box<Expression>,
+        then: Box<TypedExpression>,
         /// The value where the condition is false.
-        otherwise: Box<Expression>,
+        otherwise: Box<TypedExpression>,
     },
     /// `left is right`: whether both are one object, or both null. `!is` is `Not` of it.
     Same {
         /// The first object or handle.
-        left: Box<Expression>,
+        left: Box<TypedExpression>,
         /// The second one.
-        right: Box<Expression>,
+        right: Box<TypedExpression>,
     },
     /// `cast<T>(operand)` between types of scripts: the handle, or null where its object is not of the family and not
     /// under it. A cast of a host type to itself changes nothing, and is its operand.
@@ -236,7 +236,7 @@ pub enum Expression {
         /// The number of the family that is asked for.
         family: usize,
         /// The handle.
-        operand: Box<Expression>,
+        operand: Box<TypedExpression>,
     },
     /// A new object of a script's class. Its fields are 0, false and null; then the constructor runs on it, where one
     /// does, with the arguments, which are evaluated after the making. Without a constructor there are none.
@@ -247,24 +247,24 @@ pub enum Expression {
         /// parameters where the class has none.
         constructor: Option<usize>,
         /// The arguments, in the order of the parameters after `this`.
-        arguments: Vec<Argument>,
+        arguments: Vec<TypedArgument>,
     },
     /// `site = value`, or `@site = value` of handles, both of type `ty`. The value comes first, then the site. The value
     /// of the whole is what was stored.
     Assign {
         /// What is written.
-        site: Site,
+        site: TypedSite,
         /// The type of the site and of the value.
         ty: ArgType,
         /// What is stored.
-        value: Box<Expression>,
+        value: Box<TypedExpression>,
     },
     /// `site operator= value`. The value is evaluated, of type `operating`; then the site, of type `ty`, is found
     /// once, read and converted to `operating`; the operator works there, what was read on the left; its result
     /// is converted back to `ty` and stored, and is the value of the whole.
     Compound {
         /// What is read and then written.
-        site: Site,
+        site: TypedSite,
         /// The site's type, an integer type.
         ty: Prim,
         /// What is done with what stands there and `value`.
@@ -272,12 +272,12 @@ pub enum Expression {
         /// The integer type in which the operator works.
         operating: Prim,
         /// The operand on the right, of type `operating`.
-        value: Box<Expression>,
+        value: Box<TypedExpression>,
     },
     /// `++` or `--` of what stands at a site of the integer type `ty`, in that type, where it wraps.
     Step {
         /// What is changed by one.
-        site: Site,
+        site: TypedSite,
         /// The site's type, an integer type.
         ty: Prim,
         /// Whether it is one more or one less, and which value is given.
@@ -287,11 +287,11 @@ pub enum Expression {
     /// the object of a constructor that `super` calls, are the first one.
     Call {
         /// What is called.
-        callee: Callee,
+        callee: TypedCallee,
         /// The type of what the function returns.
         result: ArgType,
         /// The arguments, in the order of the parameters.
-        arguments: Vec<Argument>,
+        arguments: Vec<TypedArgument>,
     },
     /// A call of a function, a factory or a method of the host. Its arguments are values, of the types of its
     /// parameters; a method's receiver is the first one.
@@ -301,27 +301,27 @@ pub enum Expression {
         /// The type of what the host function returns.
         result: ArgType,
         /// The arguments, in the order of the parameters.
-        arguments: Vec<Argument>,
+        arguments: Vec<TypedArgument>,
     },
 }
 
 /// An argument of a call.
 #[cycle(expression)]
 #[derive(Drop)]
-pub enum Argument {
+pub enum TypedArgument {
     /// A value of the parameter's type `ty`, by value or by `&in`.
     Value {
         /// The parameter's type.
         ty: ArgType,
         /// What the parameter begins with.
-        value: Expression,
+        value: TypedExpression,
     },
     /// A variable for an `&out` parameter. When the call has returned, the parameter's value, of type `from`,
     /// is converted to the variable's type `to` and stored; all `&out` values of one call are one store, from
     /// left to right. The variable is no host property.
     Out {
         /// Which variable takes the parameter's value.
-        variable: Variable,
+        variable: TypedVariable,
         /// The parameter's type.
         from: ArgType,
         /// The variable's type.

@@ -17,8 +17,8 @@ mod program;
 mod statement;
 
 pub use expression::{
-    Argument, Callee, Comparison, Expression, HostEntity, Member, Operator, Site, StepKind,
-    Variable,
+    TypedArgument, TypedCallee, Comparison, TypedExpression, HostEntity, TypedMember, Operator, TypedSite, StepKind,
+    TypedVariable,
 };
-pub use program::{Class, Function, Global, Heading, Parameter, Typed};
-pub use statement::{Block, Choice, For, Local, Loop, Statement};
+pub use program::{TypedClass, TypedFunction, Global, Heading, TypedParameter, Typed};
+pub use statement::{TypedBlock, TypedChoice, TypedFor, Local, TypedLoop, TypedStatement};

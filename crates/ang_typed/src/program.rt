@@ -1,7 +1,7 @@
 //! A module with its meaning settled.
 
-use crate::expression::Expression;
-use crate::statement::Block;
+use crate::expression::TypedExpression;
+use crate::statement::TypedBlock;
 use ang_kinds::{List, Pass};
 use ang_types::ArgType;
 
@@ -10,11 +10,11 @@ use ang_types::ArgType;
 pub struct Typed {
     /// The functions, in the order of their declarations; after them the bodies of the families, in the order of
     /// families and their members, each with `this` as its first parameter.
-    pub functions: List<Function>,
+    pub functions: List<TypedFunction>,
     /// The global variables, in the order of their declarations, which is that of their initializers.
     pub globals: List<Global>,
     /// The classes and interfaces, by their numbers, in the order of their declarations.
-    pub classes: List<Class>,
+    pub classes: List<TypedClass>,
     /// The methods of classes and interfaces, in the order of families and their members. A slot is the number of the
     /// first method of its name, parameters and `const`.
     pub methods: List<Heading>,
@@ -24,7 +24,7 @@ pub struct Typed {
 
 /// What is known of a class or an interface where its objects are made and its methods are chosen.
 #[derive(Drop)]
-pub struct Class {
+pub struct TypedClass {
     /// The types of its fields, those of the base class first, in the order of declaration. An interface has none.
     pub fields: List<ArgType>,
     /// The number of its base class.
@@ -42,25 +42,25 @@ pub struct Class {
 #[derive(Drop)]
 pub struct Heading {
     /// The parameters, in the order in which they are written; a method's receiver is the first one.
-    pub parameters: List<Parameter>,
+    pub parameters: List<TypedParameter>,
     /// The type of what is returned.
     pub result: ArgType,
 }
 
 /// A function of the module.
 #[derive(Drop)]
-pub struct Function {
+pub struct TypedFunction {
     /// The parameters, in the order in which they are written. Their numbers as locals are 0 and up.
-    pub parameters: List<Parameter>,
+    pub parameters: List<TypedParameter>,
     /// The type of what it returns.
     pub result: ArgType,
     /// Its statements. A path through them that does not return ends only a `void` function.
-    pub body: Block,
+    pub body: TypedBlock,
 }
 
 /// A parameter.
 #[derive(Clone, Copy)]
-pub struct Parameter {
+pub struct TypedParameter {
     /// The type of the values that it holds.
     pub ty: ArgType,
     /// How it is passed. A parameter by `&out` begins as 0, `false` or null; the others begin with their argument. One of
@@ -74,5 +74,5 @@ pub struct Global {
     /// The type of the values that it holds.
     pub ty: ArgType,
     /// What it begins with, a value of that type. Without one it stays 0, `false` or null.
-    pub initializer: Option<Box<Expression>>,
+    pub initializer: Option<Box<TypedExpression>>,
 }

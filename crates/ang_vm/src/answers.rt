@@ -3,7 +3,7 @@ ghost use Rattle.std.specs.Prelude.{◌≡◌};
 ghost use Rattle.ang_code.specs.Values as spec;
 
 use ang_kinds::{Fault, Prim, Value};
-use ang_meaning::{HostType, Slot};
+use ang_meaning::{HostValueType, Slot};
 use ang_vm_numbers::value_from;
 
 /// The driver of values that are no driver's. For a primitive type a driver's number plays no part.
@@ -14,7 +14,7 @@ fn value_in(ty: Option<Prim>, slot: Slot) -> Option<Value>
     ensures exact { result ≡ spec.value_in ty slot }
 {
     match ty {
-        Some(ty) => Some(value_from(NO_DRIVER, HostType::Plain(ty), slot)),
+        Some(ty) => Some(value_from(NO_DRIVER, HostValueType::Plain(ty), slot)),
         None => None,
     }
 }

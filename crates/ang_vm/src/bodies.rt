@@ -4,7 +4,7 @@ ghost use Rattle.ang_code.specs.declared.instruction.Frame.{Frame};
 ghost use Rattle.ang_code.specs.declared.instruction.Instruction.TheVariants.{Return};
 ghost use Rattle.ang_meaning.specs.declared.routine.Routine.{Routine};
 ghost use Rattle.ang_meaning.specs.World.{World};
-ghost use Rattle.ang_meaning.specs.Setting.{Setting, params_of};
+ghost use Rattle.ang_meaning.specs.Environment.{Environment, params_of};
 ghost use Rattle.ang_meaning.specs.Counting.{CanGive};
 ghost use Rattle.ang_code.specs.Machine.{Texts, Over, act, back, fault as faulted};
 ghost use Rattle.ang_heap.specs.Stores.{world_of, IsReady, StoreTold, HasMoved};
@@ -25,14 +25,14 @@ use ang_heap::Store;
 use ang_host::Driver;
 use ang_kinds::Fault;
 use ang_meaning::{Routine, Slot};
-use ang_vm_stack::body::Body;
-use ang_vm_stack::place::{Ending, Place, Standing};
-use ang_vm_stack::stop::Stop;
+use ang_vm_stack::body::LoadedBody;
+use ang_vm_stack::place::{RunResult, Cursor, Activation};
+use ang_vm_stack::stop::Trap;
 use ang_vm_stack::table::{Table, body_at};
 use ang_vm_steps::many::give_all_in_use;
 
 /// The run faults: all values in use are given up, the top one first.
-pub fn fail(stack: &Vec<Slot>, store: &mut Store, top: usize, fault: Fault) -> Ending
+pub fn fail(stack: &Vec<Slot>, store: &mut Store, top: usize, fault: Fault) -> RunResult
     requires within { top ≤ length stack.now.items }
     requires ready { IsReady ⟦<dyn Driver as Driver>⟧ store.old }
     requires held { CanGive (values stack.now.items top)
@@ -42,11 +42,11 @@ pub fn fail(stack: &Vec<Slot>, store: &mut Store, top: usize, fault: Fault) -> E
     ensures moves { HasMoved ⟦<dyn Driver as Driver>⟧ store.old store.new }
 {
     give_all_in_use(stack.as_slice(), store, top);
-    Ending::Stops(fault)
+    RunResult::Stops(fault)
 }
 
 /// The end of a run whose next body does not begin, while `top` values are in use.
-pub fn give_up(stack: &Vec<Slot>, store: &mut Store, top: usize, stop: Stop) -> Ending
+pub fn give_up(stack: &Vec<Slot>, store: &mut Store, top: usize, stop: Trap) -> RunResult
     requires within { top ≤ length stack.now.items }
     requires ready { IsReady ⟦<dyn Driver as Driver>⟧ store.old }
     requires held { CanGive (values stack.now.items top)
@@ -57,8 +57,8 @@ pub fn give_up(stack: &Vec<Slot>, store: &mut Store, top: usize, stop: Stop) -> 
     ensures moves { HasMoved ⟦<dyn Driver as Driver>⟧ store.old store.new }
 {
     match stop {
-        Stop::Fails(fault) => fail(stack, store, top, fault),
-        Stop::Lost => Ending::Lost,
+        Trap::Fails(fault) => fail(stack, store, top, fault),
+        Trap::Stuck => RunResult::Stuck,
     }
 }
 
@@ -66,11 +66,11 @@ pub fn give_up(stack: &Vec<Slot>, store: &mut Store, top: usize, stop: Stop) -> 
 #[inline(always)]
 fn run_within(
     table: &Table,
-    code: &Body,
+    code: &LoadedBody,
     stack: &mut Vec<Slot>,
     store: &mut Store,
-    from: Standing,
-) -> (Place, Crossing)
+    from: Activation,
+) -> (Cursor, Crossing)
     requires there { body_of table.now from.body ≡ Some code.now }
     requires in_room { from.place.top ≤ from.room }
     requires within { from.room ≤ length stack.old.items }
@@ -96,7 +96,7 @@ fn run_within(
 /// The running body is left, over the whole stack.
 #[inline(always)]
 fn leave_within(
-    code: &Body,
+    code: &LoadedBody,
     stack: &mut Vec<Slot>,
     store: &mut Store,
     top: usize,
@@ -105,7 +105,7 @@ fn leave_within(
     requires within { top ≤ length stack.old.items }
     requires ready { IsReady ⟦<dyn Driver as Driver>⟧ store.old }
     requires counted { AreCounted ⟦<dyn Driver as Driver>⟧ stack.old.items top store.old }
-    ensures told { (z : Setting) (texts : Texts) (f : Routine) (at room : ℕ) (frames : List Frame)
+    ensures told { (z : Environment) (texts : Texts) (f : Routine) (at room : ℕ) (frames : List Frame)
         (ticks : ℕ) → code.now.params.items ≡ params_of z f
         → StoreTold ⟦<dyn Driver as Driver>⟧ (act z texts (Some (Return count)) f at room
         (values stack.old.items top) frames ticks) store.old
@@ -126,7 +126,7 @@ fn resume_within(
     caller: Frame,
     parted: Parted,
     ticks: u64,
-) -> Option<Standing>
+) -> Option<Activation>
     requires below { parted.kept < length stack.old.items }
     ensures told { (frames : List Frame) (w : World)
         → back (caller ∷ frames) parted.value [] (values stack.old.items parted.kept) ticks w
@@ -138,7 +138,7 @@ fn resume_within(
 }
 
 /// The end of a run whose last body was left: what it holds besides its value is given up.
-fn finish(stack: &Vec<Slot>, store: &mut Store, parted: Parted, ticks: u64) -> Ending
+fn finish(stack: &Vec<Slot>, store: &mut Store, parted: Parted, ticks: u64) -> RunResult
     requires within { parted.kept ≤ length stack.now.items }
     requires ready { IsReady ⟦<dyn Driver as Driver>⟧ store.old }
     requires held { CanGive (values stack.now.items parted.kept)
@@ -149,7 +149,7 @@ fn finish(stack: &Vec<Slot>, store: &mut Store, parted: Parted, ticks: u64) -> E
     ensures moves { HasMoved ⟦<dyn Driver as Driver>⟧ store.old store.new }
 {
     give_all_in_use(stack.as_slice(), store, parted.kept);
-    Ending::Gives(parted.value, ticks)
+    RunResult::Gives(parted.value, ticks)
 }
 
 /// Goes on until the run is over; `nesting` functions may stand one inside the other.
@@ -161,8 +161,8 @@ pub fn run_from(
     stack: &mut Vec<Slot>,
     frames: &mut Vec<Frame>,
     store: &mut Store,
-    from: Standing,
-) -> Ending
+    from: Activation,
+) -> RunResult
     requires fits { Fits from stack.old.items frames.old.items }
     requires may_run { MayRun ⟦<dyn Driver as Driver>⟧ table.now
         (values stack.old.items from.place.top) store.old }
@@ -172,18 +172,18 @@ pub fn run_from(
     ensures moves { RunMoves ⟦<dyn Driver as Driver>⟧ table.now store.old store.new }
 {
     let Routine { home, number } = from.body;
-    let mut here = Standing {
+    let mut here = Activation {
         body: Routine { home, number },
         ..from
     };
     let Some(mut code) = body_at(table, from.body) else {
-        return Ending::Lost;
+        return RunResult::Stuck;
     };
     loop {
         let (place, crossing) = run_within(table, code, stack, store, here);
         match crossing {
             Crossing::Enters(callee) => {
-                let left = Standing { place, ..here };
+                let left = Activation { place, ..here };
                 let (next, its) = match enter(table, nesting, stack, frames, store, left, callee) {
                     Ok(both) => both,
                     Err(stop) => return give_up(stack, store, place.top, stop),
@@ -193,22 +193,22 @@ pub fn run_from(
             }
             Crossing::Returns(count) => {
                 let Some(parted) = leave_within(code, stack, store, place.top, count) else {
-                    return Ending::Lost;
+                    return RunResult::Stuck;
                 };
                 let Some(caller) = frames.pop() else {
                     return finish(stack, store, parted, place.ticks);
                 };
                 let Some(next) = resume_within(stack, caller, parted, place.ticks) else {
-                    return Ending::Lost;
+                    return RunResult::Stuck;
                 };
                 let Some(its) = body_at(table, next.body) else {
-                    return Ending::Lost;
+                    return RunResult::Stuck;
                 };
                 here = next;
                 code = its;
             }
             Crossing::Faults(fault) => return fail(stack, store, place.top, fault),
-            Crossing::Lost => return Ending::Lost,
+            Crossing::Stuck => return RunResult::Stuck,
         }
     }
 }

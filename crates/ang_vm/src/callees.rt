@@ -1,7 +1,7 @@
 //! The function that a call enters.
 ghost use Rattle.std.specs.Prelude.{◌≡◌, ℕ, ◌≤◌, List, length};
 ghost use Rattle.ang_meaning.specs.World.{Input, with_inputs};
-ghost use Rattle.ang_meaning.specs.Setting.{target, bound as bound_to, params_in, receiver_in, virtual_of};
+ghost use Rattle.ang_meaning.specs.Environment.{target, bound as bound_to, params_in, receiver_in, virtual_of};
 ghost use Rattle.ang_heap.specs.Stores.{world_of};
 ghost use Rattle.ang_vm_stack.specs.Stacks.{values};
 ghost use Rattle.ang_vm_stack.specs.Arms.{found};

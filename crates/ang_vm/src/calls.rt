@@ -1,7 +1,7 @@
 //! Calls: what stands before a body, and room for its frame.
 ghost use Rattle.std.specs.Prelude.{◌≡◌, ℕ, ◌+◌, ◌<◌, ◌≤◌, ◌^◌, List, length, reverse, Some, None, Err, IfOk, IfSome};
 ghost use Rattle.ang_meaning.specs.World.{World, with_inputs};
-ghost use Rattle.ang_meaning.specs.Setting.{has_objects, target};
+ghost use Rattle.ang_meaning.specs.Environment.{has_objects, target};
 ghost use Rattle.ang_meaning.specs.Told.{Told};
 ghost use Rattle.ang_code.specs.declared.instruction.Frame.{Frame};
 ghost use Rattle.ang_code.specs.Machine.{Texts, begins, enters, found_enters};
@@ -23,10 +23,10 @@ use ang_host::Driver;
 use ang_kinds::Fault;
 use ang_meaning::{Callee, Passing, Routine, Slot};
 use ang_vm_ask::handles::is_null;
-use ang_vm_stack::body::Body;
-use ang_vm_stack::place::{Place, Standing};
+use ang_vm_stack::body::LoadedBody;
+use ang_vm_stack::place::{Cursor, Activation};
 use ang_vm_stack::stack::peek;
-use ang_vm_stack::stop::Stop;
+use ang_vm_stack::stop::Trap;
 use ang_vm_stack::table::{Table, body_at};
 
 /// Whether a parameter misses its object.
@@ -124,7 +124,7 @@ fn begin_above(
     stack: &mut Vec<Slot>,
     top: usize,
     ticks: u64,
-) -> Result<Standing, Stop>
+) -> Result<Activation, Trap>
     requires within { top ≤ length stack.old.items }
     ensures told { (code : Texts) (frames : List Frame) (w : World) → height ≡ code.height body
         → Told (λ is. begins code body (values stack.old.items top) frames ticks (with_inputs is w))
@@ -136,12 +136,12 @@ fn begin_above(
     ensures grows { length stack.old.items ≤ length stack.new.items }
 {
     match reserve(stack, top, height) {
-        Some(room) => Ok(Standing {
+        Some(room) => Ok(Activation {
             body,
             room,
-            place: Place { at: 0, top, ticks },
+            place: Cursor { at: 0, top, ticks },
         }),
-        None => Err(Stop::Fails(Fault::Memory)),
+        None => Err(Trap::Fails(Fault::Memory)),
     }
 }
 
@@ -155,7 +155,7 @@ pub fn begin(
     stack: &mut Vec<Slot>,
     top: usize,
     ticks: u64,
-) -> Result<Standing, Stop>
+) -> Result<Activation, Trap>
     requires within { top ≤ length stack.old.items }
     ensures told { (frames : List Frame) (w : World)
         → Told (λ is. begins (texts_of table.now) body (values stack.old.items top) frames ticks
@@ -179,10 +179,10 @@ pub fn enter_body(
     nesting: usize,
     stack: &mut Vec<Slot>,
     frames: &mut Vec<Frame>,
-    from: Standing,
+    from: Activation,
     body: Routine,
-    code: &Body,
-) -> Result<Standing, Stop>
+    code: &LoadedBody,
+) -> Result<Activation, Trap>
     requires fits { Fits from stack.old.items frames.old.items }
     requires inside { from.place.at + 1 < 2 ^ 64 }
     requires known { body_of table.now body ≡ Some code.now }
@@ -201,7 +201,7 @@ pub fn enter_body(
     let params = code.params();
     let height = code.height();
     if params.len() > top {
-        return Err(Stop::Lost);
+        return Err(Trap::Stuck);
     }
     if !objects_there(
         code.wants_objects(),
@@ -210,13 +210,13 @@ pub fn enter_body(
         stack.as_slice(),
         top,
     ) {
-        return Err(Stop::Fails(Fault::Null));
+        return Err(Trap::Fails(Fault::Null));
     }
     if frames.len() + 1 >= nesting {
-        return Err(Stop::Fails(Fault::Depth));
+        return Err(Trap::Fails(Fault::Depth));
     }
     if from.place.ticks == 0 {
-        return Err(Stop::Fails(Fault::Budget));
+        return Err(Trap::Fails(Fault::Budget));
     }
     let caller = Frame {
         of: from.body,
@@ -225,13 +225,13 @@ pub fn enter_body(
     };
     match frames.push(caller) {
         Ok(()) => begin_above(body, height, stack, top, from.place.ticks - 1),
-        Err(_) => Err(Stop::Fails(Fault::Memory)),
+        Err(_) => Err(Trap::Fails(Fault::Memory)),
     }
 }
 
 /// A function that there is not is entered: why that leads nowhere. It stays apart, so that entering a body stays small.
 #[inline(never)]
-fn enter_nothing(nesting: usize, frames: &Vec<Frame>, place: Place) -> Stop
+fn enter_nothing(nesting: usize, frames: &Vec<Frame>, place: Cursor) -> Trap
     ensures reaches { (table : Table) (body : Routine) (stack : List Slot) (top : ℕ) (caller : Frame)
         (w : World) → body_of table body ≡ None → top ≤ length stack
         → Reaches (setting_of table nesting) (texts_of table)
@@ -240,12 +240,12 @@ fn enter_nothing(nesting: usize, frames: &Vec<Frame>, place: Place) -> Stop
         (λ is. begun (Err result) top stack (reverse frames.now.items) (with_inputs is w)) }
 {
     if nesting <= frames.len() + 1 {
-        return Stop::Fails(Fault::Depth);
+        return Trap::Fails(Fault::Depth);
     }
     if place.ticks == 0 {
-        return Stop::Fails(Fault::Budget);
+        return Trap::Fails(Fault::Budget);
     }
-    Stop::Lost
+    Trap::Stuck
 }
 
 /// `Enter`: the function that a call names is entered. With where it stands comes its code.
@@ -259,9 +259,9 @@ pub fn enter<'t>(
     stack: &mut Vec<Slot>,
     frames: &mut Vec<Frame>,
     store: &Store,
-    from: Standing,
+    from: Activation,
     callee: Callee,
-) -> Result<(Standing, &'t Body), Stop>
+) -> Result<(Activation, &'t LoadedBody), Trap>
     requires fits { Fits from stack.old.items frames.old.items }
     requires inside { from.place.at + 1 < 2 ^ 64 }
     ensures reaches { Reaches (setting_of table.now nesting) (texts_of table.now)
@@ -289,6 +289,6 @@ pub fn enter<'t>(
                 Err(stop) => Err(stop),
             }
         }
-        Err(fault) => Err(Stop::Fails(fault)),
+        Err(fault) => Err(Trap::Fails(fault)),
     }
 }

@@ -4,7 +4,7 @@ ghost use Rattle.ang_vm.specs.Crossings.{pause_of};
 
 use ang_kinds::Fault;
 use ang_meaning::Callee;
-use ang_vm_stack::place::{Pause, Place};
+use ang_vm_stack::place::{Pause, Cursor};
 
 /// Why a body goes no further at a place.
 #[derive(Clone, Copy)]
@@ -16,18 +16,18 @@ pub enum Crossing {
     /// The script faults, while all values in use at the place are still held.
     Faults(Fault),
     /// An instruction finds less than it takes, or no room. Code that was generated never does that.
-    Lost,
+    Stuck,
 }
 
 /// A pause as a place and a crossing, where `here` is the place of the step that came to it.
 #[inline(always)]
-pub fn told(here: Place, pause: Pause) -> (Place, Crossing)
+pub fn told(here: Cursor, pause: Pause) -> (Cursor, Crossing)
     ensures exact { pause_of result.1 result.0 ≡ pause }
 {
     match pause {
         Pause::Enters(place, callee) => (place, Crossing::Enters(callee)),
         Pause::Returns(place, count) => (place, Crossing::Returns(count)),
-        Pause::Faults(top, fault) => (Place { top, ..here }, Crossing::Faults(fault)),
-        Pause::Lost => (here, Crossing::Lost),
+        Pause::Faults(top, fault) => (Cursor { top, ..here }, Crossing::Faults(fault)),
+        Pause::Stuck => (here, Crossing::Stuck),
     }
 }

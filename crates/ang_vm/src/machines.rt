@@ -4,7 +4,7 @@ ghost use Rattle.ang_kinds.specs.declared.fault.Fault.TheVariants.{Budget as Bud
 ghost use Rattle.ang_host.specs.Boxes.{members};
 ghost use Rattle.ang_meaning.specs.World.{with_inputs};
 ghost use Rattle.ang_meaning.specs.declared.routine.Routine.{Routine};
-ghost use Rattle.ang_meaning.specs.Setting.{Setting};
+ghost use Rattle.ang_meaning.specs.Environment.{Environment};
 ghost use Rattle.ang_meaning.specs.Counting.{IsCounted, CanGive};
 ghost use Rattle.ang_code.specs.Machine.{Texts, call_begins};
 ghost use Rattle.ang_heap.specs.Stores.{world_of, IsReady, HasMoved};
@@ -24,7 +24,7 @@ use ang_heap::{Store, give};
 use ang_host::{Driver, HostEvent};
 use ang_kinds::{Fault, Value};
 use ang_meaning::{Routine, Slot};
-use ang_vm_stack::place::Ending;
+use ang_vm_stack::place::RunResult;
 use ang_vm_stack::table::Table;
 use ang_vm_steps::many::give_all_in_use;
 use std::alloc::Global;
@@ -61,10 +61,10 @@ fn no_room(budget: u64) -> Fault
 }
 
 /// A call ends for whose arguments there is no memory: they are given up.
-fn refuse(store: &mut Store, args: &[Slot], budget: u64) -> Ending
+fn refuse(store: &mut Store, args: &[Slot], budget: u64) -> RunResult
     requires ready { IsReady ⟦<dyn Driver as Driver>⟧ store.old }
     requires held { CanGive (reverse args.now) (world_of ⟦<dyn Driver as Driver>⟧ store.old) }
-    ensures ends { (z : Setting) (code : Texts) (entry : Routine)
+    ensures ends { (z : Environment) (code : Texts) (entry : Routine)
         → Ends z code (λ is. call_begins z code budget entry (reverse args.now)
         (with_inputs is (world_of ⟦<dyn Driver as Driver>⟧ store.old))) result
         (world_of ⟦<dyn Driver as Driver>⟧ store.new) }
@@ -72,7 +72,7 @@ fn refuse(store: &mut Store, args: &[Slot], budget: u64) -> Ending
 {
     let count = args.len();
     give_all_in_use(args, store, count);
-    Ending::Stops(no_room(budget))
+    RunResult::Stops(no_room(budget))
 }
 
 /// A call of a function, from its beginning to its end.
@@ -83,7 +83,7 @@ fn run_call(
     entry: Routine,
     args: &[Slot],
     budget: u64,
-) -> Ending
+) -> RunResult
     requires may_run { MayRun ⟦<dyn Driver as Driver>⟧ table.now (reverse args.now) store.old }
     ensures ends { Ends (setting_of table.now 200) (texts_of table.now)
         (call_in ⟦<dyn Driver as Driver>⟧ table.now budget entry (reverse args.now) store.old)
@@ -101,7 +101,7 @@ fn run_call(
 }
 
 /// An initializer, from its beginning to its end.
-fn initialize(alloc: Global, table: &Table, store: &mut Store, entry: Routine, ticks: u64) -> Ending
+fn initialize(alloc: Global, table: &Table, store: &mut Store, entry: Routine, ticks: u64) -> RunResult
     requires may_run { MayRun ⟦<dyn Driver as Driver>⟧ table.now [] store.old }
     ensures ends { Ends (setting_of table.now 201) (texts_of table.now)
         (initializer_in ⟦<dyn Driver as Driver>⟧ table.now ticks entry store.old) result
@@ -127,7 +127,7 @@ fn initialize(alloc: Global, table: &Table, store: &mut Store, entry: Routine, t
 ///
 /// # Errors
 /// The fault of the run. Lost code is `Null`.
-fn settle(store: &mut Store, ending: Ending) -> Result<(Slot, u64), Fault>
+fn settle(store: &mut Store, ending: RunResult) -> Result<(Slot, u64), Fault>
     requires ready { IsReady ⟦<dyn Driver as Driver>⟧ store.old }
     requires held { HeldAt ending (world_of ⟦<dyn Driver as Driver>⟧ store.old) }
     ensures settled { IsSettled ending result (world_of ⟦<dyn Driver as Driver>⟧ store.old)
@@ -135,12 +135,12 @@ fn settle(store: &mut Store, ending: Ending) -> Result<(Slot, u64), Fault>
     ensures moves { HasMoved ⟦<dyn Driver as Driver>⟧ store.old store.new }
 {
     match ending {
-        Ending::Gives(value, ticks) => {
+        RunResult::Gives(value, ticks) => {
             give(store, value);
             Ok((value, ticks))
         }
-        Ending::Stops(fault) => Err(fault),
-        Ending::Lost => Err(Fault::Null),
+        RunResult::Stops(fault) => Err(fault),
+        RunResult::Stuck => Err(Fault::Null),
     }
 }
 

@@ -3,7 +3,7 @@ ghost use Rattle.std.specs.Prelude.{◌≡◌, ℕ, ◌+◌, ◌-◌, ◌<◌, �
 ghost use Rattle.ang_meaning.specs.declared.slot.Slot.{Slot};
 ghost use Rattle.ang_meaning.specs.declared.routine.Routine.{Routine};
 ghost use Rattle.ang_meaning.specs.World.{World};
-ghost use Rattle.ang_meaning.specs.Setting.{Setting, params_of};
+ghost use Rattle.ang_meaning.specs.Environment.{Environment, params_of};
 ghost use Rattle.ang_meaning.specs.Counting.{CanGive};
 ghost use Rattle.ang_meaning.specs.Results.{give_others as others_given, outs_of};
 ghost use Rattle.ang_code.specs.declared.instruction.Instruction.TheVariants.{Return};
@@ -18,8 +18,8 @@ use ang_code::Frame;
 use ang_heap::{Store, give};
 use ang_host::Driver;
 use ang_meaning::{Passing, Routine, Slot};
-use ang_vm_stack::body::Body;
-use ang_vm_stack::place::{Place, Standing};
+use ang_vm_stack::body::LoadedBody;
+use ang_vm_stack::place::{Cursor, Activation};
 use ang_vm_stack::stack::{peek, push};
 use ang_vm_steps::many::{give_top, give_top_in_line, nothing_lives};
 
@@ -145,7 +145,7 @@ fn leave_params(params: &[Passing], stack: &mut [Slot], store: &mut Store, top: 
 /// above those of its `&out` parameters. None where it finds less than it takes.
 #[inline(always)]
 pub fn leave_body(
-    code: &Body,
+    code: &LoadedBody,
     stack: &mut [Slot],
     store: &mut Store,
     top: usize,
@@ -154,7 +154,7 @@ pub fn leave_body(
     requires within { top ≤ length stack.old }
     requires ready { IsReady ⟦<dyn Driver as Driver>⟧ store.old }
     requires counted { AreCounted ⟦<dyn Driver as Driver>⟧ stack.old top store.old }
-    ensures told { (z : Setting) (texts : Texts) (f : Routine) (at room : ℕ) (frames : List Frame)
+    ensures told { (z : Environment) (texts : Texts) (f : Routine) (at room : ℕ) (frames : List Frame)
         (ticks : ℕ) → code.now.params.items ≡ params_of z f
         → StoreTold ⟦<dyn Driver as Driver>⟧ (act z texts (Some (Return count)) f at room
         (values stack.old top) frames ticks) store.old (handed result stack.new frames ticks)
@@ -189,7 +189,7 @@ pub fn leave_body(
 
 /// A caller goes on with a value on top of those in use, if there is room for it.
 #[inline(always)]
-pub fn resume(stack: &mut [Slot], caller: Frame, parted: Parted, ticks: u64) -> Option<Standing>
+pub fn resume(stack: &mut [Slot], caller: Frame, parted: Parted, ticks: u64) -> Option<Activation>
     requires below { parted.kept < length stack.old }
     ensures told { (frames : List Frame) (w : World)
         → back (caller ∷ frames) parted.value [] (values stack.old parted.kept) ticks w
@@ -201,10 +201,10 @@ pub fn resume(stack: &mut [Slot], caller: Frame, parted: Parted, ticks: u64) -> 
     }
     push(stack, parted.kept, parted.value);
     let Routine { home, number } = caller.of;
-    Some(Standing {
+    Some(Activation {
         body: Routine { home, number },
         room: caller.room,
-        place: Place {
+        place: Cursor {
             at: caller.at,
             top: parted.kept + 1,
             ticks,

@@ -14,7 +14,7 @@ use ang_heap::Store;
 use ang_host::Driver;
 use ang_kinds::Fault;
 use ang_meaning::{Routine, Slot};
-use ang_vm_stack::place::{Ending, Standing};
+use ang_vm_stack::place::{RunResult, Activation};
 use ang_vm_stack::table::Table;
 
 /// A body begins on a stack of its own, with no callers.
@@ -25,7 +25,7 @@ fn start(
     store: &mut Store,
     entry: Routine,
     ticks: u64,
-) -> Result<Standing, Ending>
+) -> Result<Activation, RunResult>
     requires ready { IsReady ⟦<dyn Driver as Driver>⟧ store.old }
     requires counted { IsCounted (reverse stack.old.items)
         (world_of ⟦<dyn Driver as Driver>⟧ store.old) }
@@ -56,7 +56,7 @@ pub fn start_call(
     store: &mut Store,
     entry: Routine,
     budget: u64,
-) -> Result<Standing, Ending>
+) -> Result<Activation, RunResult>
     requires ready { IsReady ⟦<dyn Driver as Driver>⟧ store.old }
     requires counted { IsCounted (reverse stack.old.items)
         (world_of ⟦<dyn Driver as Driver>⟧ store.old) }
@@ -86,7 +86,7 @@ pub fn start_initializer(
     store: &mut Store,
     entry: Routine,
     ticks: u64,
-) -> Result<Standing, Ending>
+) -> Result<Activation, RunResult>
     requires empty { stack.old.items ≡ [] }
     requires ready { IsReady ⟦<dyn Driver as Driver>⟧ store.old }
     requires counted { IsCounted [] (world_of ⟦<dyn Driver as Driver>⟧ store.old) }

@@ -15,10 +15,10 @@ use Rattle.ang_host.specs.declared.event.Role.{Role}
 use Rattle.ang_host.specs.declared.event.Role.TheVariants.{Making as MakingRole, Calling as CallingRole, Property as PropertyRole}
 use Rattle.ang_meaning.specs.declared.slot.Slot.{Slot}
 use Rattle.ang_meaning.specs.declared.slot.Slot.TheVariants.{Host}
-use Rattle.ang_meaning.specs.declared.host.HostType.{HostType}
+use Rattle.ang_meaning.specs.declared.host.HostValueType.{HostValueType}
 use Rattle.ang_meaning.specs.declared.host.HostUse.{HostUse}
 use Rattle.ang_meaning.specs.World.{World, HostCounts, Room, Said, memory_step, with_inputs, one_more}
-use Rattle.ang_meaning.specs.Setting.{Setting, host_in, use_at}
+use Rattle.ang_meaning.specs.Environment.{Environment, host_in, use_at}
 use Rattle.ang_meaning.specs.Hosts.{Fails, is_reply_to, replied_by, asked}
 use Rattle.ang_meaning.specs.Told.{Told}
 use Rattle.ang_meaning.specs.Counting.{CanGive}
@@ -30,7 +30,7 @@ use Rattle.ang_vm_stack.specs.Arms.{done}
 use Rattle.ang_vm_ask.specs.Replies.{with_result, made_as}
 
 -- what a making gives, and what it leaves
-made_reply : (d : ℕ) (result : HostType) (r : Made) (w : World) → replied_by d result (Making r) w ≡ done (made_as d r) (record w { hosts = made_by r d w.hosts })
+made_reply : (d : ℕ) (result : HostValueType) (r : Made) (w : World) → replied_by d result (Making r) w ≡ done (made_as d r) (record w { hosts = made_by r d w.hosts })
 unfolding replied_by one_more
 made_reply d result (MadeKey k) w = refl
 made_reply d result MadeNothing w = refl
@@ -38,11 +38,11 @@ made_reply d result (MadeFault n) w = refl
 made_reply d result MadeMemory w = refl
 made_reply d result MadeFull w = refl
 
-module _ (z : Setting) (m : ℕ) (caller : List ℕ) (e : EntityNo) (u : HostUse) (sees : Sees z m caller e u) where
+module _ (z : Environment) (m : ℕ) (caller : List ℕ) (e : EntityNo) (u : HostUse) (sees : Sees z m caller e u) where
   pub use_is : use_at z m e ≡ u
   use_is = ap host_in sees.host
 
-  module _ (object : Option ℕ) (args : List Value) (result : HostType) where
+  module _ (object : Option ℕ) (args : List Value) (result : HostValueType) where
     -- there is no memory for the event
     unheard : (w : World) → Told (λ is. asked z m e object args result (with_inputs is w)) (λ is. Fails Memory (with_inputs is w))
     unfolding asked memory_step

@@ -1,11 +1,11 @@
 -- Which operations on the host are fit, and with how many operands, by the entry that they ask.
 use Rattle.std.proofs.Common.{◌≡◌, ℕ, false, Option, Some, None, Bor, IfSome, IfNone, MatchOption, sym, ap, subst, ◌∙◌}
 use Rattle.ang_kinds.specs.declared.mask.EntityNo.{EntityNo}
-use Rattle.ang_meaning.specs.declared.operation.Change.{Change}
+use Rattle.ang_meaning.specs.declared.operation.Update.{Update}
 use Rattle.ang_meaning.specs.declared.host.HostUse.{HostUse}
 use Rattle.ang_meaning.specs.declared.operation.Operation.{Operation}
-use Rattle.ang_meaning.specs.declared.operation.Operation.TheVariants.{Work, Compare, Convert, Negate, Complement, Not, Same, GlobalGet, GlobalSet, GlobalChange, Ask, Read, Write, Alter, Make, FieldGet, FieldSet, FieldChange, Cast}
-use Rattle.ang_meaning.specs.Setting.{Setting, may_call, may_access, may_write, is_fit}
+use Rattle.ang_meaning.specs.declared.operation.Operation.TheVariants.{Binary, Compare, Convert, Negate, Complement, Not, Same, GlobalGet, GlobalSet, GlobalChange, Ask, Read, Write, Alter, Make, FieldGet, FieldSet, FieldChange, Cast}
+use Rattle.ang_meaning.specs.Environment.{Environment, may_call, may_access, may_write, is_fit}
 use Rattle.ang_meaning.specs.Perform.{operands}
 use Rattle.ang_vm_stack.specs.declared.table.Table.{Table}
 use Rattle.ang_vm_stack.specs.Tables.{entity_of, setting_of}
@@ -14,7 +14,7 @@ use Rattle.ang_vm_ask.specs.Entities.{AsksEntry}
 use Rattle.ang_vm_ask.specs.Fitting.{IsCalledWith, IsReadWith, IsWrittenWith, IsFitWith}
 
 -- an operation on an entity that its module does not see is not fit
-pub unseen : (z : Setting) (m : ℕ) (o : Operation) (e : EntityNo) → asked_by o ≡ Some e → z.host m e.0 ≡ None → is_fit z m o ≡ false
+pub unseen : (z : Environment) (m : ℕ) (o : Operation) (e : EntityNo) → asked_by o ≡ Some e → z.host m e.0 ≡ None → is_fit z m o ≡ false
 unfolding is_fit
 unseen z m (Ask i) e is none =
     let same : i ≡ e = cc in ap may_call (ap (λ k. z.host m k.0) same ∙ none)
@@ -24,7 +24,7 @@ unseen z m (Write i) e is none =
     let same : i ≡ e = cc in ap may_write (ap (λ k. z.host m k.0) same ∙ none)
 unseen z m (Alter i c) e is none =
     let same : i ≡ e = cc in ap may_write (ap (λ k. z.host m k.0) same ∙ none)
-unseen z m (Work a p) e is none = absurd (let y : ⊥ = cc in y)
+unseen z m (Binary a p) e is none = absurd (let y : ⊥ = cc in y)
 unseen z m (Compare c signed) e is none = absurd (let y : ⊥ = cc in y)
 unseen z m (Convert p) e is none = absurd (let y : ⊥ = cc in y)
 unseen z m (Negate p) e is none = absurd (let y : ⊥ = cc in y)
@@ -94,14 +94,14 @@ written_unfit t m nesting e o u r is entry none =
     let seen : entity_of t m e.0 ≡ Some u = seen_as t m o e u (ap asked_by is) entry in
     subst (λ x. IfNone r (is_fit (setting_of t nesting) m x ≡ false)) (sym is) (subst (λ x. IfNone r (may_write x ≡ false)) (sym seen) none)
 
-pub altered_fit : (t : Table) (m nesting : ℕ) (e : EntityNo) (c : Change) (o : Operation) (u : HostUse) (r : Option ℕ) → o ≡ Alter e c → AsksEntry t m o u
+pub altered_fit : (t : Table) (m nesting : ℕ) (e : EntityNo) (c : Update) (o : Operation) (u : HostUse) (r : Option ℕ) → o ≡ Alter e c → AsksEntry t m o u
     → IfSome r (IsWrittenWith (Some u)) → IfSome r (IsFitWith (setting_of t nesting) m o)
 unfolding is_fit operands
 altered_fit t m nesting e c o u r is entry taken =
     let seen : entity_of t m e.0 ≡ Some u = seen_as t m o e u (ap asked_by is) entry in
     subst (λ x. IfSome r (IsFitWith (setting_of t nesting) m x)) (sym is) (subst (λ x. IfSome r (IsWrittenWith x)) (sym seen) taken)
 
-pub altered_unfit : (t : Table) (m nesting : ℕ) (e : EntityNo) (c : Change) (o : Operation) (u : HostUse) (r : Option ℕ) → o ≡ Alter e c → AsksEntry t m o u
+pub altered_unfit : (t : Table) (m nesting : ℕ) (e : EntityNo) (c : Update) (o : Operation) (u : HostUse) (r : Option ℕ) → o ≡ Alter e c → AsksEntry t m o u
     → IfNone r (may_write (Some u) ≡ false) → IfNone r (is_fit (setting_of t nesting) m o ≡ false)
 unfolding is_fit
 altered_unfit t m nesting e c o u r is entry none =

@@ -8,7 +8,7 @@ use Rattle.ang_host.specs.Laws.{IsLiveOption, IsLiveValue, AreLive}
 use Rattle.ang_host.specs.Members.{state_at}
 use Rattle.ang_code.specs.Machine.{take_some}
 use Rattle.ang_meaning.specs.declared.slot.Slot.{Slot}
-use Rattle.ang_meaning.specs.declared.host.HostType.{HostType}
+use Rattle.ang_meaning.specs.declared.host.HostValueType.{HostValueType}
 use Rattle.ang_meaning.specs.declared.host.HostUse.{HostUse}
 use Rattle.ang_meaning.specs.World.{World, ScriptObjects}
 use Rattle.ang_meaning.specs.Hosts.{value_of, values_of}
@@ -49,7 +49,7 @@ module _ (ss : List State) (os : ScriptObjects) (ops : List Slot) (enough : Each
       subst (λ l. AreLive (state_at ss u.driver) (values_of u.driver u.params l)) (sym e)
       (values_handed ss ops keys u.driver u.params (arguments_of u ops) (λ x. arguments_fewer ss x u ops))
 
-  pub first_live : (ty : HostType) (v : Slot) → slice_get ops 0 ≡ Some v → IsLiveValue (state_at ss u.driver) (value_of u.driver ty v)
+  pub first_live : (ty : HostValueType) (v : Slot) → slice_get ops 0 ≡ Some v → IsLiveValue (state_at ss u.driver) (value_of u.driver ty v)
   first_live ty v e = value_handed ss ops keys u.driver ty v (λ x. first_fewer x ops v e)
 
 -- the others, without the result, and each on its own

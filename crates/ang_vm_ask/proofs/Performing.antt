@@ -9,18 +9,18 @@ use Rattle.ang_host.specs.declared.event.Role.{Role}
 use Rattle.ang_host.specs.declared.event.Role.TheVariants.{Making as MakingRole, Calling as CallingRole, Property as PropertyRole}
 use Rattle.ang_meaning.specs.declared.slot.Slot.{Slot}
 use Rattle.ang_meaning.specs.declared.slot.Slot.TheVariants.{Bits}
-use Rattle.ang_meaning.specs.declared.host.HostType.TheVariants.{Nothing}
+use Rattle.ang_meaning.specs.declared.host.HostValueType.TheVariants.{Nothing}
 use Rattle.ang_meaning.specs.declared.host.HostUse.{HostUse}
-use Rattle.ang_meaning.specs.declared.operation.Change.{Change}
+use Rattle.ang_meaning.specs.declared.operation.Update.{Update}
 use Rattle.ang_meaning.specs.declared.operation.Operation.TheVariants.{Ask, Read, Write, Alter}
 use Rattle.ang_meaning.specs.Numbers.{Changed, Into, Never}
 use Rattle.ang_meaning.specs.World.{World, Input, with_inputs, give}
-use Rattle.ang_meaning.specs.Setting.{Setting, use_at, is_called_by, is_property, may_call, may_access, may_write, is_fit}
+use Rattle.ang_meaning.specs.Environment.{Environment, use_at, is_called_by, is_property, may_call, may_access, may_write, is_fit}
 use Rattle.ang_meaning.specs.Hosts.{Done, Fails, value_of, values_of, asked}
 use Rattle.ang_meaning.specs.Perform.{Receiver, NoReceiver, Of, NullReceiver, key_at, receiver_of, behind_first, arguments_of, called_of, read_of, write_of, in_place_of, altered_to, altered_of, change_of, member_count, operands}
 use Rattle.ang_meaning.specs.Told.{Told}
 use Rattle.ang_meaning.proofs.Telling.{told_same, told_then, told_map}
-use Rattle.ang_vm_numbers.specs.declared.changes.Altered.{Altered}
+use Rattle.ang_vm_numbers.specs.declared.changes.Updated.{Updated}
 use Rattle.ang_vm_numbers.specs.Answers as answers
 use Rattle.ang_vm_stack.specs.Arms.{done}
 use Rattle.ang_vm_ask.specs.Asks.{asks}
@@ -46,7 +46,7 @@ both_true false b h = h
 
 -- ---- each operation by what it asks
 
-module _ (z : Setting) (m : ℕ) (caller : List ℕ) (e : EntityNo) (u : HostUse) (sees : Sees z m caller e u) where
+module _ (z : Environment) (m : ℕ) (caller : List ℕ) (e : EntityNo) (u : HostUse) (sees : Sees z m caller e u) where
   called_as : (r : Receiver) (object : Option ℕ) (args : List Slot) (w : World) → object_in r ≡ Ok object
       → called_of z m e r args w ≡ asked z m e object (values_of u.driver u.params args) u.result w
   called_as NoReceiver object args w h =
@@ -105,7 +105,7 @@ module _ (z : Setting) (m : ℕ) (caller : List ℕ) (e : EntityNo) (u : HostUse
   unfolding operands
   write_count ops h = omega (arith, h, count_small (use_at z m e).member)
 
-  alter_count : (by : Change) (ops : List Slot) → length ops ≡ operands z m (Alter e by) → length ops ≤ 2
+  alter_count : (by : Update) (ops : List Slot) → length ops ≡ operands z m (Alter e by) → length ops ≤ 2
   unfolding operands
   alter_count by ops h = omega (arith, h, count_small (use_at z m e).member)
 
@@ -121,7 +121,7 @@ module _ (z : Setting) (m : ℕ) (caller : List ℕ) (e : EntityNo) (u : HostUse
       ap (λ y. in_place_of x (write_of z m e (receiver_of y (o ∷ [])) x w)) (use_is z m caller e u sees) ∙ ap (λ y. in_place_of y (write_of z m e (receiver_of u (o ∷ [])) y w)) same
   write_is (x ∷ (o ∷ (p ∷ ps))) v w f h = absurd (omega (arith, h))
 
-  alter_is : (by : Change) (ops : List Slot) (v : Slot) (w : World) → slice_get ops 0 ≡ Some v → length ops ≤ 2
+  alter_is : (by : Update) (ops : List Slot) (v : Slot) (w : World) → slice_get ops 0 ≡ Some v → length ops ≤ 2
       → asks z m (Alter e by) (reverse ops) w ≡ altered_of z m e (receiver_of u (behind_first ops)) by v (read_of z m e (receiver_of u (behind_first ops)) w)
   unfolding asks
   alter_is by [] v w f h = absurd (let x : ⊥ = cc in x)
@@ -148,7 +148,7 @@ module _ (z : Setting) (m : ℕ) (caller : List ℕ) (e : EntityNo) (u : HostUse
   unfolding is_fit
   write_fit h = both_true (is_property u.role) (not u.read_only) (sym (ap may_write sees.host) ∙ h)
 
-  alter_fit : (by : Change) → is_fit z m (Alter e by) ≡ true → is_property u.role ≡ true
+  alter_fit : (by : Update) → is_fit z m (Alter e by) ≡ true → is_property u.role ≡ true
   unfolding is_fit
   alter_fit by h = both_true (is_property u.role) (not u.read_only) (sym (ap may_write sees.host) ∙ h)
 
@@ -180,7 +180,7 @@ no_first (x ∷ ops) h = absurd (let y : ⊥ = cc in y)
 module _ (caller : List ℕ) (e : EntityNo) (u : HostUse) (ops : List Slot) (w w' : World) where
   -- what each module that sees the entity so is told
   abbrev pub AskedSo : Option ℕ → List Slot → Result Slot Fault → Type 0
-  AskedSo object args r = (z : Setting) (m : ℕ) → Sees z m caller e u
+  AskedSo object args r = (z : Environment) (m : ℕ) → Sees z m caller e u
       → Told (λ is. asked z m e object (values_of u.driver u.params args) u.result (with_inputs is w)) (λ is. done r (with_inputs is w'))
 
   pub ask_performed : (object : Option ℕ) (args : List Slot) (r : Result Slot Fault) → object_in (receiver_of u ops) ≡ Ok object → args ≡ arguments_of u ops → AskedSo object args r
@@ -205,7 +205,7 @@ module _ (caller : List ℕ) (e : EntityNo) (u : HostUse) (ops : List Slot) (w w
   }
 
   pub read_performed : (object : Option ℕ) (r : Result Slot Fault) → object_in (receiver_of u ops) ≡ Ok object
-      → ((z : Setting) (m : ℕ) → Sees z m caller e u → Told (λ is. asked z m e object [] u.result (with_inputs is w)) (λ is. done r (with_inputs is w')))
+      → ((z : Environment) (m : ℕ) → Sees z m caller e u → Told (λ is. asked z m e object [] u.result (with_inputs is w)) (λ is. done r (with_inputs is w')))
       → Performed caller e u (Read e) ops w r w'
   read_performed object r is t = record {
     told = λ z m sees fit count. told_then
@@ -214,7 +214,7 @@ module _ (caller : List ℕ) (e : EntityNo) (u : HostUse) (ops : List Slot) (w w
   }
 
   pub write_performed : (object : Option ℕ) (v : Slot) (r : Result Slot Fault) → slice_get ops 0 ≡ Some v → object_in (receiver_of u (behind_first ops)) ≡ Ok object
-      → ((z : Setting) (m : ℕ) → Sees z m caller e u
+      → ((z : Environment) (m : ℕ) → Sees z m caller e u
       → Told (λ is. in_place_of v (asked z m e object (value_of u.driver u.result v ∷ []) Nothing (with_inputs is w))) (λ is. done r (with_inputs is w')))
       → Performed caller e u (Write e) ops w r w'
   write_performed object v r first is t = record {
@@ -224,8 +224,8 @@ module _ (caller : List ℕ) (e : EntityNo) (u : HostUse) (ops : List Slot) (w w
         (t z m sees);
   }
 
-  pub alter_performed : (by : Change) (object : Option ℕ) (v : Slot) (r : Result Slot Fault) → slice_get ops 0 ≡ Some v → object_in (receiver_of u (behind_first ops)) ≡ Ok object
-      → ((z : Setting) (m : ℕ) (o : Receiver) → Sees z m caller e u → object_in o ≡ Ok object
+  pub alter_performed : (by : Update) (object : Option ℕ) (v : Slot) (r : Result Slot Fault) → slice_get ops 0 ≡ Some v → object_in (receiver_of u (behind_first ops)) ≡ Ok object
+      → ((z : Environment) (m : ℕ) (o : Receiver) → Sees z m caller e u → object_in o ≡ Ok object
       → Told (λ is. altered_of z m e o by v (read_of z m e o (with_inputs is w))) (λ is. done r (with_inputs is w')))
       → Performed caller e u (Alter e by) ops w r w'
   alter_performed by object v r first is t = record {
@@ -253,7 +253,7 @@ module _ (caller : List ℕ) (e : EntityNo) (u : HostUse) (ops : List Slot) (w :
         ∙ ap (in_place_of v) (write_null z m caller e u sees (receiver_of u (behind_first ops)) f v (with_inputs ins w) is));
   }
 
-  pub alter_nobody : (by : Change) (v : Slot) (f : Fault) → slice_get ops 0 ≡ Some v → object_in (receiver_of u (behind_first ops)) ≡ Err f → Performed caller e u (Alter e by) ops w (Err f) w
+  pub alter_nobody : (by : Update) (v : Slot) (f : Fault) → slice_get ops 0 ≡ Some v → object_in (receiver_of u (behind_first ops)) ≡ Err f → Performed caller e u (Alter e by) ops w (Err f) w
   alter_nobody by v f first is = record {
     told = λ z m sees fit count. told_same (λ ins. alter_is z m caller e u sees by ops v (with_inputs ins w) first (alter_count z m caller e u sees by ops count)
         ∙ ap (altered_of z m e (receiver_of u (behind_first ops)) by v) (read_null z m caller e u sees (receiver_of u (behind_first ops)) f (with_inputs ins w) is));
@@ -272,14 +272,14 @@ module _ (caller : List ℕ) (e : EntityNo) (u : HostUse) (ops : List Slot) (w :
     pub write_other : ((f : ℕ) → u.role ≡ PropertyRole f → ⊥) → Performed caller e u (Write e) ops w r w'
     write_other other = record { told = λ z m sees fit count. absurd (not_property u.role other (write_fit z m caller e u sees fit)) }
 
-    pub alter_other : (by : Change) → ((f : ℕ) → u.role ≡ PropertyRole f → ⊥) → Performed caller e u (Alter e by) ops w r w'
+    pub alter_other : (by : Update) → ((f : ℕ) → u.role ≡ PropertyRole f → ⊥) → Performed caller e u (Alter e by) ops w r w'
     alter_other by other = record { told = λ z m sees fit count. absurd (not_property u.role other (alter_fit z m caller e u sees by fit)) }
 
     pub write_none : slice_get ops 0 ≡ None → Performed caller e u (Write e) ops w r w'
     unfolding operands
     write_none empty = record { told = λ z m sees fit count. absurd (omega (arith, count, no_first ops empty)) }
 
-    pub alter_none : (by : Change) → slice_get ops 0 ≡ None → Performed caller e u (Alter e by) ops w r w'
+    pub alter_none : (by : Update) → slice_get ops 0 ≡ None → Performed caller e u (Alter e by) ops w r w'
     unfolding operands
     alter_none by empty = record { told = λ z m sees fit count. absurd (omega (arith, count, no_first ops empty)) }
 
@@ -290,7 +290,7 @@ pub put_told : (given : Slot) (r s : Result Slot Fault) (w' : World) {before : L
 put_told given r s w' same t =
     told_then (told_map (in_place_of given) t) (told_same (λ is. in_place_done given r (with_inputs is w') ∙ ap (λ x. done x (with_inputs is w')) (sym same)))
 
-module _ (z : Setting) (m : ℕ) (caller : List ℕ) (e : EntityNo) (u : HostUse) (sees : Sees z m caller e u) (r : Receiver) (object : Option ℕ) (is : object_in r ≡ Ok object) where
+module _ (z : Environment) (m : ℕ) (caller : List ℕ) (e : EntityNo) (u : HostUse) (sees : Sees z m caller e u) (r : Receiver) (object : Option ℕ) (is : object_in r ≡ Ok object) where
   pub changed_told : (x : Slot) (to : Changed) (stored given : ℕ) (s : Result Slot Fault) (w w' : World) → to ≡ Into stored given
       → Told (λ ins. in_place_of (Bits given) (asked z m e object (value_of u.driver u.result (Bits stored) ∷ []) Nothing (with_inputs ins w))) (λ ins. done s (with_inputs ins w'))
       → Told (λ ins. altered_to z m e r x to (with_inputs ins w)) (λ ins. done s (with_inputs ins w'))
@@ -304,7 +304,7 @@ module _ (z : Setting) (m : ℕ) (caller : List ℕ) (e : EntityNo) (u : HostUse
   unchanged_told x to f w w' goes gives =
       told_same (λ ins. ap (λ y. altered_to z m e r x y (with_inputs ins w)) goes ∙ ap (Fails f) (gives ins))
 
-  pub alter_read : (by : Change) (v x : Slot) (old s : Result Slot Fault) (w w1 w' : World) → old ≡ Ok x
+  pub alter_read : (by : Update) (v x : Slot) (old s : Result Slot Fault) (w w1 w' : World) → old ≡ Ok x
       → Told (λ ins. asked z m e object [] u.result (with_inputs ins w)) (λ ins. done old (with_inputs ins w1))
       → Told (λ ins. altered_to z m e r x (change_of by x v) (with_inputs ins w1)) (λ ins. done s (with_inputs ins w'))
       → Told (λ ins. altered_of z m e r by v (read_of z m e r (with_inputs ins w))) (λ ins. done s (with_inputs ins w'))
@@ -313,7 +313,7 @@ module _ (z : Setting) (m : ℕ) (caller : List ℕ) (e : EntityNo) (u : HostUse
       (told_then (told_map (altered_of z m e r by v) t)
       (told_then (told_same (λ ins. ap (λ y. altered_of z m e r by v (done y (with_inputs ins w1))) goes)) p))
 
-  pub alter_unread : (by : Change) (v : Slot) (f : Fault) (old : Result Slot Fault) (w w1 : World) → old ≡ Err f
+  pub alter_unread : (by : Update) (v : Slot) (f : Fault) (old : Result Slot Fault) (w w1 : World) → old ≡ Err f
       → Told (λ ins. asked z m e object [] u.result (with_inputs ins w)) (λ ins. done old (with_inputs ins w1))
       → Told (λ ins. altered_of z m e r by v (read_of z m e r (with_inputs ins w))) (λ ins. Fails f (with_inputs ins w1))
   alter_unread by v f old w w1 goes t =
@@ -324,6 +324,6 @@ pub never_of : (to : Changed) (f : Fault) → answers.altered_of to ≡ Err f �
 never_of (Into stored given) f h = absurd (let x : ⊥ = cc in x)
 never_of (Never g) f h = let same : g ≡ f = cc in ap Never same
 
-pub into_of : (to : Changed) (a : Altered) → answers.altered_of to ≡ Ok a → to ≡ Into a.stored a.given
+pub into_of : (to : Changed) (a : Updated) → answers.altered_of to ≡ Ok a → to ≡ Into a.stored a.given
 into_of (Into stored given) a h = let same : record { stored = stored; given = given } ≡ a = cc in ap (λ x. Into x.stored x.given) same
 into_of (Never g) a h = absurd (let x : ⊥ = cc in x)

@@ -14,8 +14,8 @@ use Rattle.ang_host.specs.Laws.{IsSound, IsLiveValue}
 use Rattle.ang_host.specs.Members.{state_at}
 use Rattle.ang_meaning.specs.declared.slot.Slot.{Slot}
 use Rattle.ang_meaning.specs.declared.slot.Slot.TheVariants.{Bits}
-use Rattle.ang_meaning.specs.declared.host.HostType.{HostType}
-use Rattle.ang_meaning.specs.declared.host.HostType.TheVariants.{Nothing, Plain, Handle}
+use Rattle.ang_meaning.specs.declared.host.HostValueType.{HostValueType}
+use Rattle.ang_meaning.specs.declared.host.HostValueType.TheVariants.{Nothing, Plain, Handle}
 use Rattle.ang_meaning.specs.World.{World, Tried, or_else, hold, if_told, with_inputs}
 use Rattle.ang_meaning.specs.Hosts.{Done, Fine, Fails, if_within, slot_of, accepted, is_void, replied_by}
 use Rattle.ang_meaning.specs.Told.{Told}
@@ -51,7 +51,7 @@ module _ (ss : List State) (d : ℕ) (sound : IsSound (state_at ss d)) where
   within_there true n = tt
   within_there false n = tt
 
-  pub slot_there : (of : HostType) (v : Value) → IsLiveValue (state_at ss d) v → HasKeyOption (slot_of d of v)
+  pub slot_there : (of : HostValueType) (v : Value) → IsLiveValue (state_at ss d) v → HasKeyOption (slot_of d of v)
   unfolding slot_of
   slot_there Nothing (Int z) h = tt
   slot_there Nothing (Uint n) h = tt
@@ -77,7 +77,7 @@ module _ (ss : List State) (d : ℕ) (sound : IsSound (state_at ss d)) where
 
 -- ---- an answer that names nothing
 
-module _ (d : ℕ) (of : HostType) where
+module _ (d : ℕ) (of : HostValueType) where
   pub replied_as : (a b : Answer) (r : Result Slot Fault) (w : World) → a ≡ b → ((u : World) → replied_by d of (Asking b) u ≡ done r u)
       → Told (λ is. replied_by d of (Asking a) (with_inputs is w)) (λ is. done r (with_inputs is w))
   replied_as a b r w e h = told_same (λ is. ap (λ x. replied_by d of (Asking x) (with_inputs is w)) e ∙ h (with_inputs is w))

@@ -5,9 +5,9 @@ use Rattle.ang_kinds.specs.declared.fault.Fault.{Fault}
 use Rattle.ang_code.specs.Machine.{take_some}
 use Rattle.ang_meaning.specs.declared.slot.Slot.{Slot}
 use Rattle.ang_meaning.specs.declared.operation.Operation.{Operation}
-use Rattle.ang_meaning.specs.declared.operation.Operation.TheVariants.{Work, Compare, Convert, Negate, Complement, Not, Same, GlobalGet, GlobalSet, GlobalChange, Ask, Read, Write, Alter, Make, FieldGet, FieldSet, FieldChange, Cast}
+use Rattle.ang_meaning.specs.declared.operation.Operation.TheVariants.{Binary, Compare, Convert, Negate, Complement, Not, Same, GlobalGet, GlobalSet, GlobalChange, Ask, Read, Write, Alter, Make, FieldGet, FieldSet, FieldChange, Cast}
 use Rattle.ang_meaning.specs.World.{World, Input, with_inputs, give, give_all}
-use Rattle.ang_meaning.specs.Setting.{Setting}
+use Rattle.ang_meaning.specs.Environment.{Environment}
 use Rattle.ang_meaning.specs.Hosts.{Done, Fine, Fails}
 use Rattle.ang_meaning.specs.Perform.{gives_up, perform}
 use Rattle.ang_meaning.specs.Results.{give_some}
@@ -26,7 +26,7 @@ take_all [] = refl
 take_all (v ∷ vs) = ap (λ l. v ∷ l) (take_all vs)
 
 -- what the meaning does is the host call, and then the operands are given up
-pub performed : (z : Setting) (m : ℕ) (o : Operation) (vs : List Slot) (w : World) → asks_host o ≡ true → perform z m o vs w ≡ gives_up (take_some (given_count o (length vs)) vs) (asks z m o vs w)
+pub performed : (z : Environment) (m : ℕ) (o : Operation) (vs : List Slot) (w : World) → asks_host o ≡ true → perform z m o vs w ≡ gives_up (take_some (given_count o (length vs)) vs) (asks z m o vs w)
 unfolding perform asks
 performed z m (Ask e) vs w h = ap (λ l. gives_up l (asks z m (Ask e) vs w)) (sym (take_all vs))
 performed z m (Read e) vs w h = ap (λ l. gives_up l (asks z m (Read e) vs w)) (sym (take_all vs))
@@ -38,7 +38,7 @@ performed z m (Alter e c) [] w h = refl
 performed z m (Alter e c) (v ∷ []) w h = sym (gives_none _)
 performed z m (Alter e c) (o ∷ (v ∷ [])) w h = refl
 performed z m (Alter e c) (o ∷ (v ∷ (x ∷ vs))) w h = refl
-performed z m (Work a p) vs w h = absurd (let y : ⊥ = cc in y)
+performed z m (Binary a p) vs w h = absurd (let y : ⊥ = cc in y)
 performed z m (Compare c signed) vs w h = absurd (let y : ⊥ = cc in y)
 performed z m (Convert p) vs w h = absurd (let y : ⊥ = cc in y)
 performed z m (Negate p) vs w h = absurd (let y : ⊥ = cc in y)
@@ -70,7 +70,7 @@ given_fewer (Ask e) n h = omega arith
 given_fewer (Read e) n h = omega arith
 given_fewer (Write e) n h = omega arith
 given_fewer (Alter e c) n h = omega arith
-given_fewer (Work a p) n h = absurd (let y : ⊥ = cc in y)
+given_fewer (Binary a p) n h = absurd (let y : ⊥ = cc in y)
 given_fewer (Compare c signed) n h = absurd (let y : ⊥ = cc in y)
 given_fewer (Convert p) n h = absurd (let y : ⊥ = cc in y)
 given_fewer (Negate p) n h = absurd (let y : ⊥ = cc in y)
@@ -87,7 +87,7 @@ given_fewer (FieldChange i c) n h = absurd (let y : ⊥ = cc in y)
 given_fewer (Cast c) n h = absurd (let y : ⊥ = cc in y)
 
 -- For the machine's arm, where s is the stack: the host call went well, and then n values were given up; or it faulted.
-module _ (z : Setting) (m : ℕ) (o : Operation) (n : ℕ) (s : List Slot) (is : asks_host o ≡ true) (there : n ≤ length s) (r : Result Slot Fault) (w w1 : World)
+module _ (z : Environment) (m : ℕ) (o : Operation) (n : ℕ) (s : List Slot) (is : asks_host o ≡ true) (there : n ≤ length s) (r : Result Slot Fault) (w w1 : World)
     (t : Told (λ ins. asks z m o (take_some n s) (with_inputs ins w)) (λ ins. done r (with_inputs ins w1))) where
   whole : (u : World) → perform z m o (take_some n s) u ≡ gives_up (take_some (given_count o n) s) (asks z m o (take_some n s) u)
   whole u =

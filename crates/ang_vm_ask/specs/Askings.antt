@@ -12,7 +12,7 @@ use Rattle.ang_meaning.specs.declared.host.HostUse.{HostUse}
 use Rattle.ang_meaning.specs.declared.operation.Operation.{Operation}
 use Rattle.ang_meaning.specs.declared.slot.Slot.{Slot}
 use Rattle.ang_meaning.specs.World.{World, with_inputs}
-use Rattle.ang_meaning.specs.Setting.{Setting, is_fit}
+use Rattle.ang_meaning.specs.Environment.{Environment, is_fit}
 use Rattle.ang_meaning.specs.Perform.{operands}
 use Rattle.ang_meaning.specs.Told.{Told}
 use Rattle.ang_meaning.specs.Counting.{CanGive}
@@ -24,7 +24,7 @@ use Rattle.ang_vm_ask.specs.Asks.{asks}
 use Rattle.ang_vm_ask.specs.Entities.{HaveRoles}
 
 -- a module of this name sees an entry as this
-pub record Sees (z : Setting) (m : ℕ) (caller : List ℕ) (e : EntityNo) (u : HostUse) : Type 0 where
+pub record Sees (z : Environment) (m : ℕ) (caller : List ℕ) (e : EntityNo) (u : HostUse) : Type 0 where
   pub name : z.name m ≡ caller
   pub host : z.host m e.0 ≡ Some u
 
@@ -33,7 +33,7 @@ pub record Sees (z : Setting) (m : ℕ) (caller : List ℕ) (e : EntityNo) (u : 
 -- takes.
 pub record Performed (caller : List ℕ) (e : EntityNo) (u : HostUse) (o : Operation)
     (ops : List Slot) (w : World) (r : Result Slot Fault) (w' : World) : Type 0 where
-  pub told : (z : Setting) (m : ℕ) → Sees z m caller e u → is_fit z m o ≡ true
+  pub told : (z : Environment) (m : ℕ) → Sees z m caller e u → is_fit z m o ≡ true
       → length ops ≡ operands z m o
       → Told (λ is. asks z m o (reverse ops) (with_inputs is w)) (λ is. done r (with_inputs is w'))
 

@@ -3,7 +3,7 @@ use Rattle.std.specs.Prelude.{ℕ, nat_eq, nat_lt, Bool, false, Option, Some, No
 use Rattle.std.specs.List.{list_any}
 use Rattle.ang_meaning.specs.declared.slot.Slot.{Slot}
 use Rattle.ang_meaning.specs.declared.slot.Slot.TheVariants.{Bits, Script, Host}
-use Rattle.ang_meaning.specs.Setting.{Setting, class_in}
+use Rattle.ang_meaning.specs.Environment.{Environment, class_in}
 
 -- the number of the script object that a value names, where it names one
 abbrev pub number_in : Slot → Option ℕ
@@ -18,6 +18,6 @@ is_lower_rank (Some v) None = false
 is_lower_rank (Some v) (Some r) = nat_lt v r
 
 -- a class is or stands under class or interface c, where there is a class
-abbrev pub is_class_under : Setting → ℕ → ℕ → Option ℕ → Bool
+abbrev pub is_class_under : Environment → ℕ → ℕ → Option ℕ → Bool
 is_class_under z m c None = false
 is_class_under z m c (Some k) = list_any (nat_eq c) (class_in (z.class m k)).under

@@ -7,10 +7,10 @@ ghost use Rattle.std.specs.Prelude.{◌≡◌, ℕ, ◌+◌, ◌^◌, ◌<◌, [
 ghost use Rattle.ang_host.specs.declared.event.Role.TheVariants.{Making as MakingRole, Calling as CallingRole, Property as PropertyRole};
 ghost use Rattle.ang_host.specs.Boxes.{members};
 ghost use Rattle.ang_host.specs.Laws.{IsLiveOption, IsLiveValue, AreLive};
-ghost use Rattle.ang_meaning.specs.declared.host.HostType.TheVariants.{Nothing};
+ghost use Rattle.ang_meaning.specs.declared.host.HostValueType.TheVariants.{Nothing};
 ghost use Rattle.ang_meaning.specs.Counting.{CanGive};
 ghost use Rattle.ang_meaning.specs.Hosts.{value_of, values_of, asked};
-ghost use Rattle.ang_meaning.specs.Setting.{Setting};
+ghost use Rattle.ang_meaning.specs.Environment.{Environment};
 ghost use Rattle.ang_heap.specs.Stores.{world_of, IsReady, StoreTold};
 ghost use Rattle.ang_vm_ask.specs.Askings.{Sees, StoreAsked, driver_state};
 ghost use Rattle.ang_vm_stack.specs.Arms.{done};
@@ -21,7 +21,7 @@ use crate::rooms::{call_room, room_for, room_for_ends, write_room};
 use ang_heap::Store;
 use ang_host::{Driver, Made, call_listed, make_listed, read_listed, write_listed};
 use ang_kinds::{EntityNo, Fault, List};
-use ang_meaning::{HostType, HostUse, Slot};
+use ang_meaning::{HostValueType, HostUse, Slot};
 use ang_vm_numbers::value_from;
 use std::alloc::Global;
 
@@ -43,7 +43,7 @@ pub(crate) fn call(
         (driver_state ⟦<dyn Driver as Driver>⟧ store.old host.now.driver) object }
     requires args_live { AreLive (driver_state ⟦<dyn Driver as Driver>⟧ store.old host.now.driver)
         (values_of host.now.driver host.now.params args.now) }
-    ensures told { (z : Setting) (m : ℕ) → Sees z m caller.now entity host.now
+    ensures told { (z : Environment) (m : ℕ) → Sees z m caller.now entity host.now
         → StoreTold ⟦<dyn Driver as Driver>⟧ (asked z m entity object
         (values_of host.now.driver host.now.params args.now) host.now.result) store.old
         (done result) store.new }
@@ -91,7 +91,7 @@ pub(crate) fn read(
     requires ready { IsReady ⟦<dyn Driver as Driver>⟧ store.old }
     requires object_live { IsLiveOption
         (driver_state ⟦<dyn Driver as Driver>⟧ store.old host.now.driver) object }
-    ensures told { (z : Setting) (m : ℕ) → Sees z m caller.now entity host.now
+    ensures told { (z : Environment) (m : ℕ) → Sees z m caller.now entity host.now
         → StoreTold ⟦<dyn Driver as Driver>⟧ (asked z m entity object [] host.now.result) store.old
         (done result) store.new }
     ensures enough { (vs : List Slot) → CanGive vs (world_of ⟦<dyn Driver as Driver>⟧ store.old)
@@ -135,7 +135,7 @@ pub(crate) fn write(
     requires value_live { IsLiveValue
         (driver_state ⟦<dyn Driver as Driver>⟧ store.old host.now.driver)
         (value_of host.now.driver host.now.result value) }
-    ensures told { (z : Setting) (m : ℕ) → Sees z m caller.now entity host.now
+    ensures told { (z : Environment) (m : ℕ) → Sees z m caller.now entity host.now
         → StoreTold ⟦<dyn Driver as Driver>⟧
         (asked z m entity object (value_of host.now.driver host.now.result value ∷ []) Nothing)
         store.old (done result) store.new }
@@ -165,7 +165,7 @@ pub(crate) fn write(
         object,
         args,
     );
-    take_answer(store, host.driver, HostType::Nothing, answer)
+    take_answer(store, host.driver, HostValueType::Nothing, answer)
 }
 
 /// One host object more lives.
@@ -214,7 +214,7 @@ pub(crate) fn make(
     requires ready { IsReady ⟦<dyn Driver as Driver>⟧ store.old }
     requires args_live { AreLive (driver_state ⟦<dyn Driver as Driver>⟧ store.old host.now.driver)
         (values_of host.now.driver host.now.params args.now) }
-    ensures told { (z : Setting) (m : ℕ) → Sees z m caller.now entity host.now
+    ensures told { (z : Environment) (m : ℕ) → Sees z m caller.now entity host.now
         → StoreTold ⟦<dyn Driver as Driver>⟧
         (asked z m entity None (values_of host.now.driver host.now.params args.now) host.now.result)
         store.old (done result) store.new }

@@ -4,7 +4,7 @@ ghost use Rattle.std.specs.List.{list_any};
 ghost use Rattle.ang_host.specs.declared.event.HostEvent.{HostEvent};
 ghost use Rattle.ang_meaning.specs.declared.operation.Operation.TheVariants.{Make, FieldGet, FieldSet, FieldChange, Cast};
 ghost use Rattle.ang_meaning.specs.World.{HostCounts, Input};
-ghost use Rattle.ang_meaning.specs.Setting.{Setting, class_at as class_of_number};
+ghost use Rattle.ang_meaning.specs.Environment.{Environment, class_at as class_of_number};
 ghost use Rattle.ang_meaning.specs.Perform.{perform, may_take as may_take_in, member_or, member_put};
 ghost use Rattle.ang_heap.specs.Heaps.{objects_of};
 ghost use Rattle.ang_heap.specs.Parts.{world_by};
@@ -17,7 +17,7 @@ ghost use Rattle.ang_vm_ask.specs.Fields.{number_in, is_lower_rank, is_class_und
 use ang_heap::{Heap, Store, give, hold};
 use ang_host::Driver;
 use ang_kinds::Fault;
-use ang_meaning::{Change, Class, Slot};
+use ang_meaning::{Update, Class, Slot};
 use ang_vm_numbers::change_slot;
 use ang_vm_stack::table::{Table, class_at};
 
@@ -87,7 +87,7 @@ pub fn trade_member(store: &mut Store, object: Slot, index: usize, value: Slot) 
 /// `Memory` where there is none for it.
 pub fn make(store: &mut Store, class: &Class) -> Result<Slot, Fault>
     requires ready { IsReady ⟦<dyn Driver as Driver>⟧ store.old }
-    ensures told { (z : Setting) (home number : ℕ) → class_of_number z home number ≡ class.now
+    ensures told { (z : Environment) (home number : ℕ) → class_of_number z home number ≡ class.now
         → StoreTold ⟦<dyn Driver as Driver>⟧ (perform z home (Make number) []) store.old
         (done result) store.new }
     ensures moves { HasMoved ⟦<dyn Driver as Driver>⟧ store.old store.new }
@@ -105,7 +105,7 @@ pub fn make(store: &mut Store, class: &Class) -> Result<Slot, Fault>
 pub fn get(store: &mut Store, object: Slot, index: usize) -> Result<Slot, Fault>
     requires ready { IsReady ⟦<dyn Driver as Driver>⟧ store.old }
     requires counted { StandCounted (object ∷ []) (world_of ⟦<dyn Driver as Driver>⟧ store.old) }
-    ensures told { (z : Setting) (home : ℕ)
+    ensures told { (z : Environment) (home : ℕ)
         → StoreTold ⟦<dyn Driver as Driver>⟧ (perform z home (FieldGet index) (object ∷ []))
         store.old (done result) store.new }
     ensures moves { HasMoved ⟦<dyn Driver as Driver>⟧ store.old store.new }
@@ -131,7 +131,7 @@ pub fn set(store: &mut Store, object: Slot, index: usize, value: Slot) -> Result
     requires ready { IsReady ⟦<dyn Driver as Driver>⟧ store.old }
     requires counted { StandCounted (object ∷ value ∷ [])
         (world_of ⟦<dyn Driver as Driver>⟧ store.old) }
-    ensures told { (z : Setting) (home : ℕ)
+    ensures told { (z : Environment) (home : ℕ)
         → StoreTold ⟦<dyn Driver as Driver>⟧ (perform z home (FieldSet index) (object ∷ value ∷ []))
         store.old (done result) store.new }
     ensures moves { HasMoved ⟦<dyn Driver as Driver>⟧ store.old store.new }
@@ -160,13 +160,13 @@ pub fn alter(
     store: &mut Store,
     object: Slot,
     index: usize,
-    by: Change,
+    by: Update,
     operand: Slot,
 ) -> Result<Slot, Fault>
     requires ready { IsReady ⟦<dyn Driver as Driver>⟧ store.old }
     requires counted { StandCounted (object ∷ operand ∷ [])
         (world_of ⟦<dyn Driver as Driver>⟧ store.old) }
-    ensures told { (z : Setting) (home : ℕ)
+    ensures told { (z : Environment) (home : ℕ)
         → StoreTold ⟦<dyn Driver as Driver>⟧
         (perform z home (FieldChange index by) (object ∷ operand ∷ [])) store.old (done result)
         store.new }

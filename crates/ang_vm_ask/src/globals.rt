@@ -1,7 +1,7 @@
 //! Operations on the globals of a module.
 ghost use Rattle.std.specs.Prelude.{◌≡◌, ◌∷◌, List, []};
 ghost use Rattle.ang_meaning.specs.declared.operation.Operation.TheVariants.{GlobalGet, GlobalSet, GlobalChange};
-ghost use Rattle.ang_meaning.specs.Setting.{Setting};
+ghost use Rattle.ang_meaning.specs.Environment.{Environment};
 ghost use Rattle.ang_meaning.specs.Perform.{perform, global_or, global_put};
 ghost use Rattle.ang_heap.specs.Stores.{world_of, IsReady, StoreTold, HasMoved, StoreBecomes};
 ghost use Rattle.ang_vm_stack.specs.Arms.{done};
@@ -10,7 +10,7 @@ ghost use Rattle.ang_vm_ask.specs.Counts.{StandCounted};
 use ang_heap::{Store, give, hold};
 use ang_host::Driver;
 use ang_kinds::Fault;
-use ang_meaning::{Change, Slot};
+use ang_meaning::{Update, Slot};
 use ang_vm_numbers::change_slot;
 
 /// Puts a value into a global of a module, and answers its old one; the value itself where there is no such
@@ -34,7 +34,7 @@ pub fn trade_global(store: &mut Store, home: u32, number: usize, value: Slot) ->
 /// `Tally` where a tally is full.
 pub fn get(store: &mut Store, home: u32, number: usize) -> Result<Slot, Fault>
     requires counted { StandCounted [] (world_of ⟦<dyn Driver as Driver>⟧ store.old) }
-    ensures told { (z : Setting)
+    ensures told { (z : Environment)
         → StoreTold ⟦<dyn Driver as Driver>⟧ (perform z home (GlobalGet number) []) store.old
         (done result) store.new }
     ensures moves { HasMoved ⟦<dyn Driver as Driver>⟧ store.old store.new }
@@ -53,7 +53,7 @@ pub fn get(store: &mut Store, home: u32, number: usize) -> Result<Slot, Fault>
 pub fn set(store: &mut Store, home: u32, number: usize, value: Slot) -> Result<Slot, Fault>
     requires ready { IsReady ⟦<dyn Driver as Driver>⟧ store.old }
     requires counted { StandCounted (value ∷ []) (world_of ⟦<dyn Driver as Driver>⟧ store.old) }
-    ensures told { (z : Setting)
+    ensures told { (z : Environment)
         → StoreTold ⟦<dyn Driver as Driver>⟧ (perform z home (GlobalSet number) (value ∷ []))
         store.old (done result) store.new }
     ensures moves { HasMoved ⟦<dyn Driver as Driver>⟧ store.old store.new }
@@ -74,11 +74,11 @@ pub fn alter(
     store: &mut Store,
     home: u32,
     number: usize,
-    by: Change,
+    by: Update,
     operand: Slot,
 ) -> Result<Slot, Fault>
     requires ready { IsReady ⟦<dyn Driver as Driver>⟧ store.old }
-    ensures told { (z : Setting)
+    ensures told { (z : Environment)
         → StoreTold ⟦<dyn Driver as Driver>⟧
         (perform z home (GlobalChange number by) (operand ∷ [])) store.old (done result) store.new }
     ensures moves { HasMoved ⟦<dyn Driver as Driver>⟧ store.old store.new }

@@ -2,7 +2,7 @@
 ghost use Rattle.std.specs.Prelude.{◌≡◌, ℕ, ◌∷◌, List, []};
 ghost use Rattle.ang_meaning.specs.declared.slot.Slot.TheVariants.{Bits as Number};
 ghost use Rattle.ang_meaning.specs.declared.operation.Operation.TheVariants.{Same};
-ghost use Rattle.ang_meaning.specs.Setting.{Setting, is_null as is_null_slot};
+ghost use Rattle.ang_meaning.specs.Environment.{Environment, is_null as is_null_slot};
 ghost use Rattle.ang_meaning.specs.Numbers.{truth as truth_of};
 ghost use Rattle.ang_meaning.specs.Hosts.{Fine};
 ghost use Rattle.ang_meaning.specs.Perform.{perform, is_same, name_one};
@@ -14,7 +14,7 @@ use ang_host::Driver;
 use ang_meaning::Slot;
 
 /// Whether a handle is null; a number is not.
-#[tactic(auto, unfolding(ang_meaning::specs::Setting::is_null))]
+#[tactic(auto, unfolding(ang_meaning::specs::Environment::is_null))]
 pub fn is_null(value: Slot) -> bool
     ensures exact { result ≡ is_null_slot value }
 {
@@ -76,7 +76,7 @@ pub fn compare_handles(store: &mut Store, first: Slot, second: Slot) -> Slot
     requires ready { IsReady ⟦<dyn Driver as Driver>⟧ store.old }
     requires counted { StandCounted (second ∷ first ∷ [])
         (world_of ⟦<dyn Driver as Driver>⟧ store.old) }
-    ensures told { (z : Setting) (home : ℕ)
+    ensures told { (z : Environment) (home : ℕ)
         → StoreTold ⟦<dyn Driver as Driver>⟧ (perform z home Same (second ∷ first ∷ [])) store.old
         (Fine result) store.new }
     ensures moves { HasMoved ⟦<dyn Driver as Driver>⟧ store.old store.new }

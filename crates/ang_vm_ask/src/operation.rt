@@ -7,12 +7,12 @@ ghost use Rattle.ang_host.specs.Boxes.{members};
 ghost use Rattle.ang_host.specs.Laws.{IsLiveOption, IsLiveValue};
 ghost use Rattle.ang_code.specs.Machine.{take_some};
 ghost use Rattle.ang_meaning.specs.declared.operation.Operation.TheVariants.{Ask, Read, Write, Alter};
-ghost use Rattle.ang_meaning.specs.declared.host.HostType.TheVariants.{Nothing};
+ghost use Rattle.ang_meaning.specs.declared.host.HostValueType.TheVariants.{Nothing};
 ghost use Rattle.ang_meaning.specs.Counting.{CanGive, CanGiveEach};
 ghost use Rattle.ang_meaning.specs.Hosts.{value_of, asked};
 ghost use Rattle.ang_meaning.specs.Numbers.{Changed};
 ghost use Rattle.ang_meaning.specs.Perform.{Receiver, in_place_of, altered_to, operands as operand_count};
-ghost use Rattle.ang_meaning.specs.Setting.{Setting, is_fit};
+ghost use Rattle.ang_meaning.specs.Environment.{Environment, is_fit};
 ghost use Rattle.ang_heap.specs.Stores.{world_of, IsReady, StoreTold};
 ghost use Rattle.ang_vm_numbers.specs.Answers.{altered_of};
 ghost use Rattle.ang_vm_stack.specs.Arms.{done};
@@ -29,8 +29,8 @@ use crate::handing::{arguments_of, behind_first, first_of, object_of, operands_a
 use ang_heap::{Store, give};
 use ang_host::{Driver, Role};
 use ang_kinds::{EntityNo, Fault};
-use ang_meaning::{Change, HostUse, Operation, Slot};
-use ang_vm_numbers::{Altered, change_slot};
+use ang_meaning::{Update, HostUse, Operation, Slot};
+use ang_vm_numbers::{Updated, change_slot};
 use ang_vm_stack::table::{Table, name_at};
 use std::alloc::Global;
 
@@ -54,7 +54,7 @@ fn put(
     requires value_live { IsLiveValue
         (driver_state ⟦<dyn Driver as Driver>⟧ store.old host.now.driver)
         (value_of host.now.driver host.now.result stored) }
-    ensures told { (z : Setting) (m : ℕ) → Sees z m caller.now entity host.now
+    ensures told { (z : Environment) (m : ℕ) → Sees z m caller.now entity host.now
         → StoreTold ⟦<dyn Driver as Driver>⟧ (λ w. in_place_of given (asked z m entity object
         (value_of host.now.driver host.now.result stored ∷ []) Nothing w)) store.old
         (done result) store.new }
@@ -78,7 +78,7 @@ fn put_changed(
     number: u32,
     object: Option<u64>,
     old: Slot,
-    altered: Result<Altered, Fault>,
+    altered: Result<Updated, Fault>,
 ) -> Result<Slot, Fault>
     requires role { host.now.role ≡ PropertyRole number }
     requires in_list { host.now.driver < length (members store.old.drivers) }
@@ -86,7 +86,7 @@ fn put_changed(
     requires object_live { IsLiveOption
         (driver_state ⟦<dyn Driver as Driver>⟧ store.old host.now.driver) object }
     requires held { CanGive (old ∷ []) (world_of ⟦<dyn Driver as Driver>⟧ store.old) }
-    ensures told { (z : Setting) (m : ℕ) (r : Receiver) (to : Changed)
+    ensures told { (z : Environment) (m : ℕ) (r : Receiver) (to : Changed)
         → Sees z m caller.now entity host.now → object_in r ≡ Ok object → altered ≡ altered_of to
         → StoreTold ⟦<dyn Driver as Driver>⟧ (altered_to z m entity r old to) store.old
         (done result) store.new }
@@ -210,7 +210,7 @@ fn perform_alter(
     caller: &[u8],
     entity: EntityNo,
     host: &HostUse,
-    by: Change,
+    by: Update,
     operands: &[Slot],
 ) -> Result<Slot, Fault>
     requires in_list { host.now.driver < length (members store.old.drivers) }
@@ -271,7 +271,7 @@ fn perform_apart(
         Operation::Alter(entity, by) => {
             perform_alter(alloc, store, caller, entity, host, by, operands)
         }
-        Operation::Work(_, _) => Err(Fault::Null),
+        Operation::Binary(_, _) => Err(Fault::Null),
         Operation::Compare(_, _) => Err(Fault::Null),
         Operation::Convert(_) => Err(Fault::Null),
         Operation::Negate(_) => Err(Fault::Null),

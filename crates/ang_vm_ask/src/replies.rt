@@ -13,16 +13,16 @@ ghost use Rattle.ang_vm_ask.specs.Askings.{driver_state};
 use ang_heap::{Store, hold};
 use ang_host::{Answer, Driver};
 use ang_kinds::Fault;
-use ang_meaning::{HostType, Slot};
+use ang_meaning::{HostValueType, Slot};
 use ang_vm_numbers::slot_from;
 
-fn is_void(of: HostType) -> bool
+fn is_void(of: HostValueType) -> bool
     ensures exact { result ≡ is_void of }
 {
     match of {
-        HostType::Nothing => true,
-        HostType::Plain(_) => false,
-        HostType::Handle => false,
+        HostValueType::Nothing => true,
+        HostValueType::Plain(_) => false,
+        HostValueType::Handle => false,
     }
 }
 
@@ -59,7 +59,7 @@ fn accept(store: &mut Store, value: Option<Slot>) -> Result<Slot, Fault>
 pub(crate) fn take_answer(
     store: &mut Store,
     driver: u32,
-    of: HostType,
+    of: HostValueType,
     answer: Answer,
 ) -> Result<Slot, Fault>
     requires live { IsLiveAnswer (driver_state ⟦<dyn Driver as Driver>⟧ store.old driver) answer }

@@ -4,7 +4,7 @@ ghost use Rattle.ang_meaning.specs.Hosts.{value_of, values_of};
 
 use ang_host::HostEvent;
 use ang_kinds::{List, Value};
-use ang_meaning::{HostType, HostUse, Slot};
+use ang_meaning::{HostValueType, HostUse, Slot};
 use ang_vm_numbers::value_from;
 use std::alloc::{AllocError, Global};
 
@@ -48,7 +48,7 @@ pub(crate) fn room_for(
 pub(crate) fn values_from(
     alloc: Global,
     driver: u32,
-    types: &[HostType],
+    types: &[HostValueType],
     slots: &[Slot],
 ) -> Result<List<Value>, AllocError>
     ensures exact { IfOk result (λ values. values ≡ values_of driver types.now slots.now) }

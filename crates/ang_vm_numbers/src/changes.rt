@@ -7,11 +7,11 @@ ghost use Rattle.ang_vm_numbers.specs.Answers.{altered_of};
 use crate::conversions::convert;
 use crate::operators::work;
 use ang_kinds::Fault;
-use ang_meaning::{Change, Slot};
+use ang_meaning::{Update, Slot};
 
 /// What a change stores into its variable, and what its expression gives.
 #[derive(Clone, Copy)]
-pub struct Altered {
+pub struct Updated {
     /// The variable's new value.
     pub stored: u64,
     /// The expression's value.
@@ -24,13 +24,13 @@ pub struct Altered {
 /// Those of the change's operation: `DivideByZero` and `DivideOverflow`.
 #[inline(always)]
 #[tactic(auto, unfolding(ang_meaning::specs::Numbers::changed))]
-pub fn change(by: Change, x: u64, y: u64) -> Result<Altered, Fault>
+pub fn change(by: Update, x: u64, y: u64) -> Result<Updated, Fault>
     ensures exact { result ≡ altered_of (changed by x y) }
 {
     let worked = work(by.work, by.at, convert(by.at, x), y)?;
     let stored = convert(by.to, worked);
     let given = if by.old { x } else { stored };
-    Ok(Altered { stored, given })
+    Ok(Updated { stored, given })
 }
 
 /// A variable's value changed by an operand: both have to be numbers.
@@ -38,7 +38,7 @@ pub fn change(by: Change, x: u64, y: u64) -> Result<Altered, Fault>
 /// # Errors
 /// `Null` where one is no number, and the faults of the change.
 #[tactic(auto, unfolding(ang_meaning::specs::Perform::change_of))]
-pub fn change_slot(by: Change, old: Slot, operand: Slot) -> Result<Altered, Fault>
+pub fn change_slot(by: Update, old: Slot, operand: Slot) -> Result<Updated, Fault>
     ensures exact { result ≡ altered_of (change_of by old operand) }
 {
     match old {

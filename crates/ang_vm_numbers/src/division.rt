@@ -2,7 +2,7 @@
 ghost use Rattle.std.specs.Prelude.{◌≡◌, ℤ, pos, int_div, int_rem, IfNone};
 ghost use Rattle.std.specs.Int.{w64, IsNonZero};
 ghost use Rattle.ang_meaning.specs.declared.operation.Arithmetic.TheVariants.{Divide, Remainder};
-ghost use Rattle.ang_meaning.specs.Numbers.{divided, worked};
+ghost use Rattle.ang_meaning.specs.Numbers.{divided, binary_result};
 ghost use Rattle.ang_vm_numbers.specs.Answers.{answer_of, unless};
 
 use crate::conversions::{convert, is_signed, least};
@@ -65,9 +65,9 @@ fn remainder_unsigned(at: Prim, x: u64, y: u64) -> Result<u64, Fault>
 
 /// `/` in the type.
 #[inline(always)]
-#[tactic(auto, unfolding(ang_meaning::specs::Numbers::worked))]
+#[tactic(auto, unfolding(ang_meaning::specs::Numbers::binary_result))]
 pub(crate) fn quotient(at: Prim, x: u64, y: u64) -> Result<u64, Fault>
-    ensures exact { result ≡ answer_of (worked Divide at x y) }
+    ensures exact { result ≡ answer_of (binary_result Divide at x y) }
 {
     if is_signed(at) {
         quotient_signed(at, x.cast_signed(), y.cast_signed())
@@ -78,9 +78,9 @@ pub(crate) fn quotient(at: Prim, x: u64, y: u64) -> Result<u64, Fault>
 
 /// `%` in the type.
 #[inline(always)]
-#[tactic(auto, unfolding(ang_meaning::specs::Numbers::worked))]
+#[tactic(auto, unfolding(ang_meaning::specs::Numbers::binary_result))]
 pub(crate) fn remainder(at: Prim, x: u64, y: u64) -> Result<u64, Fault>
-    ensures exact { result ≡ answer_of (worked Remainder at x y) }
+    ensures exact { result ≡ answer_of (binary_result Remainder at x y) }
 {
     if is_signed(at) {
         remainder_signed(at, x.cast_signed(), y.cast_signed())

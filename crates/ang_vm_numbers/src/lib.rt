@@ -13,7 +13,7 @@ mod operators;
 mod shifts;
 mod values;
 
-pub use changes::{Altered, change, change_slot};
+pub use changes::{Updated, change, change_slot};
 pub use comparisons::{compare, deny};
 pub use conversions::{complement, convert, negate};
 pub use operators::work;

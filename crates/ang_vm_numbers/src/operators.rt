@@ -1,6 +1,6 @@
 //! Binary operators on integers.
 ghost use Rattle.std.specs.Prelude.{◌≡◌, ◌+ℤ◌, ◌-ℤ◌, ◌*ℤ◌};
-ghost use Rattle.ang_meaning.specs.Numbers.{bits_of, number_of, worked};
+ghost use Rattle.ang_meaning.specs.Numbers.{bits_of, number_of, binary_result};
 ghost use Rattle.ang_vm_numbers.specs.Answers.{answer_of};
 
 use crate::conversions::convert;
@@ -39,9 +39,9 @@ fn multiply(at: Prim, x: u64, y: u64) -> u64
 /// `DivideByZero` of `/` and `%` where `y` is 0, and `DivideOverflow` where `y` is -1 and `x` the least
 /// number of the type.
 #[inline(always)]
-#[tactic(auto, unfolding(ang_meaning::specs::Numbers::worked))]
+#[tactic(auto, unfolding(ang_meaning::specs::Numbers::binary_result))]
 pub fn work(what: Arithmetic, at: Prim, x: u64, y: u64) -> Result<u64, Fault>
-    ensures exact { result ≡ answer_of (worked what at x y) }
+    ensures exact { result ≡ answer_of (binary_result what at x y) }
 {
     match what {
         Arithmetic::Add => Ok(add(at, x, y)),

@@ -2,12 +2,12 @@
 ghost use Rattle.std.specs.Prelude.{◌≡◌, ◌&&◌, nat_lt, ◌^◌, pos, Some};
 ghost use Rattle.ang_meaning.specs.Numbers.{is_signed, width_of, bits_of};
 ghost use Rattle.ang_meaning.specs.Hosts.{plain_value, value_of, is_within, is_unsigned, if_within, slot_of};
-ghost use Rattle.ang_meaning.specs.declared.host.HostType.TheVariants.{Plain, Handle};
+ghost use Rattle.ang_meaning.specs.declared.host.HostValueType.TheVariants.{Plain, Handle};
 ghost use Rattle.ang_kinds.specs.declared.value.Value.TheVariants.{Int, Uint, Bool as Truth, Key};
 
 use crate::conversions::convert;
 use ang_kinds::{Prim, Value};
-use ang_meaning::{HostType, Slot};
+use ang_meaning::{HostValueType, Slot};
 
 /// A number of a primitive type as it is handed to a driver.
 fn plain_value(of: Prim, bits: u64) -> Value
@@ -41,13 +41,13 @@ fn key_value(driver: u32, slot: Slot) -> Value
 /// A slot as it is handed to the driver of that number, where its declared type is `of`: a number as the
 /// value of its type, and a handle as the key of an object of this driver. What is not of the type goes
 /// as the null key.
-pub fn value_from(driver: u32, of: HostType, slot: Slot) -> Value
+pub fn value_from(driver: u32, of: HostValueType, slot: Slot) -> Value
     ensures exact { result ≡ value_of driver of slot }
 {
     match of {
-        HostType::Nothing => Value::Key(None),
-        HostType::Handle => key_value(driver, slot),
-        HostType::Plain(of) => match slot {
+        HostValueType::Nothing => Value::Key(None),
+        HostValueType::Handle => key_value(driver, slot),
+        HostValueType::Plain(of) => match slot {
             Slot::Bits(bits) => plain_value(of, bits),
             Slot::Script(_) => Value::Key(None),
             Slot::Host(_, _) => Value::Key(None),
@@ -158,13 +158,13 @@ fn key_slot(driver: u32, key: Option<u64>) -> Slot
 /// value for `bool`, and for a handle the key, or null. None where it is not of the type or not in its
 /// range.
 #[tactic(auto, unfolding(ang_meaning::specs::Hosts::slot_of))]
-pub fn slot_from(driver: u32, of: HostType, value: &Value) -> Option<Slot>
+pub fn slot_from(driver: u32, of: HostValueType, value: &Value) -> Option<Slot>
     ensures exact { result ≡ slot_of driver of value.now }
 {
     match of {
-        HostType::Nothing => None,
-        HostType::Plain(of) => plain_slot(driver, of, value),
-        HostType::Handle => match *value {
+        HostValueType::Nothing => None,
+        HostValueType::Plain(of) => plain_slot(driver, of, value),
+        HostValueType::Handle => match *value {
             Value::Key(key) => Some(key_slot(driver, key)),
             Value::Int(_) => None,
             Value::Uint(_) => None,

@@ -9,7 +9,7 @@ use std::marker::Model;
 
 /// A method of a class: the slot that calls name, and the function that stands in it.
 #[derive(Clone, Copy)]
-pub struct Method {
+pub struct MethodEntry {
     /// The slot's number in its module.
     pub slot: usize,
     /// The function, the class's own or an inherited one.
@@ -20,15 +20,15 @@ pub struct Method {
 /// Contracts see them as a list.
 #[derive(Drop)]
 pub struct Methods {
-    rows: Vec<Method>,
+    rows: Vec<MethodEntry>,
 }
 
 impl Model for Methods {
     ghost use Rattle.std.specs.Prelude.{List};
     ghost use Rattle.ang_vm_stack.specs.Slots.{RiseFrom};
-    ghost use Rattle.ang_vm_stack.specs.declared.methods.Method.{Method};
+    ghost use Rattle.ang_vm_stack.specs.declared.methods.MethodEntry.{MethodEntry};
 
-    ghost Value = { List Method };
+    ghost Value = { List MethodEntry };
 
     ghost view = { λ m. m.rows.items };
 
@@ -36,7 +36,7 @@ impl Model for Methods {
 }
 
 /// The method in the middle of a list, between those before it and those after it; none where the list is empty.
-fn middle(rows: &[Method]) -> Option<(&[Method], &Method, &[Method])>
+fn middle(rows: &[MethodEntry]) -> Option<(&[MethodEntry], &MethodEntry, &[MethodEntry])>
     ensures parts { MatchOption result (rows.now ≡ [])
         (λ parts. rows.now ≡ parts.0.now ++ parts.1.now ∷ parts.2.now) }
 {
@@ -47,7 +47,7 @@ fn middle(rows: &[Method]) -> Option<(&[Method], &Method, &[Method])>
 
 /// The function in a slot, of methods whose slots rise.
 #[inline(never)]
-fn search(rows: &[Method], slot: usize) -> Option<Routine>
+fn search(rows: &[MethodEntry], slot: usize) -> Option<Routine>
     requires rising { RiseFrom 0 rows.now }
     ensures exact { result ≡ method_in rows.now slot }
 {
@@ -63,7 +63,7 @@ fn search(rows: &[Method], slot: usize) -> Option<Routine>
 
 /// The same, with a copy of what it answers, so that none of it stands in memory where no search is needed.
 #[inline(always)]
-fn search_apart(rows: &[Method], slot: usize) -> Option<Routine>
+fn search_apart(rows: &[MethodEntry], slot: usize) -> Option<Routine>
     requires rising { RiseFrom 0 rows.now }
     ensures exact { result ≡ method_in rows.now slot }
 {
@@ -75,7 +75,7 @@ fn search_apart(rows: &[Method], slot: usize) -> Option<Routine>
 
 /// The function of a method, copied part by part and not through memory.
 #[inline(always)]
-fn copied(row: &Method) -> Routine
+fn copied(row: &MethodEntry) -> Routine
     ensures exact { result ≡ row.now.function }
 {
     let Routine { home, number } = row.function;
@@ -87,7 +87,7 @@ impl Methods {
     ///
     /// # Errors
     /// Want of memory.
-    pub fn new(all: Vec<Method>) -> Result<Methods, AllocError>
+    pub fn new(all: Vec<MethodEntry>) -> Result<Methods, AllocError>
         ensures same { IfOk result (λ methods. (slot : ℕ) →
             method_in methods slot ≡ method_in all.items slot) }
     {

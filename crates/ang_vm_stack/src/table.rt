@@ -2,14 +2,14 @@
 ghost use Rattle.std.specs.Prelude.{◌≡◌, Some, None, MatchOption, IfSome};
 ghost use Rattle.ang_vm_stack.specs.Tables as spec;
 
-use crate::body::Body;
+use crate::body::LoadedBody;
 use crate::methods::Methods;
 use ang_kinds::EntityNo;
 use ang_meaning::{Class, HostUse, Passing, Routine};
 
 /// An imported function.
 #[derive(Drop)]
-pub struct Import {
+pub struct LinkedImport {
     /// How each parameter takes its argument, as the module declares the import, the last one first.
     pub params: Vec<Passing>,
     /// The function that it is bound to, if any.
@@ -31,9 +31,9 @@ pub struct ModuleCode {
     /// The module's name, as events list it.
     pub name: Vec<u8>,
     /// The code of its functions and initializers, by number, with its steps.
-    pub bodies: Vec<Body>,
+    pub bodies: Vec<LoadedBody>,
     /// Its imports, by number.
-    pub imports: Vec<Import>,
+    pub imports: Vec<LinkedImport>,
     /// The registered entities, by number, each where the module sees it.
     pub entities: Vec<Option<HostUse>>,
     /// Its classes, by number.
@@ -62,7 +62,7 @@ pub fn name_at(table: &Table, home: u32) -> &[u8]
 
 /// The code of a body, where there is such a body.
 #[inline(always)]
-pub fn body_at(table: &Table, body: Routine) -> Option<&Body>
+pub fn body_at(table: &Table, body: Routine) -> Option<&LoadedBody>
     ensures exact { MatchOption result (spec.body_of table.now body ≡ None)
         (λ code. spec.body_of table.now body ≡ Some code.now) }
 {
@@ -72,7 +72,7 @@ pub fn body_at(table: &Table, body: Routine) -> Option<&Body>
 
 /// An import of a module, where there is one.
 #[inline(always)]
-pub fn import_at(table: &Table, home: u32, number: usize) -> Option<&Import>
+pub fn import_at(table: &Table, home: u32, number: usize) -> Option<&LinkedImport>
     ensures exact { MatchOption result (spec.import_of table.now home number ≡ None)
         (λ import. spec.import_of table.now home number ≡ Some import.now) }
 {

@@ -1,9 +1,9 @@
 //! Operations that ask the host.
 ghost use Rattle.std.specs.Prelude.{◌≡◌, ℕ, ◌+◌, ◌-◌, ◌<◌, ◌≤◌, true, List, length, IfOk};
 ghost use Rattle.ang_host.specs.Boxes.{members};
-ghost use Rattle.ang_meaning.specs.Setting.{is_fit};
+ghost use Rattle.ang_meaning.specs.Environment.{is_fit};
 ghost use Rattle.ang_meaning.specs.Perform.{perform, operands as operand_count};
-ghost use Rattle.ang_code.specs.declared.instruction.Instruction.TheVariants.{Do};
+ghost use Rattle.ang_code.specs.declared.instruction.Instruction.TheVariants.{Apply};
 ghost use Rattle.ang_code.specs.Machine.{take_some};
 ghost use Rattle.ang_heap.specs.Stores.{IsReady, StoreTold};
 ghost use Rattle.ang_vm_ask.specs.Asks.{asks_host};
@@ -21,7 +21,7 @@ use ang_host::Driver;
 use ang_kinds::Fault;
 use ang_meaning::{Operation, Routine, Slot};
 use ang_vm_ask::{ask, given_count, operands};
-use ang_vm_stack::stop::Stop;
+use ang_vm_stack::stop::Trap;
 use ang_vm_stack::table::Table;
 
 /// Does an operation on the host for a module, and then gives up those of its operands that are not its value.
@@ -71,14 +71,14 @@ pub(crate) fn ask_host(
     top: usize,
     room: usize,
     operation: Operation,
-) -> Result<usize, Stop>
+) -> Result<usize, Trap>
     requires in_room { top ≤ room }
     requires within { room ≤ length stack.old }
     requires ready { IsReady ⟦<dyn Driver as Driver>⟧ store.old }
     requires counted { AreCounted ⟦<dyn Driver as Driver>⟧ stack.old top store.old }
     requires drivers { DriversThere table.now (length (members store.old.drivers)) }
     requires asks { asks_host operation ≡ true }
-    ensures acts { TableActs ⟦<dyn Driver as Driver>⟧ table.now body (Do operation) room top
+    ensures acts { TableActs ⟦<dyn Driver as Driver>⟧ table.now body (Apply operation) room top
         stack.old store.old result stack.new store.new }
     ensures in_room { IfOk result (λ n. n ≤ room) }
     ensures moves { HasMovedOver ⟦<dyn Driver as Driver>⟧ table.now store.old store.new }
@@ -88,14 +88,14 @@ pub(crate) fn ask_host(
     match operands(table, body.home, operation) {
         Some(count) => {
             if count > top {
-                return Err(Stop::Lost);
+                return Err(Trap::Stuck);
             }
             if top - count >= room {
-                return Err(Stop::Lost);
+                return Err(Trap::Stuck);
             }
             let answer = perform_on_host(table, body.home, stack, top, count, store, operation);
             put_answer(stack, top, count, answer)
         }
-        None => Err(Stop::Lost),
+        None => Err(Trap::Stuck),
     }
 }

@@ -1,7 +1,7 @@
-//! `Do`: each operation by its function.
+//! `Apply`: each operation by its function.
 ghost use Rattle.std.specs.Prelude.{◌≡◌, ◌<◌, ◌≤◌, List, length};
 ghost use Rattle.ang_host.specs.Boxes.{members};
-ghost use Rattle.ang_code.specs.declared.instruction.Instruction.TheVariants.{Do};
+ghost use Rattle.ang_code.specs.declared.instruction.Instruction.TheVariants.{Apply};
 ghost use Rattle.ang_heap.specs.Stores.{world_of, IsReady};
 ghost use Rattle.ang_vm_ask.specs.Entities.{DriversThere};
 ghost use Rattle.ang_vm_steps.specs.Turns.{Turned, IsNext};
@@ -17,28 +17,28 @@ use crate::jumps::next;
 use ang_heap::Store;
 use ang_host::Driver;
 use ang_meaning::{Operation, Routine, Slot};
-use ang_vm_stack::place::{Pause, Place};
+use ang_vm_stack::place::{Pause, Cursor};
 use ang_vm_stack::table::Table;
 
-/// `Do`: an operation takes its operands from the stack, and puts its value there.
+/// `Apply`: an operation takes its operands from the stack, and puts its value there.
 #[inline(always)]
 pub fn do_operation(
     table: &Table,
     body: Routine,
     stack: &mut [Slot],
     store: &mut Store,
-    here: Place,
+    here: Cursor,
     room: usize,
     operation: &Operation,
     size: usize,
-) -> Result<Place, Pause>
+) -> Result<Cursor, Pause>
     requires inside { here.at < size }
     requires in_room { here.top ≤ room }
     requires within { room ≤ length stack.old }
     requires ready { IsReady ⟦<dyn Driver as Driver>⟧ store.old }
     requires counted { AreCounted ⟦<dyn Driver as Driver>⟧ stack.old here.top store.old }
     requires drivers { DriversThere table.now (length (members store.old.drivers)) }
-    ensures turned { IsNext table.now body here (Do operation.now) size
+    ensures turned { IsNext table.now body here (Apply operation.now) size
         → Turned table.now body room here stack.old (world_of ⟦<dyn Driver as Driver>⟧ store.old)
         result stack.new (world_of ⟦<dyn Driver as Driver>⟧ store.new) }
     ensures moves { HasMovedOver ⟦<dyn Driver as Driver>⟧ table.now store.old store.new }
@@ -47,7 +47,7 @@ pub fn do_operation(
 {
     let top = here.top;
     match *operation {
-        Operation::Work(what, at) => next(here, do_work(stack, top, room, what, at)),
+        Operation::Binary(what, at) => next(here, do_work(stack, top, room, what, at)),
         Operation::Compare(what, signed) => next(here, do_compare(stack, top, room, what, signed)),
         Operation::Convert(to) => next(here, do_convert(stack, top, room, to)),
         Operation::Negate(at) => next(here, do_negate(stack, top, room, at)),

@@ -1,14 +1,14 @@
-//! `Do`: operations take their operands from the stack and put their value there.
+//! `Apply`: operations take their operands from the stack and put their value there.
 ghost use Rattle.std.specs.Prelude.{◌≡◌, ℕ, ◌+◌, ◌-◌, ◌<◌, ◌≤◌, ◌∷◌, List, length, IfOk, Err};
 ghost use Rattle.ang_kinds.specs.declared.fault.Fault.{Fault as FaultOf};
 ghost use Rattle.ang_meaning.specs.declared.routine.Routine.{Routine};
-ghost use Rattle.ang_meaning.specs.declared.operation.Operation.TheVariants.{Work, Compare, Convert, Negate, Complement, Not};
+ghost use Rattle.ang_meaning.specs.declared.operation.Operation.TheVariants.{Binary, Compare, Convert, Negate, Complement, Not};
 ghost use Rattle.ang_meaning.specs.World.{World};
 ghost use Rattle.ang_meaning.specs.Results.{drop_some};
 ghost use Rattle.ang_code.specs.declared.instruction.Frame.{Frame};
-ghost use Rattle.ang_code.specs.declared.instruction.Instruction.TheVariants.{Do};
+ghost use Rattle.ang_code.specs.declared.instruction.Instruction.TheVariants.{Apply};
 ghost use Rattle.ang_code.specs.Machine.{At, did};
-ghost use Rattle.ang_vm_stack.specs.declared.stop.Stop.TheVariants.{Fails};
+ghost use Rattle.ang_vm_stack.specs.declared.stop.Trap.TheVariants.{Fails};
 ghost use Rattle.ang_vm_stack.specs.Stacks.{values};
 ghost use Rattle.ang_vm_stack.specs.Arms.{done, went};
 ghost use Rattle.ang_vm_steps.specs.Arms.{ActsAlone};
@@ -19,7 +19,7 @@ use crate::operations::{
 use ang_kinds::{Fault, Prim};
 use ang_meaning::{Arithmetic, Comparison, Slot};
 use ang_vm_stack::stack::{peek, push};
-use ang_vm_stack::stop::Stop;
+use ang_vm_stack::stop::Trap;
 
 /// The answer of an operation that takes `count` operands: its value takes their place, or they stay where
 /// it faults.
@@ -29,7 +29,7 @@ pub(crate) fn put_answer(
     top: usize,
     count: usize,
     answer: Result<Slot, Fault>,
-) -> Result<usize, Stop>
+) -> Result<usize, Trap>
     requires in_use { count ≤ top }
     requires within { top ≤ length stack.old }
     requires room { top - count < length stack.old }
@@ -46,7 +46,7 @@ pub(crate) fn put_answer(
             push(stack, top - count, value);
             Ok(top - count + 1)
         }
-        Err(fault) => Err(Stop::Fails(fault)),
+        Err(fault) => Err(Trap::Fails(fault)),
     }
 }
 
@@ -58,14 +58,14 @@ pub(crate) fn do_work(
     room: usize,
     what: Arithmetic,
     at: Prim,
-) -> Result<usize, Stop>
+) -> Result<usize, Trap>
     requires in_room { top ≤ room }
     requires within { room ≤ length stack.old }
-    ensures acts { ActsAlone (Do (Work what at)) room top stack.old result stack.new }
+    ensures acts { ActsAlone (Apply (Binary what at)) room top stack.old result stack.new }
     ensures in_room { IfOk result (λ n. n ≤ room) }
 {
     if top < 2 {
-        return Err(Stop::Lost);
+        return Err(Trap::Stuck);
     }
     let second = peek(stack, top, 0);
     let first = peek(stack, top, 1);
@@ -81,14 +81,14 @@ pub(crate) fn do_compare(
     room: usize,
     what: Comparison,
     signed: bool,
-) -> Result<usize, Stop>
+) -> Result<usize, Trap>
     requires in_room { top ≤ room }
     requires within { room ≤ length stack.old }
-    ensures acts { ActsAlone (Do (Compare what signed)) room top stack.old result stack.new }
+    ensures acts { ActsAlone (Apply (Compare what signed)) room top stack.old result stack.new }
     ensures in_room { IfOk result (λ n. n ≤ room) }
 {
     if top < 2 {
-        return Err(Stop::Lost);
+        return Err(Trap::Stuck);
     }
     let second = peek(stack, top, 0);
     let first = peek(stack, top, 1);
@@ -103,14 +103,14 @@ pub(crate) fn do_convert(
     top: usize,
     room: usize,
     to: Prim,
-) -> Result<usize, Stop>
+) -> Result<usize, Trap>
     requires in_room { top ≤ room }
     requires within { room ≤ length stack.old }
-    ensures acts { ActsAlone (Do (Convert to)) room top stack.old result stack.new }
+    ensures acts { ActsAlone (Apply (Convert to)) room top stack.old result stack.new }
     ensures in_room { IfOk result (λ n. n ≤ room) }
 {
     if top == 0 {
-        return Err(Stop::Lost);
+        return Err(Trap::Stuck);
     }
     let first = peek(stack, top, 0);
     let answer = convert_slot(to, first);
@@ -124,14 +124,14 @@ pub(crate) fn do_negate(
     top: usize,
     room: usize,
     at: Prim,
-) -> Result<usize, Stop>
+) -> Result<usize, Trap>
     requires in_room { top ≤ room }
     requires within { room ≤ length stack.old }
-    ensures acts { ActsAlone (Do (Negate at)) room top stack.old result stack.new }
+    ensures acts { ActsAlone (Apply (Negate at)) room top stack.old result stack.new }
     ensures in_room { IfOk result (λ n. n ≤ room) }
 {
     if top == 0 {
-        return Err(Stop::Lost);
+        return Err(Trap::Stuck);
     }
     let first = peek(stack, top, 0);
     let answer = negate_slot(at, first);
@@ -145,14 +145,14 @@ pub(crate) fn do_complement(
     top: usize,
     room: usize,
     at: Prim,
-) -> Result<usize, Stop>
+) -> Result<usize, Trap>
     requires in_room { top ≤ room }
     requires within { room ≤ length stack.old }
-    ensures acts { ActsAlone (Do (Complement at)) room top stack.old result stack.new }
+    ensures acts { ActsAlone (Apply (Complement at)) room top stack.old result stack.new }
     ensures in_room { IfOk result (λ n. n ≤ room) }
 {
     if top == 0 {
-        return Err(Stop::Lost);
+        return Err(Trap::Stuck);
     }
     let first = peek(stack, top, 0);
     let answer = complement_slot(at, first);
@@ -161,14 +161,14 @@ pub(crate) fn do_complement(
 
 /// `!` of the top value.
 #[inline(always)]
-pub(crate) fn do_not(stack: &mut [Slot], top: usize, room: usize) -> Result<usize, Stop>
+pub(crate) fn do_not(stack: &mut [Slot], top: usize, room: usize) -> Result<usize, Trap>
     requires in_room { top ≤ room }
     requires within { room ≤ length stack.old }
-    ensures acts { ActsAlone (Do Not) room top stack.old result stack.new }
+    ensures acts { ActsAlone (Apply Not) room top stack.old result stack.new }
     ensures in_room { IfOk result (λ n. n ≤ room) }
 {
     if top == 0 {
-        return Err(Stop::Lost);
+        return Err(Trap::Stuck);
     }
     let first = peek(stack, top, 0);
     let answer = deny_slot(first);

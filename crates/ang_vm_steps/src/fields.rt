@@ -1,17 +1,17 @@
-//! `Do`: operations on script objects.
+//! `Apply`: operations on script objects.
 ghost use Rattle.std.specs.Prelude.{◌≡◌, ℕ, ◌≤◌, ◌∷◌, List, [], length, IfOk};
 ghost use Rattle.ang_meaning.specs.declared.operation.Operation.TheVariants.{Make, FieldGet, FieldSet, FieldChange, Cast};
-ghost use Rattle.ang_code.specs.declared.instruction.Instruction.TheVariants.{Do};
+ghost use Rattle.ang_code.specs.declared.instruction.Instruction.TheVariants.{Apply};
 ghost use Rattle.ang_heap.specs.Stores.{IsReady, HasMoved};
 ghost use Rattle.ang_vm_steps.specs.Arms.{AreCounted, ActsOn, TableActs};
 
 use crate::doing::put_answer;
 use ang_heap::Store;
 use ang_host::Driver;
-use ang_meaning::{Change, Routine, Slot};
+use ang_meaning::{Update, Routine, Slot};
 use ang_vm_ask::fields::{alter, cast_value, get, make, set};
 use ang_vm_stack::stack::peek;
-use ang_vm_stack::stop::Stop;
+use ang_vm_stack::stop::Trap;
 use ang_vm_stack::table::{Table, class_at};
 
 /// `Make`: a new object of a class of the running module goes on top.
@@ -23,22 +23,22 @@ pub(crate) fn make_object(
     top: usize,
     room: usize,
     class: usize,
-) -> Result<usize, Stop>
+) -> Result<usize, Trap>
     requires in_room { top ≤ room }
     requires within { room ≤ length stack.old }
     requires ready { IsReady ⟦<dyn Driver as Driver>⟧ store.old }
     requires counted { AreCounted ⟦<dyn Driver as Driver>⟧ stack.old top store.old }
-    ensures acts { TableActs ⟦<dyn Driver as Driver>⟧ table.now body (Do (Make class)) room top
+    ensures acts { TableActs ⟦<dyn Driver as Driver>⟧ table.now body (Apply (Make class)) room top
         stack.old store.old result stack.new store.new }
     ensures in_room { IfOk result (λ n. n ≤ room) }
     ensures moves { HasMoved ⟦<dyn Driver as Driver>⟧ store.old store.new }
 {
     let found = match class_at(table, body.home, class) {
         Some(found) => found,
-        None => return Err(Stop::Lost),
+        None => return Err(Trap::Stuck),
     };
     if top >= room {
-        return Err(Stop::Lost);
+        return Err(Trap::Stuck);
     }
     let answer = make(store, found);
     put_answer(stack, top, 0, answer)
@@ -51,18 +51,18 @@ pub(crate) fn get_field(
     top: usize,
     room: usize,
     index: usize,
-) -> Result<usize, Stop>
+) -> Result<usize, Trap>
     requires in_room { top ≤ room }
     requires within { room ≤ length stack.old }
     requires ready { IsReady ⟦<dyn Driver as Driver>⟧ store.old }
     requires counted { AreCounted ⟦<dyn Driver as Driver>⟧ stack.old top store.old }
-    ensures acts { ActsOn ⟦<dyn Driver as Driver>⟧ (Do (FieldGet index)) room top stack.old
+    ensures acts { ActsOn ⟦<dyn Driver as Driver>⟧ (Apply (FieldGet index)) room top stack.old
         store.old result stack.new store.new }
     ensures in_room { IfOk result (λ n. n ≤ room) }
     ensures moves { HasMoved ⟦<dyn Driver as Driver>⟧ store.old store.new }
 {
     if top == 0 {
-        return Err(Stop::Lost);
+        return Err(Trap::Stuck);
     }
     let object = peek(stack, top, 0);
     let answer = get(store, object, index);
@@ -76,18 +76,18 @@ pub(crate) fn set_field(
     top: usize,
     room: usize,
     index: usize,
-) -> Result<usize, Stop>
+) -> Result<usize, Trap>
     requires in_room { top ≤ room }
     requires within { room ≤ length stack.old }
     requires ready { IsReady ⟦<dyn Driver as Driver>⟧ store.old }
     requires counted { AreCounted ⟦<dyn Driver as Driver>⟧ stack.old top store.old }
-    ensures acts { ActsOn ⟦<dyn Driver as Driver>⟧ (Do (FieldSet index)) room top stack.old
+    ensures acts { ActsOn ⟦<dyn Driver as Driver>⟧ (Apply (FieldSet index)) room top stack.old
         store.old result stack.new store.new }
     ensures in_room { IfOk result (λ n. n ≤ room) }
     ensures moves { HasMoved ⟦<dyn Driver as Driver>⟧ store.old store.new }
 {
     if top < 2 {
-        return Err(Stop::Lost);
+        return Err(Trap::Stuck);
     }
     let object = peek(stack, top, 0);
     let value = peek(stack, top, 1);
@@ -102,19 +102,19 @@ pub(crate) fn change_field(
     top: usize,
     room: usize,
     index: usize,
-    by: Change,
-) -> Result<usize, Stop>
+    by: Update,
+) -> Result<usize, Trap>
     requires in_room { top ≤ room }
     requires within { room ≤ length stack.old }
     requires ready { IsReady ⟦<dyn Driver as Driver>⟧ store.old }
     requires counted { AreCounted ⟦<dyn Driver as Driver>⟧ stack.old top store.old }
-    ensures acts { ActsOn ⟦<dyn Driver as Driver>⟧ (Do (FieldChange index by)) room top stack.old
+    ensures acts { ActsOn ⟦<dyn Driver as Driver>⟧ (Apply (FieldChange index by)) room top stack.old
         store.old result stack.new store.new }
     ensures in_room { IfOk result (λ n. n ≤ room) }
     ensures moves { HasMoved ⟦<dyn Driver as Driver>⟧ store.old store.new }
 {
     if top < 2 {
-        return Err(Stop::Lost);
+        return Err(Trap::Stuck);
     }
     let object = peek(stack, top, 0);
     let operand = peek(stack, top, 1);
@@ -131,18 +131,18 @@ pub(crate) fn cast(
     top: usize,
     room: usize,
     class: usize,
-) -> Result<usize, Stop>
+) -> Result<usize, Trap>
     requires in_room { top ≤ room }
     requires within { room ≤ length stack.old }
     requires ready { IsReady ⟦<dyn Driver as Driver>⟧ store.old }
     requires counted { AreCounted ⟦<dyn Driver as Driver>⟧ stack.old top store.old }
-    ensures acts { TableActs ⟦<dyn Driver as Driver>⟧ table.now body (Do (Cast class)) room top
+    ensures acts { TableActs ⟦<dyn Driver as Driver>⟧ table.now body (Apply (Cast class)) room top
         stack.old store.old result stack.new store.new }
     ensures in_room { IfOk result (λ n. n ≤ room) }
     ensures moves { HasMoved ⟦<dyn Driver as Driver>⟧ store.old store.new }
 {
     if top == 0 {
-        return Err(Stop::Lost);
+        return Err(Trap::Stuck);
     }
     let value = peek(stack, top, 0);
     let answer = cast_value(table, store, body.home, class, value);

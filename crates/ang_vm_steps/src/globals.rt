@@ -1,17 +1,17 @@
-//! `Do`: operations on the globals of the running module.
+//! `Apply`: operations on the globals of the running module.
 ghost use Rattle.std.specs.Prelude.{◌≡◌, ◌≤◌, ◌∷◌, List, [], length, IfOk};
 ghost use Rattle.ang_meaning.specs.declared.operation.Operation.TheVariants.{GlobalGet, GlobalSet, GlobalChange};
-ghost use Rattle.ang_code.specs.declared.instruction.Instruction.TheVariants.{Do};
+ghost use Rattle.ang_code.specs.declared.instruction.Instruction.TheVariants.{Apply};
 ghost use Rattle.ang_heap.specs.Stores.{IsReady, HasMoved};
 ghost use Rattle.ang_vm_steps.specs.Arms.{AreCounted, BodyActs};
 
 use crate::doing::put_answer;
 use ang_heap::Store;
 use ang_host::Driver;
-use ang_meaning::{Change, Routine, Slot};
+use ang_meaning::{Update, Routine, Slot};
 use ang_vm_ask::globals::{alter, get, set};
 use ang_vm_stack::stack::peek;
-use ang_vm_stack::stop::Stop;
+use ang_vm_stack::stop::Trap;
 
 /// `GlobalGet`: the value of a global goes on top.
 pub(crate) fn get_global(
@@ -21,18 +21,18 @@ pub(crate) fn get_global(
     top: usize,
     room: usize,
     number: usize,
-) -> Result<usize, Stop>
+) -> Result<usize, Trap>
     requires in_room { top ≤ room }
     requires within { room ≤ length stack.old }
     requires ready { IsReady ⟦<dyn Driver as Driver>⟧ store.old }
     requires counted { AreCounted ⟦<dyn Driver as Driver>⟧ stack.old top store.old }
-    ensures acts { BodyActs ⟦<dyn Driver as Driver>⟧ body (Do (GlobalGet number)) room top stack.old
+    ensures acts { BodyActs ⟦<dyn Driver as Driver>⟧ body (Apply (GlobalGet number)) room top stack.old
         store.old result stack.new store.new }
     ensures in_room { IfOk result (λ n. n ≤ room) }
     ensures moves { HasMoved ⟦<dyn Driver as Driver>⟧ store.old store.new }
 {
     if top >= room {
-        return Err(Stop::Lost);
+        return Err(Trap::Stuck);
     }
     let answer = get(store, body.home, number);
     put_answer(stack, top, 0, answer)
@@ -46,18 +46,18 @@ pub(crate) fn set_global(
     top: usize,
     room: usize,
     number: usize,
-) -> Result<usize, Stop>
+) -> Result<usize, Trap>
     requires in_room { top ≤ room }
     requires within { room ≤ length stack.old }
     requires ready { IsReady ⟦<dyn Driver as Driver>⟧ store.old }
     requires counted { AreCounted ⟦<dyn Driver as Driver>⟧ stack.old top store.old }
-    ensures acts { BodyActs ⟦<dyn Driver as Driver>⟧ body (Do (GlobalSet number)) room top stack.old
+    ensures acts { BodyActs ⟦<dyn Driver as Driver>⟧ body (Apply (GlobalSet number)) room top stack.old
         store.old result stack.new store.new }
     ensures in_room { IfOk result (λ n. n ≤ room) }
     ensures moves { HasMoved ⟦<dyn Driver as Driver>⟧ store.old store.new }
 {
     if top == 0 {
-        return Err(Stop::Lost);
+        return Err(Trap::Stuck);
     }
     let value = peek(stack, top, 0);
     let answer = set(store, body.home, number, value);
@@ -72,19 +72,19 @@ pub(crate) fn change_global(
     top: usize,
     room: usize,
     number: usize,
-    by: Change,
-) -> Result<usize, Stop>
+    by: Update,
+) -> Result<usize, Trap>
     requires in_room { top ≤ room }
     requires within { room ≤ length stack.old }
     requires ready { IsReady ⟦<dyn Driver as Driver>⟧ store.old }
     requires counted { AreCounted ⟦<dyn Driver as Driver>⟧ stack.old top store.old }
-    ensures acts { BodyActs ⟦<dyn Driver as Driver>⟧ body (Do (GlobalChange number by)) room top
+    ensures acts { BodyActs ⟦<dyn Driver as Driver>⟧ body (Apply (GlobalChange number by)) room top
         stack.old store.old result stack.new store.new }
     ensures in_room { IfOk result (λ n. n ≤ room) }
     ensures moves { HasMoved ⟦<dyn Driver as Driver>⟧ store.old store.new }
 {
     if top == 0 {
-        return Err(Stop::Lost);
+        return Err(Trap::Stuck);
     }
     let operand = peek(stack, top, 0);
     let answer = alter(store, body.home, number, by, operand);

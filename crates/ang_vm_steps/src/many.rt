@@ -16,7 +16,7 @@ use ang_heap::{Store, give};
 use ang_host::Driver;
 use ang_meaning::Slot;
 use ang_vm_stack::stack::{peek, push};
-use ang_vm_stack::stop::Stop;
+use ang_vm_stack::stop::Trap;
 
 /// Whether no object lives, so that there is nothing to be given up.
 #[inline(always)]
@@ -166,7 +166,7 @@ pub fn leave(
     top: usize,
     room: usize,
     count: usize,
-) -> Result<usize, Stop>
+) -> Result<usize, Trap>
     requires in_room { top ≤ room }
     requires within { room ≤ length stack.now }
     requires ready { IsReady ⟦<dyn Driver as Driver>⟧ store.old }
@@ -177,7 +177,7 @@ pub fn leave(
     ensures moves { HasMoved ⟦<dyn Driver as Driver>⟧ store.old store.new }
 {
     if count > top {
-        return Err(Stop::Lost);
+        return Err(Trap::Stuck);
     }
     give_top(stack, store, top, count);
     Ok(top - count)
@@ -190,7 +190,7 @@ pub fn drop_under(
     top: usize,
     room: usize,
     count: usize,
-) -> Result<usize, Stop>
+) -> Result<usize, Trap>
     requires in_room { top ≤ room }
     requires within { room ≤ length stack.old }
     requires ready { IsReady ⟦<dyn Driver as Driver>⟧ store.old }
@@ -201,11 +201,11 @@ pub fn drop_under(
     ensures moves { HasMoved ⟦<dyn Driver as Driver>⟧ store.old store.new }
 {
     if top == 0 {
-        return Err(Stop::Lost);
+        return Err(Trap::Stuck);
     }
     let rest = top - 1;
     if count > rest {
-        return Err(Stop::Lost);
+        return Err(Trap::Stuck);
     }
     let value = peek(stack, top, 0);
     give_lowest_first(stack, store, rest, count);

@@ -1,9 +1,9 @@
 //! Strict operations on numbers, which touch nothing but the stack.
 ghost use Rattle.std.specs.Prelude.{◌≡◌, ℕ, ◌∷◌, []};
-ghost use Rattle.ang_meaning.specs.declared.operation.Operation.TheVariants.{Work, Compare, Convert, Negate, Complement, Not};
+ghost use Rattle.ang_meaning.specs.declared.operation.Operation.TheVariants.{Binary, Compare, Convert, Negate, Complement, Not};
 ghost use Rattle.ang_meaning.specs.declared.slot.Slot.TheVariants.{Bits};
 ghost use Rattle.ang_meaning.specs.World.{World};
-ghost use Rattle.ang_meaning.specs.Setting.{Setting};
+ghost use Rattle.ang_meaning.specs.Environment.{Environment};
 ghost use Rattle.ang_meaning.specs.Perform.{perform};
 ghost use Rattle.ang_vm_stack.specs.Arms.{done};
 
@@ -18,8 +18,8 @@ use ang_vm_numbers::{compare, complement, convert, deny, negate, work};
 #[inline(always)]
 #[tactic(auto, unfolding(ang_meaning::specs::Perform::perform))]
 pub(crate) fn work_slots(what: Arithmetic, at: Prim, x: Slot, y: Slot) -> Result<Slot, Fault>
-    ensures exact { (z : Setting) (m : ℕ) (w : World)
-        → perform z m (Work what at) (y ∷ x ∷ []) w ≡ done result w }
+    ensures exact { (z : Environment) (m : ℕ) (w : World)
+        → perform z m (Binary what at) (y ∷ x ∷ []) w ≡ done result w }
 {
     match y {
         Slot::Bits(second) => match x {
@@ -37,7 +37,7 @@ pub(crate) fn work_slots(what: Arithmetic, at: Prim, x: Slot, y: Slot) -> Result
 #[inline(always)]
 #[tactic(auto, unfolding(ang_meaning::specs::Perform::perform))]
 pub(crate) fn compare_slots(what: Comparison, signed: bool, x: Slot, y: Slot) -> Result<Slot, Fault>
-    ensures exact { (z : Setting) (m : ℕ) (w : World)
+    ensures exact { (z : Environment) (m : ℕ) (w : World)
         → perform z m (Compare what signed) (y ∷ x ∷ []) w ≡ done result w }
 {
     match y {
@@ -56,7 +56,7 @@ pub(crate) fn compare_slots(what: Comparison, signed: bool, x: Slot, y: Slot) ->
 #[inline(always)]
 #[tactic(auto, unfolding(ang_meaning::specs::Perform::perform))]
 pub(crate) fn convert_slot(to: Prim, x: Slot) -> Result<Slot, Fault>
-    ensures exact { (z : Setting) (m : ℕ) (w : World)
+    ensures exact { (z : Environment) (m : ℕ) (w : World)
         → perform z m (Convert to) (x ∷ []) w ≡ done result w }
 {
     match x {
@@ -72,7 +72,7 @@ pub(crate) fn convert_slot(to: Prim, x: Slot) -> Result<Slot, Fault>
 #[inline(always)]
 #[tactic(auto, unfolding(ang_meaning::specs::Perform::perform))]
 pub(crate) fn negate_slot(at: Prim, x: Slot) -> Result<Slot, Fault>
-    ensures exact { (z : Setting) (m : ℕ) (w : World)
+    ensures exact { (z : Environment) (m : ℕ) (w : World)
         → perform z m (Negate at) (x ∷ []) w ≡ done result w }
 {
     match x {
@@ -88,7 +88,7 @@ pub(crate) fn negate_slot(at: Prim, x: Slot) -> Result<Slot, Fault>
 #[inline(always)]
 #[tactic(auto, unfolding(ang_meaning::specs::Perform::perform))]
 pub(crate) fn complement_slot(at: Prim, x: Slot) -> Result<Slot, Fault>
-    ensures exact { (z : Setting) (m : ℕ) (w : World)
+    ensures exact { (z : Environment) (m : ℕ) (w : World)
         → perform z m (Complement at) (x ∷ []) w ≡ done result w }
 {
     match x {
@@ -104,7 +104,7 @@ pub(crate) fn complement_slot(at: Prim, x: Slot) -> Result<Slot, Fault>
 #[inline(always)]
 #[tactic(auto, unfolding(ang_meaning::specs::Perform::perform))]
 pub(crate) fn deny_slot(x: Slot) -> Result<Slot, Fault>
-    ensures exact { (z : Setting) (m : ℕ) (w : World) → perform z m Not (x ∷ []) w ≡ done result w }
+    ensures exact { (z : Environment) (m : ℕ) (w : World) → perform z m Not (x ∷ []) w ≡ done result w }
 {
     match x {
         Slot::Bits(n) => Ok(Slot::Bits(deny(n))),
@@ -115,8 +115,8 @@ pub(crate) fn deny_slot(x: Slot) -> Result<Slot, Fault>
 #[inline(always)]
 #[tactic(auto, unfolding(ang_meaning::specs::Perform::perform), using(ang_vm_numbers::proofs::Working::work_ends))]
 fn work_bits(what: Arithmetic, at: Prim, x: u64, y: u64) -> Result<Slot, Fault>
-    ensures exact { (z : Setting) (m : ℕ) (w : World)
-        → perform z m (Work what at) (Bits y ∷ Bits x ∷ []) w ≡ done result w }
+    ensures exact { (z : Environment) (m : ℕ) (w : World)
+        → perform z m (Binary what at) (Bits y ∷ Bits x ∷ []) w ≡ done result w }
 {
     match work(what, at, x, y) {
         Ok(n) => Ok(Slot::Bits(n)),

@@ -13,7 +13,7 @@ use ang_vm_ask::fields::trade_member;
 use ang_vm_ask::globals::trade_global;
 use ang_vm_numbers::convert;
 use ang_vm_stack::stack::{peek, poke};
-use ang_vm_stack::stop::Stop;
+use ang_vm_stack::stop::Trap;
 
 /// A value brought to its target's type.
 #[inline(always)]
@@ -40,17 +40,17 @@ pub fn swap_local(
     to: Option<Prim>,
     under: usize,
     with: usize,
-) -> Result<usize, Stop>
+) -> Result<usize, Trap>
     requires in_room { top ≤ room }
     requires within { room ≤ length stack.old }
     ensures acts { ActsAlone (Swap to under with) room top stack.old result stack.new }
     ensures in_room { IfOk result (λ n. n ≤ room) }
 {
     if under >= top {
-        return Err(Stop::Lost);
+        return Err(Trap::Stuck);
     }
     if with >= top {
-        return Err(Stop::Lost);
+        return Err(Trap::Stuck);
     }
     let moved = bring(to, peek(stack, top, under));
     let old = peek(stack, top, with);
@@ -70,7 +70,7 @@ pub fn swap_global(
     to: Option<Prim>,
     under: usize,
     global: usize,
-) -> Result<usize, Stop>
+) -> Result<usize, Trap>
     requires in_room { top ≤ room }
     requires within { room ≤ length stack.old }
     requires ready { IsReady ⟦<dyn Driver as Driver>⟧ store.old }
@@ -81,7 +81,7 @@ pub fn swap_global(
     ensures moves { HasMoved ⟦<dyn Driver as Driver>⟧ store.old store.new }
 {
     if under >= top {
-        return Err(Stop::Lost);
+        return Err(Trap::Stuck);
     }
     let moved = bring(to, peek(stack, top, under));
     let old = trade_global(store, body.home, global, moved);
@@ -100,7 +100,7 @@ pub fn swap_field(
     under: usize,
     object: usize,
     field: usize,
-) -> Result<usize, Stop>
+) -> Result<usize, Trap>
     requires in_room { top ≤ room }
     requires within { room ≤ length stack.old }
     requires ready { IsReady ⟦<dyn Driver as Driver>⟧ store.old }
@@ -111,10 +111,10 @@ pub fn swap_field(
     ensures moves { HasMoved ⟦<dyn Driver as Driver>⟧ store.old store.new }
 {
     if under >= top {
-        return Err(Stop::Lost);
+        return Err(Trap::Stuck);
     }
     if object >= top {
-        return Err(Stop::Lost);
+        return Err(Trap::Stuck);
     }
     let moved = bring(to, peek(stack, top, under));
     let holder = peek(stack, top, object);

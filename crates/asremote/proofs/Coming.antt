@@ -25,7 +25,7 @@ use Rattle.asrun_session.specs.Whole.{long_session_text}
 use Rattle.ang_engine_modules.specs.declared.command.Command.TheVariants.{AddSection}
 use Rattle.asrun_session.specs.declared.action.Action.TheVariants as action
 use Rattle.asrun_session.specs.declared.ending.Status.{Status}
-use Rattle.asrun_session.specs.declared.ending.Stop.{Stop}
+use Rattle.asrun_session.specs.declared.ending.SessionError.{SessionError}
 use Rattle.asrun_session.specs.declared.ending.Status.TheVariants.{AllOk, SomeRefused, BadInput}
 use Rattle.asrun_session.proofs.Appending.{appends_both}
 use Rattle.asrun_session.proofs.Doing.{HasDone, done_nothing, done_more, done_bad, done_all}
@@ -367,7 +367,7 @@ module _ {V : Type 0} {P : V → Type 0} (m : Meanings P) (R : RegistrationList)
           d.follow,
         )
 
-    pub long_over : (r2 w2 : Option (List ℕ)) (ended : Result Status Stop) → OnOk ended (Appends w1 w2 long_session_text) → IfOk ended (λ status. status ≡ BadInput)
+    pub long_over : (r2 w2 : Option (List ℕ)) (ended : Result Status SessionError) → OnOk ended (Appends w1 w2 long_session_text) → IfOk ended (λ status. status ≡ BadInput)
         → IfOk ended (λ status. ByEvents m R xs (λ es. Converses R w budget 0 rold r2 wold w2 dold d1 status es after) ys)
     long_over r2 w2 (Err why) p e = tt
     long_over r2 w2 (Ok status) p e =
@@ -447,7 +447,7 @@ module _ (R : RegistrationList) (w : World) (budget : ℕ) (r1 r2 w0 w1 w2 d0 d1
       })
   started status es after (inr t) = inr (t.0, t.1, kept_appends w0 w1 w2 (t.1 ++ long_session_text) k t.2)
 
-  pub started_over : {V : Type 0} {P : V → Type 0} (m : Meanings P) (xs ys : List (DynBox V Global P)) (after : World) (r : Result Status Stop)
+  pub started_over : {V : Type 0} {P : V → Type 0} (m : Meanings P) (xs ys : List (DynBox V Global P)) (after : World) (r : Result Status SessionError)
       → IfOk r (λ status. ByEvents m R xs (λ es. Converses R w budget 0 r1 r2 w1 w2 d1 d2 status es after) ys)
       → IfOk r (λ status. ByEvents m R xs (λ es. Converses R w budget 1 r1 r2 w0 w2 d0 d2 status es after) ys)
   started_over m xs ys after (Err why) h = tt

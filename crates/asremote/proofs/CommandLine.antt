@@ -8,7 +8,7 @@ use Rattle.clap.specs.declared.error.kind.ErrorKind.TheVariants.{OutOfMemory}
 use Rattle.clap.specs.declared.parser.matches.ArgMatches.{ArgMatches}
 use Rattle.clap.proofs.WalkLemmas.{first_value-rows, one_text-rows}
 use Rattle.asremote.specs.Options.{program, given, flag, budget_given, drivers_given, is_complete, is_right}
-use Rattle.asremote.specs.declared.command.Options.{Options}
+use Rattle.asremote.specs.declared.command.RemoteOptions.{RemoteOptions}
 
 program_simple : is_simple program ≡ true
 program_simple = refl
@@ -40,7 +40,7 @@ refused_right (Ok v) e app words same is passes = tt
 refused_right (Err d) e app words same is passes = λ right. ap kind_of same ∙ passes (right_taken app words is right)
 
 -- a right line has options
-pub not_right : (app : App) (words : List (List ℕ)) (m : ArgMatches) (r : Option Options) → app ≡ program → HasMatchesOf app words m → r ≡ None
+pub not_right : (app : App) (words : List (List ℕ)) (m : ArgMatches) (r : Option RemoteOptions) → app ≡ program → HasMatchesOf app words m → r ≡ None
     → is_some r ≡ is_complete (first_value (found_of m) (codes "profile")) (drivers_given (first_value (found_of m) (codes "drivers"))) (budget_given (first_value (found_of m) (codes "budget")))
     → is_right words ≡ true → ⊥
 not_right app words m r is h none complete right =

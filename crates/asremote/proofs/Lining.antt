@@ -6,7 +6,7 @@ use Rattle.std.proofs.lemmas.List.{append-nil}
 use Rattle.ang_remote.specs.Lines.{IsPlain, IsEnded, IsLast}
 use Rattle.ang_remote.proofs.Streams.{consumes_both, consumes_nothing}
 use Rattle.asrun_lines.specs.Lines.{lines_of, shown_of}
-use Rattle.asrun_session.specs.declared.ending.Stop.{Stop}
+use Rattle.asrun_session.specs.declared.ending.SessionError.{SessionError}
 use Rattle.asremote.specs.Commands.{AreLines, IsCommand, ReadsLines, ReadsCommand, lines_behind, most_command}
 use Rattle.asremote.specs.declared.commands.Next.{Next}
 use Rattle.asremote.specs.declared.commands.Next.TheVariants as next
@@ -132,7 +132,7 @@ pub first_few : (first : List ℕ) (old now : Option (List ℕ)) → IsEnded mos
 first_few first old now e = e.kept.1 (some_more e.body 10)
 
 -- what follows a line is read by what that line says
-pub command_read : (first after shown : List ℕ) (n : ℕ) (old now new : Option (List ℕ)) (r : Result Next Stop) → IsEnded most_command [] first old now
+pub command_read : (first after shown : List ℕ) (n : ℕ) (old now new : Option (List ℕ)) (r : Result Next SessionError) → IsEnded most_command [] first old now
     → n ≡ lines_behind shown → shown ≡ shown_of first → IfOk r (ReadsLines n first after now new) → IfOk r (λ x. ReadsCommand old new x after)
 command_read first after shown n old now new (Err why) e k s h = tt
 command_read first after shown n old now new (Ok x) e k s h =

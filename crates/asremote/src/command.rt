@@ -37,7 +37,7 @@ const FORMATS: &str =
 
 /// What the command line says.
 #[derive(Drop)]
-pub struct Options {
+pub struct RemoteOptions {
     /// The path of the profile.
     pub profile: String,
     /// How many drivers there are, from 1 to 64.
@@ -104,7 +104,7 @@ fn drivers_of(text: Option<&str>) -> Option<u32>
 }
 
 /// The options of a command line that was read. None where a number is not in its range.
-pub fn chosen(alloc: Global, matches: &ArgMatches<'_>) -> Result<Option<Options>, AllocError>
+pub fn chosen(alloc: Global, matches: &ArgMatches<'_>) -> Result<Option<RemoteOptions>, AllocError>
     ensures profile { IfOk result (λ r. IfSome r
         (λ o. first_value (found_of matches.now) (codes "profile")
         ≡ Some (string_bytes o.profile))) }
@@ -137,7 +137,7 @@ pub fn chosen(alloc: Global, matches: &ArgMatches<'_>) -> Result<Option<Options>
     let Some(profile) = matches.get_str("profile") else {
         return Ok(None);
     };
-    Ok(Some(Options {
+    Ok(Some(RemoteOptions {
         profile: String::from_str(alloc, profile)?,
         drivers,
         budget,

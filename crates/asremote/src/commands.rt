@@ -4,7 +4,7 @@ ghost use Rattle.asremote.specs.Commands.{section_lines, lines_behind, most_comm
 
 use ang_remote::{Heard, read_line};
 use asrun_lines::{LineError, SessionLine, is_skipped, session_line, shown};
-use asrun_session::{IoFault, Stop};
+use asrun_session::{IoFault, SessionError};
 use std::alloc::Global;
 use std::io::Read;
 
@@ -52,7 +52,7 @@ fn section_lines(line: &SessionLine) -> u64
 
 /// How many lines of a section follow the line.
 #[tactic(auto, unfolding(crate::specs::Commands::lines_behind))]
-fn lines_behind(alloc: Global, line: &[u8]) -> Result<u64, Stop>
+fn lines_behind(alloc: Global, line: &[u8]) -> Result<u64, SessionError>
     ensures exact { IfOk result (λ n. n ≡ lines_behind line.now) }
 {
     if is_skipped(line) {
@@ -61,12 +61,12 @@ fn lines_behind(alloc: Global, line: &[u8]) -> Result<u64, Stop>
     match session_line(alloc, line) {
         Ok(line) => Ok(section_lines(&line)),
         Err(LineError::BadLine) => Ok(0),
-        Err(LineError::Memory) => Err(Stop::Memory),
+        Err(LineError::Memory) => Err(SessionError::Memory),
     }
 }
 
 /// Reads this many lines, or fewer where the input ends, and appends them to the text.
-fn read_section<S: Read>(input: &mut S, text: &mut Vec<u8>, lines: u64) -> Result<Next, Stop>
+fn read_section<S: Read>(input: &mut S, text: &mut Vec<u8>, lines: u64) -> Result<Next, SessionError>
     requires few { length text.old.items ≤ most_command }
     ensures read { IfOk result (ReadsLines lines text.old.items text.new.items
         (S.remaining input.old) (S.remaining input.new)) }
@@ -77,8 +77,8 @@ fn read_section<S: Read>(input: &mut S, text: &mut Vec<u8>, lines: u64) -> Resul
             Heard::Last => return Ok(Next::Last),
             Heard::End => return Ok(Next::Last),
             Heard::Long => return Ok(Next::TooLong),
-            Heard::Memory => return Err(Stop::Memory),
-            Heard::Failed => return Err(Stop::Fault(IoFault::Read)),
+            Heard::Memory => return Err(SessionError::Memory),
+            Heard::Failed => return Err(SessionError::Fault(IoFault::Read)),
         }
     }
     Ok(Next::Command)
@@ -88,7 +88,7 @@ fn read_section<S: Read>(input: &mut S, text: &mut Vec<u8>, lines: u64) -> Resul
 ///
 /// # Errors
 /// A read fault, and want of memory.
-pub fn read_command<S: Read>(alloc: Global, input: &mut S, text: &mut Vec<u8>) -> Result<Next, Stop>
+pub fn read_command<S: Read>(alloc: Global, input: &mut S, text: &mut Vec<u8>) -> Result<Next, SessionError>
     requires empty { text.old.items ≡ [] }
     ensures read { IfOk result (λ next. ReadsCommand (S.remaining input.old)
         (S.remaining input.new) next text.new.items) }
@@ -101,7 +101,7 @@ pub fn read_command<S: Read>(alloc: Global, input: &mut S, text: &mut Vec<u8>) -
         Heard::Last => Ok(Next::Last),
         Heard::Long => Ok(Next::TooLong),
         Heard::End => Ok(Next::End),
-        Heard::Memory => Err(Stop::Memory),
-        Heard::Failed => Err(Stop::Fault(IoFault::Read)),
+        Heard::Memory => Err(SessionError::Memory),
+        Heard::Failed => Err(SessionError::Fault(IoFault::Read)),
     }
 }

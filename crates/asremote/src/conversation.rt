@@ -17,7 +17,7 @@ use ang_engine::{Engine, NewError, NewRefused};
 use ang_host::{Driver, Drivers};
 use ang_registry::Registry;
 use asrun_session::{
-    IoFault, SessionEnd, Status, Stop, load_profile, outcome_of, print_drivers_error,
+    IoFault, SessionEnd, Status, SessionError, load_profile, outcome_of, print_drivers_error,
     print_no_driver, write_text,
 };
 use std::alloc::Global;
@@ -34,7 +34,7 @@ fn ended(all_ok: bool) -> Status
 }
 
 /// Says that a command is too long.
-fn print_too_long<W: Write>(writer: &mut W) -> Result<Status, Stop>
+fn print_too_long<W: Write>(writer: &mut W) -> Result<Status, SessionError>
     ensures whole { OnOk result
         (Appends (W.contents writer.old) (W.contents writer.new) long_session_text) }
     ensures status { IfOk result (λ status. status ≡ Status.BadInput) }
@@ -55,7 +55,7 @@ fn turns_on<S: Read, W: Write, D: Write>(
     turns: &mut D,
     engine: &mut Engine,
     budget: u64,
-) -> Result<Status, Stop>
+) -> Result<Status, SessionError>
     requires sound { IsSound ⟦<dyn Driver as Driver>⟧ engine.old }
     ensures sound { IsSound ⟦<dyn Driver as Driver>⟧ engine.new }
     ensures registrations { registrations engine.new ≡ registrations engine.old }
@@ -91,7 +91,7 @@ fn turns_on<S: Read, W: Write, D: Write>(
             Next::End => return Ok(ended(all_ok)),
         }
     }
-    Err(Stop::Fault(IoFault::Read))
+    Err(SessionError::Fault(IoFault::Read))
 }
 
 /// Tells the start, and goes on as `turns_on`.
@@ -105,7 +105,7 @@ fn run_turns<S: Read, W: Write, D: Write>(
     turns: &mut D,
     engine: &mut Engine,
     budget: u64,
-) -> Result<Status, Stop>
+) -> Result<Status, SessionError>
     requires sound { IsSound ⟦<dyn Driver as Driver>⟧ engine.old }
     ensures sound { IsSound ⟦<dyn Driver as Driver>⟧ engine.new }
     ensures registrations { registrations engine.new ≡ registrations engine.old }
@@ -128,7 +128,7 @@ fn run_engine<S: Read, W: Write, D: Write>(
     registry: Registry,
     drivers: Drivers,
     budget: u64,
-) -> (Result<Status, Stop>, Vec<Box<dyn Driver>>)
+) -> (Result<Status, SessionError>, Vec<Box<dyn Driver>>)
     requires listed { AreListed ⟦<dyn Driver as Driver>⟧ (members drivers) }
     ensures done { IfOk result.0 (TalksOver ⟦<dyn Driver as Driver>⟧ (members drivers)
         result.1.items budget (S.remaining input.old) (S.remaining input.new)
@@ -150,7 +150,7 @@ fn run_engine<S: Read, W: Write, D: Write>(
             drop(registry);
             let ended = match why {
                 NewError::NoDriver => print_no_driver(writer),
-                NewError::Memory => Err(Stop::Memory),
+                NewError::Memory => Err(SessionError::Memory),
             };
             (ended, drivers.into_boxes())
         }
@@ -166,7 +166,7 @@ fn run_drivers<S: Read, W: Write, D: Write>(
     registry: Registry,
     drivers: Vec<Box<dyn Driver>>,
     budget: u64,
-) -> (Result<Status, Stop>, Vec<Box<dyn Driver>>)
+) -> (Result<Status, SessionError>, Vec<Box<dyn Driver>>)
     requires few { length drivers.items < 2 ^ 60 }
     ensures done { IfOk result.0 (TalksOver ⟦<dyn Driver as Driver>⟧ drivers.items
         result.1.items budget (S.remaining input.old) (S.remaining input.new)

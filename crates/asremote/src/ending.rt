@@ -6,7 +6,7 @@ use asrun_session::{IoFault, Status};
 
 /// How the program ended.
 #[derive(Clone, Copy)]
-pub enum Ending {
+pub enum RemoteExit {
     /// A conversation was held, with this outcome.
     Ran(Result<Status, IoFault>),
     /// The command line asked for help, which was shown.
@@ -20,14 +20,14 @@ pub enum Ending {
 }
 
 /// The exit status of each ending: 0 to 3.
-pub fn code_of(ending: Ending) -> u8
+pub fn code_of(ending: RemoteExit) -> u8
     ensures exact { result ≡ status_of ending }
 {
     match ending {
-        Ending::Ran(Ok(Status::AllOk)) | Ending::Helped => 0,
-        Ending::Ran(Ok(Status::SomeRefused)) => 1,
-        Ending::Ran(Ok(Status::BadInput)) | Ending::Ran(Err(_)) => 2,
-        Ending::BadCommandLine | Ending::CannotOpen => 2,
-        Ending::Ran(Ok(Status::Memory)) | Ending::NoMemory => 3,
+        RemoteExit::Ran(Ok(Status::AllOk)) | RemoteExit::Helped => 0,
+        RemoteExit::Ran(Ok(Status::SomeRefused)) => 1,
+        RemoteExit::Ran(Ok(Status::BadInput)) | RemoteExit::Ran(Err(_)) => 2,
+        RemoteExit::BadCommandLine | RemoteExit::CannotOpen => 2,
+        RemoteExit::Ran(Ok(Status::Memory)) | RemoteExit::NoMemory => 3,
     }
 }

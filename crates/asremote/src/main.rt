@@ -11,10 +11,10 @@ mod options;
 mod shared;
 mod turns;
 
-use crate::command::Options;
+use crate::command::RemoteOptions;
 use crate::conversation::converse;
 use crate::echo::Echo;
-use crate::ending::{Ending, code_of};
+use crate::ending::{RemoteExit, code_of};
 use crate::shared::Shared;
 use ang_host::Driver;
 use ang_remote::Remote;
@@ -56,12 +56,12 @@ fn open_file(rt: &HostRuntime, path: &str) -> io::Result<File> {
 ///
 /// # Errors
 /// A growth of memory was refused before the conversation.
-fn run_file(rt: &HostRuntime, options: &Options) -> Result<Ending, AllocError> {
+fn run_file(rt: &HostRuntime, options: &RemoteOptions) -> Result<RemoteExit, AllocError> {
     let mut profile = match open_file(rt, options.profile.as_str()) {
         Ok(file) => file,
         Err(why) => {
             let _ = eprintln!(rt; "asremote: cannot open {}: {why}", options.profile);
-            return Ok(Ending::CannotOpen);
+            return Ok(RemoteExit::CannotOpen);
         }
     };
     let alloc = rt.alloc();
@@ -73,7 +73,7 @@ fn run_file(rt: &HostRuntime, options: &Options) -> Result<Ending, AllocError> {
     }
     // There are as many boxes as drivers. That they are few is what `converse` asks for.
     if boxes.len() > 64 {
-        return Ok(Ending::BadCommandLine);
+        return Ok(RemoteExit::BadCommandLine);
     }
     let mut input = Echo::new(shared, rt.stdout(), options.echo);
     let mut out = rt.stdout();
@@ -89,20 +89,20 @@ fn run_file(rt: &HostRuntime, options: &Options) -> Result<Ending, AllocError> {
     );
     drop(drivers);
     print_outcome(rt, outcome);
-    Ok(Ending::Ran(outcome))
+    Ok(RemoteExit::Ran(outcome))
 }
 
 /// Reads the command line, and holds the conversation that it asks for.
 ///
 /// # Errors
 /// A growth of memory was refused before the conversation.
-fn run_words(rt: &HostRuntime) -> io::Result<Ending> {
+fn run_words(rt: &HostRuntime) -> io::Result<RemoteExit> {
     let alloc = rt.alloc();
     let words: Vec<String> = match env::args(rt) {
         Ok(words) => words.collect(alloc)?,
         Err(error) if error.kind() == io::ErrorKind::InvalidData => {
             let _ = eprintln!(rt; "asremote: an argument is not text in UTF-8");
-            return Ok(Ending::BadCommandLine);
+            return Ok(RemoteExit::BadCommandLine);
         }
         Err(error) => return Err(error),
     };
@@ -111,14 +111,14 @@ fn run_words(rt: &HostRuntime) -> io::Result<Ending> {
         Ok(options) => Ok(run_file(rt, &options)?),
         Err(error) if error.kind() == clap::error::ErrorKind::OutOfMemory => {
             print_no_memory(rt);
-            Ok(Ending::NoMemory)
+            Ok(RemoteExit::NoMemory)
         }
         Err(error) => {
             let _ = error.print(rt);
             Ok(if error.use_stderr() {
-                Ending::BadCommandLine
+                RemoteExit::BadCommandLine
             } else {
-                Ending::Helped
+                RemoteExit::Helped
             })
         }
     }
@@ -129,7 +129,7 @@ fn main(rt: HostRuntime) -> ExitCode {
         Ok(ending) => ending,
         Err(_) => {
             print_no_memory(&rt);
-            Ending::NoMemory
+            RemoteExit::NoMemory
         }
     };
     ExitCode::from(code_of(ending))

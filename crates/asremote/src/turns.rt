@@ -10,7 +10,7 @@ ghost use Rattle.asremote.specs.Turns.{TakesTurn, TakesOne};
 use ang_engine::Engine;
 use ang_host::Driver;
 use asrun_lines::{LineError, first_line, is_skipped, shown};
-use asrun_session::{IoFault, Stop, perform, print_bad_line, read_act, write_text};
+use asrun_session::{IoFault, SessionError, perform, print_bad_line, read_act, write_text};
 use std::alloc::Global;
 use std::io::Write;
 
@@ -46,7 +46,7 @@ pub fn take_turn<W: Write>(
     text: &[u8],
     number: u64,
     ticks: u64,
-) -> Result<Turn, Stop>
+) -> Result<Turn, SessionError>
     requires sound { IsSound ⟦<dyn Driver as Driver>⟧ engine.old }
     ensures sound { IsSound ⟦<dyn Driver as Driver>⟧ engine.new }
     ensures registrations { registrations engine.new ≡ registrations engine.old }
@@ -71,31 +71,31 @@ pub fn take_turn<W: Write>(
             print_bad_line(alloc, writer, number)?;
             Ok(Turn::Bad)
         }
-        Err(LineError::Memory) => Err(Stop::Memory),
+        Err(LineError::Memory) => Err(SessionError::Memory),
     }
 }
 
 /// The number of the line after a command whose section has this many lines.
-fn advanced(number: u64, lines: u64) -> Result<u64, Stop>
+fn advanced(number: u64, lines: u64) -> Result<u64, SessionError>
     ensures exact { IfOk result (λ n. n ≡ number + (1 + lines)) }
 {
     let next = number.checked_add(1).and_then(|n| n.checked_add(lines));
-    next.ok_or(Stop::Fault(IoFault::Read))
+    next.ok_or(SessionError::Fault(IoFault::Read))
 }
 
 /// Tells that a turn is over, after all that the writer was given.
-pub fn print_done<W: Write, D: Write>(writer: &mut W, turns: &mut D) -> Result<(), Stop>
+pub fn print_done<W: Write, D: Write>(writer: &mut W, turns: &mut D) -> Result<(), SessionError>
     ensures told { OnOk result (Appends (D.contents turns.old) (D.contents turns.new)
         (done_text 1)) }
     ensures kept { Keeps (W.contents writer.old) (W.contents writer.new) }
 {
     if writer.flush().is_err() {
-        return Err(Stop::Fault(IoFault::Write));
+        return Err(SessionError::Fault(IoFault::Write));
     }
     write_text(turns, b"done\n")?;
     match turns.flush() {
         Ok(()) => Ok(()),
-        Err(_) => Err(Stop::Fault(IoFault::Write)),
+        Err(_) => Err(SessionError::Fault(IoFault::Write)),
     }
 }
 
@@ -111,7 +111,7 @@ pub fn one_turn<W: Write, D: Write>(
     text: &[u8],
     number: u64,
     ticks: u64,
-) -> Result<Option<At>, Stop>
+) -> Result<Option<At>, SessionError>
     requires sound { IsSound ⟦<dyn Driver as Driver>⟧ engine.old }
     ensures sound { IsSound ⟦<dyn Driver as Driver>⟧ engine.new }
     ensures registrations { registrations engine.new ≡ registrations engine.old }

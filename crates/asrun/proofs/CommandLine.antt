@@ -8,7 +8,7 @@ use Rattle.clap.specs.declared.error.kind.ErrorKind.TheVariants.{OutOfMemory}
 use Rattle.clap.specs.declared.parser.matches.ArgMatches.{ArgMatches}
 use Rattle.clap.proofs.WalkLemmas.{first_value-rows}
 use Rattle.asrun.specs.Options.{program, given, budget_given, is_complete, is_right}
-use Rattle.asrun.specs.declared.command.Options.{Options}
+use Rattle.asrun.specs.declared.command.RunOptions.{RunOptions}
 
 program_simple : is_simple program ≡ true
 program_simple = refl
@@ -32,7 +32,7 @@ refused_right (Ok v) e app words same is passes = tt
 refused_right (Err d) e app words same is passes = λ right. ap kind_of same ∙ passes (right_taken app words is right)
 
 -- a right line has options
-pub not_right : (app : App) (words : List (List ℕ)) (m : ArgMatches) (r : Option Options) → app ≡ program → HasMatchesOf app words m → r ≡ None
+pub not_right : (app : App) (words : List (List ℕ)) (m : ArgMatches) (r : Option RunOptions) → app ≡ program → HasMatchesOf app words m → r ≡ None
     → is_some r ≡ is_complete (first_value (found_of m) (codes "profile")) (first_value (found_of m) (codes "session")) (budget_given (first_value (found_of m) (codes "budget")))
     → is_right words ≡ true → ⊥
 not_right app words m r is h none complete right =

@@ -43,7 +43,7 @@ docs/FORMATS.md has all lines, what is printed and the exit status; crates/examp
 
 /// What the command line says.
 #[derive(Drop)]
-pub struct Options {
+pub struct RunOptions {
     /// The path of the profile.
     pub profile: String,
     /// The path of the session.
@@ -86,7 +86,7 @@ fn budget_of(text: Option<&str>) -> Option<u64>
 }
 
 /// The options of a command line that was read. None where the budget is no number from 1 to the most.
-pub fn chosen(alloc: Global, matches: &ArgMatches<'_>) -> Result<Option<Options>, AllocError>
+pub fn chosen(alloc: Global, matches: &ArgMatches<'_>) -> Result<Option<RunOptions>, AllocError>
     ensures profile { IfOk result (λ r. IfSome r
         (λ o. first_value (found_of matches.now) (codes "profile")
         ≡ Some (string_bytes o.profile))) }
@@ -111,7 +111,7 @@ pub fn chosen(alloc: Global, matches: &ArgMatches<'_>) -> Result<Option<Options>
     let Some(session) = matches.get_str("session") else {
         return Ok(None);
     };
-    Ok(Some(Options {
+    Ok(Some(RunOptions {
         profile: String::from_str(alloc, profile)?,
         session: String::from_str(alloc, session)?,
         budget,

@@ -6,7 +6,7 @@ use asrun_session::{IoFault, Status};
 
 /// How the program ended.
 #[derive(Clone, Copy)]
-pub enum Ending {
+pub enum ProgramExit {
     /// A session was run, with this outcome.
     Ran(Result<Status, IoFault>),
     /// The command line asked for help, which was shown.
@@ -20,14 +20,14 @@ pub enum Ending {
 }
 
 /// The exit status of each ending: 0 to 3.
-pub fn code_of(ending: Ending) -> u8
+pub fn code_of(ending: ProgramExit) -> u8
     ensures exact { result ≡ status_of ending }
 {
     match ending {
-        Ending::Ran(Ok(Status::AllOk)) | Ending::Helped => 0,
-        Ending::Ran(Ok(Status::SomeRefused)) => 1,
-        Ending::Ran(Ok(Status::BadInput)) | Ending::Ran(Err(_)) => 2,
-        Ending::BadCommandLine | Ending::CannotOpen => 2,
-        Ending::Ran(Ok(Status::Memory)) | Ending::NoMemory => 3,
+        ProgramExit::Ran(Ok(Status::AllOk)) | ProgramExit::Helped => 0,
+        ProgramExit::Ran(Ok(Status::SomeRefused)) => 1,
+        ProgramExit::Ran(Ok(Status::BadInput)) | ProgramExit::Ran(Err(_)) => 2,
+        ProgramExit::BadCommandLine | ProgramExit::CannotOpen => 2,
+        ProgramExit::Ran(Ok(Status::Memory)) | ProgramExit::NoMemory => 3,
     }
 }

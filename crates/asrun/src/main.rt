@@ -6,8 +6,8 @@ mod command;
 mod ending;
 mod options;
 
-use crate::command::Options;
-use crate::ending::{Ending, code_of};
+use crate::command::RunOptions;
+use crate::ending::{ProgramExit, code_of};
 use ang_drivers::{Cell, Console, Counter};
 use ang_host::Driver;
 pub use asrun_session::{IoFault, SessionEnd, Status, session};
@@ -58,12 +58,12 @@ fn open_or_say(rt: &HostRuntime, path: &str) -> Option<File> {
 ///
 /// # Errors
 /// A growth of memory was refused before the session.
-fn run_files(rt: &HostRuntime, options: &Options) -> Result<Ending, AllocError> {
+fn run_files(rt: &HostRuntime, options: &RunOptions) -> Result<ProgramExit, AllocError> {
     let Some(mut profile) = open_or_say(rt, options.profile.as_str()) else {
-        return Ok(Ending::CannotOpen);
+        return Ok(ProgramExit::CannotOpen);
     };
     let Some(mut session) = open_or_say(rt, options.session.as_str()) else {
-        return Ok(Ending::CannotOpen);
+        return Ok(ProgramExit::CannotOpen);
     };
     let alloc = rt.alloc();
     let mut boxes: Vec<Box<dyn Driver>> = Vec::new(alloc);
@@ -81,20 +81,20 @@ fn run_files(rt: &HostRuntime, options: &Options) -> Result<Ending, AllocError> 
     );
     drop(drivers);
     print_outcome(rt, outcome);
-    Ok(Ending::Ran(outcome))
+    Ok(ProgramExit::Ran(outcome))
 }
 
 /// Reads the command line, and runs the files that it names.
 ///
 /// # Errors
 /// A growth of memory was refused before the session.
-fn run_words(rt: &HostRuntime) -> io::Result<Ending> {
+fn run_words(rt: &HostRuntime) -> io::Result<ProgramExit> {
     let alloc = rt.alloc();
     let words: Vec<String> = match env::args(rt) {
         Ok(words) => words.collect(alloc)?,
         Err(error) if error.kind() == io::ErrorKind::InvalidData => {
             let _ = eprintln!(rt; "asrun: an argument is not text in UTF-8");
-            return Ok(Ending::BadCommandLine);
+            return Ok(ProgramExit::BadCommandLine);
         }
         Err(error) => return Err(error),
     };
@@ -103,14 +103,14 @@ fn run_words(rt: &HostRuntime) -> io::Result<Ending> {
         Ok(options) => Ok(run_files(rt, &options)?),
         Err(error) if error.kind() == clap::error::ErrorKind::OutOfMemory => {
             print_no_memory(rt);
-            Ok(Ending::NoMemory)
+            Ok(ProgramExit::NoMemory)
         }
         Err(error) => {
             let _ = error.print(rt);
             Ok(if error.use_stderr() {
-                Ending::BadCommandLine
+                ProgramExit::BadCommandLine
             } else {
-                Ending::Helped
+                ProgramExit::Helped
             })
         }
     }
@@ -121,7 +121,7 @@ fn main(rt: HostRuntime) -> ExitCode {
         Ok(ending) => ending,
         Err(_) => {
             print_no_memory(&rt);
-            Ending::NoMemory
+            ProgramExit::NoMemory
         }
     };
     ExitCode::from(code_of(ending))

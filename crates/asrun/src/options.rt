@@ -15,7 +15,7 @@ use std::alloc::Global;
 /// # Errors
 /// The error of `clap`: an option that is missing, unknown, given twice or without a value, a budget
 /// that is no number from 1 to 2,147,483,647, a wish for help, or want of memory.
-pub fn options<'a>(alloc: Global, words: &'a [&'a str]) -> Result<command::Options, Error>
+pub fn options<'a>(alloc: Global, words: &'a [&'a str]) -> Result<command::RunOptions, Error>
     ensures profile { IfOk result (λ o. given (codes "profile") (map (λ w. w.now) words.now)
         ≡ Some (string_bytes o.profile)) }
     ensures session { IfOk result (λ o. given (codes "session") (map (λ w. w.now) words.now)

@@ -21,8 +21,8 @@ use Rattle.asrun_session.specs.Whole.{Ends, Stops, Unread, RunsSession, StopsSes
 use Rattle.asrun_session.specs.Writing.{HasFront, unwritten}
 use Rattle.asrun_session.specs.declared.ending.Status.{Status}
 use Rattle.asrun_session.specs.declared.ending.Status.TheVariants.{BadInput}
-use Rattle.asrun_session.specs.declared.ending.Stop.{Stop}
-use Rattle.asrun_session.specs.declared.ending.Stop.TheVariants.{Memory}
+use Rattle.asrun_session.specs.declared.ending.SessionError.{SessionError}
+use Rattle.asrun_session.specs.declared.ending.SessionError.TheVariants.{Memory}
 use Rattle.asrun_lines.specs.Lines.{lines_of}
 use Rattle.asrun_session.specs.Session.{session_from}
 use Rattle.asrun_session.proofs.Doing.{cut_nothing, follow_nothing}
@@ -53,7 +53,7 @@ module _ {V : Type 0} {P : V → Type 0} (m : Meanings P) (R : RegistrationList)
   stops_long xs old new (Some s) budget long front = ([], inl (long, front, (refl, new_engine)), follow_nothing m R xs)
 
   -- its lines were done
-  pub runs_lines : (xs ys : List (DynBox V Global P)) (old new text : Option (List ℕ)) (bytes : List ℕ) (budget : ℕ) (ended : Result Status Stop) (after : World)
+  pub runs_lines : (xs ys : List (DynBox V Global P)) (old new text : Option (List ℕ)) (bytes : List ℕ) (budget : ℕ) (ended : Result Status SessionError) (after : World)
       → IfSome text (λ s. (bytes ≡ s) × (length s ≤ most_session))
       → IfOk ended (λ status. ByEvents m R xs (λ es. IsDone R w (session_from 1 budget 0 (lines_of bytes)) old new status es after) ys)
       → IfOk ended (λ status. IfSome text (λ s. ByEvents m R xs (λ es. RunsSession R s budget old new status es after) ys))
@@ -66,7 +66,7 @@ module _ {V : Type 0} {P : V → Type 0} (m : Meanings P) (R : RegistrationList)
       (h.0, inr (is.1, done), h.2)
 
   -- some of them were
-  pub stops_lines : (xs ys : List (DynBox V Global P)) (old new text : Option (List ℕ)) (bytes : List ℕ) (budget : ℕ) (ended : Result Status Stop) (after : World)
+  pub stops_lines : (xs ys : List (DynBox V Global P)) (old new text : Option (List ℕ)) (bytes : List ℕ) (budget : ℕ) (ended : Result Status SessionError) (after : World)
       → IfSome text (λ s. (bytes ≡ s) × (length s ≤ most_session))
       → OnErr ended (ByEvents m R xs (λ es. IsCut R w (session_from 1 budget 0 (lines_of bytes)) old new es after) ys)
       → OnErr ended (IfSome text (λ s. ByEvents m R xs (λ es. StopsSession R s budget old new es after) ys))
@@ -81,7 +81,7 @@ module _ {V : Type 0} {P : V → Type 0} (m : Meanings P) (R : RegistrationList)
 -- ---- no engine took the drivers
 
 pub ends_refused : {V : Type 0} {P : V → Type 0} (m : Meanings P) (R : RegistrationList) (xs ys : List (DynBox V Global P)) (old new text : Option (List ℕ))
-    (budget : ℕ) (why : EngineRefusal) (ended : Result Status Stop) → ys ≡ xs → IsRefused m R xs why → OnOk ended (Appends old new (engine_text why))
+    (budget : ℕ) (why : EngineRefusal) (ended : Result Status SessionError) → ys ≡ xs → IsRefused m R xs why → OnOk ended (Appends old new (engine_text why))
     → IfOk ended (λ status. status ≡ BadInput) → IfOk ended (λ status. IfSome text (λ s. Ends m xs ys old new (Ok R) s budget status))
 ends_refused m R xs ys old new text budget why (Err stop) back refused printed ending = tt
 ends_refused m R xs ys old new None budget why (Ok status) back refused printed ending = tt
@@ -89,7 +89,7 @@ ends_refused m R xs ys old new (Some s) budget why (Ok status) back refused prin
 
 -- the text that says why was cut short
 pub stops_refused : {V : Type 0} {P : V → Type 0} (m : Meanings P) (R : RegistrationList) (xs ys : List (DynBox V Global P)) (old new text : Option (List ℕ))
-    (budget : ℕ) (why : EngineRefusal) (ended : Result Status Stop) → ys ≡ xs → IsRefused m R xs why → OnErr ended (HasFront old new (engine_text why))
+    (budget : ℕ) (why : EngineRefusal) (ended : Result Status SessionError) → ys ≡ xs → IsRefused m R xs why → OnErr ended (HasFront old new (engine_text why))
     → OnErr ended (IfSome text (λ s. Stops m xs ys old new (Ok R) s budget))
 stops_refused m R xs ys old new text budget why (Ok status) back refused front = tt
 stops_refused m R xs ys old new None budget why (Err stop) back refused front = tt
@@ -97,7 +97,7 @@ stops_refused m R xs ys old new (Some s) budget why (Err stop) back refused fron
 
 -- a write fault then comes after drivers that were refused
 pub read_refused : {V : Type 0} {P : V → Type 0} (m : Meanings P) (R : RegistrationList) (xs : List (DynBox V Global P)) (A : Type 0)
-    (why : EngineRefusal) (ended : Result Status Stop) → IsRefused m R xs why → IfErr ended (λ e. e ≡ unwritten → A ⊎ AreRefused m R xs)
+    (why : EngineRefusal) (ended : Result Status SessionError) → IsRefused m R xs why → IfErr ended (λ e. e ≡ unwritten → A ⊎ AreRefused m R xs)
 read_refused m R xs A why (Ok status) refused = tt
 read_refused m R xs A why (Err stop) refused = λ _. inr (why, refused)
 
@@ -105,14 +105,14 @@ read_refused m R xs A why (Err stop) refused = λ _. inr (why, refused)
 memory_written : Memory ≡ unwritten → ⊥
 memory_written e = cc
 
-pub read_memory : (A : Type 0) (ended : Result Status Stop) → ended ≡ Err Memory → IfErr ended (λ e. e ≡ unwritten → A)
+pub read_memory : (A : Type 0) (ended : Result Status SessionError) → ended ≡ Err Memory → IfErr ended (λ e. e ≡ unwritten → A)
 read_memory A ended is = rw is (λ e. absurd (memory_written e))
 
 -- ---- no engine was made: an entry's driver is not there, or there was no memory
 
 module _ {V : Type 0} {P : V → Type 0} (m : Meanings P) (R : RegistrationList) (xs ys : List (DynBox V Global P)) (old new : Option (List ℕ)) (text : Option (List ℕ)) (budget : ℕ)
     (same : ys ≡ xs) where
-  pub refused_done : (ended : Result Status Stop) → IsRefused m R xs NoDriver → OnOk ended (Appends old new (engine_text NoDriver)) → IfOk ended (λ status. status ≡ BadInput)
+  pub refused_done : (ended : Result Status SessionError) → IsRefused m R xs NoDriver → OnOk ended (Appends old new (engine_text NoDriver)) → IfOk ended (λ status. status ≡ BadInput)
       → IfOk ended (λ status. IfSome text (λ t. Ends m xs ys old new (Ok R) t budget status))
   refused_done (Err stop) refused printed is = tt
   refused_done (Ok status) refused printed is = some text
@@ -121,7 +121,7 @@ module _ {V : Type 0} {P : V → Type 0} (m : Meanings P) (R : RegistrationList)
       some None = tt
       some (Some t) = inl (NoDriver, refused, printed, is, same)
 
-  pub refused_cut : (ended : Result Status Stop) → IsRefused m R xs NoDriver → OnErr ended (HasFront old new (engine_text NoDriver))
+  pub refused_cut : (ended : Result Status SessionError) → IsRefused m R xs NoDriver → OnErr ended (HasFront old new (engine_text NoDriver))
       → OnErr ended (IfSome text (λ t. Stops m xs ys old new (Ok R) t budget))
   refused_cut (Ok status) refused printed = tt
   refused_cut (Err stop) refused printed = some text
@@ -130,10 +130,10 @@ module _ {V : Type 0} {P : V → Type 0} (m : Meanings P) (R : RegistrationList)
       some None = tt
       some (Some t) = inr (inl (NoDriver, refused, printed, same))
 
-  pub memory_done : (ended : Result Status Stop) → ended ≡ Err Memory → IfOk ended (λ status. IfSome text (λ t. Ends m xs ys old new (Ok R) t budget status))
+  pub memory_done : (ended : Result Status SessionError) → ended ≡ Err Memory → IfOk ended (λ status. IfSome text (λ t. Ends m xs ys old new (Ok R) t budget status))
   memory_done ended is = rw is tt
 
-  pub memory_cut : (ended : Result Status Stop) → new ≡ old → OnErr ended (IfSome text (λ t. Stops m xs ys old new (Ok R) t budget))
+  pub memory_cut : (ended : Result Status SessionError) → new ≡ old → OnErr ended (IfSome text (λ t. Stops m xs ys old new (Ok R) t budget))
   memory_cut (Ok status) kept = tt
   memory_cut (Err stop) kept = some text
     where
@@ -162,7 +162,7 @@ module _ {V : Type 0} {P : V → Type 0} (m : Meanings P) (R R' : RegistrationLi
       }
 
   -- the session was done
-  pub ends_taken : (old new text : Option (List ℕ)) (budget : ℕ) (ended : Result Status Stop)
+  pub ends_taken : (old new text : Option (List ℕ)) (budget : ℕ) (ended : Result Status SessionError)
       → IfOk ended (λ status. IfSome text (λ s. ByEvents m R' xs' (λ es. RunsSession R' s budget old new status es w) zs))
       → IfOk ended (λ status. IfSome text (λ s. Ends m xs ys old new (Ok R) s budget status))
   ends_taken old new text budget (Err stop) h = tt
@@ -170,7 +170,7 @@ module _ {V : Type 0} {P : V → Type 0} (m : Meanings P) (R R' : RegistrationLi
   ends_taken old new (Some s) budget (Ok status) h = inr (discarded (λ l. RunsSession l s budget old new status) h)
 
   -- it was cut short
-  pub stops_taken : (old new text : Option (List ℕ)) (budget : ℕ) (ended : Result Status Stop)
+  pub stops_taken : (old new text : Option (List ℕ)) (budget : ℕ) (ended : Result Status SessionError)
       → OnErr ended (IfSome text (λ s. ByEvents m R' xs' (λ es. StopsSession R' s budget old new es w) zs))
       → OnErr ended (IfSome text (λ s. Stops m xs ys old new (Ok R) s budget))
   stops_taken old new text budget (Ok status) h = tt
@@ -183,7 +183,7 @@ module _ {V : Type 0} {P : V → Type 0} (m : Meanings P) (R R' : RegistrationLi
 
 -- the session could not be read
 pub unread_taken : {V : Type 0} {P : V → Type 0} (m : Meanings P) (R : RegistrationList) (xs ys : List (DynBox V Global P)) (old new : Option (List ℕ))
-    (A : Type 0) (ended : Result Status Stop) → (A → WasDiscarded m R xs ys DidNothing)
+    (A : Type 0) (ended : Result Status SessionError) → (A → WasDiscarded m R xs ys DidNothing)
     → IfErr ended (λ e. e ≡ unread → new ≡ old) → IfErr ended (λ e. e ≡ unread → A) → IfErr ended (λ e. e ≡ unread → Unread m xs ys old new (Ok R))
 unread_taken m R xs ys old new A (Ok status) go h k = tt
 unread_taken m R xs ys old new A (Err stop) go h k = λ is. inr (h is, go (k is))

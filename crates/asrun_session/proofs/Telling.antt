@@ -15,8 +15,8 @@ use Rattle.asrun_session.specs.Whole.{RunsSession, Unread, Ends, Stops, Tells, S
 use Rattle.asrun_session.specs.declared.ending.IoFault.TheVariants as io
 use Rattle.asrun_session.specs.declared.ending.Status.{Status}
 use Rattle.asrun_session.specs.declared.ending.Status.TheVariants.{AllOk, SomeRefused, BadInput, Memory}
-use Rattle.asrun_session.specs.declared.ending.Stop.{Stop}
-use Rattle.asrun_session.specs.declared.ending.Stop.TheVariants as stop
+use Rattle.asrun_session.specs.declared.ending.SessionError.{SessionError}
+use Rattle.asrun_session.specs.declared.ending.SessionError.TheVariants as stop
 
 no_status : (b : Bool) → Memory ≡ cond b AllOk SomeRefused → ⊥
 no_status true e = cc
@@ -44,7 +44,7 @@ module _ {V : Type 0} {P : V → Type 0} (m : Meanings P) (xs ys : List (DynBox 
   ends R s budget old new Memory h = absurd (never R s budget old new h)
 
   -- over a profile that was taken
-  tells_taken : (R : RegistrationList) (s : List ℕ) (budget : ℕ) (old new : Option (List ℕ)) (ended : Result Status Stop)
+  tells_taken : (R : RegistrationList) (s : List ℕ) (budget : ℕ) (old new : Option (List ℕ)) (ended : Result Status SessionError)
       → IfOk ended (λ status. Ends m xs ys old new (Ok R) s budget status) → OnErr ended (Stops m xs ys old new (Ok R) s budget)
       → IfErr ended (λ e. e ≡ unread → Unread m xs ys old new (Ok R))
       → Tells m xs ys old new (Ok R) s budget (outcome_of ended)
@@ -54,7 +54,7 @@ module _ {V : Type 0} {P : V → Type 0} (m : Meanings P) (xs ys : List (DynBox 
   tells_taken R s budget old new (Err (stop.Fault io.Read)) h k u = u refl
 
   -- over a profile that was not
-  untaken : (start : Result RegistrationList (List ℕ)) (s : List ℕ) (budget : ℕ) (old new : Option (List ℕ)) (why : Stop) → ys ≡ xs
+  untaken : (start : Result RegistrationList (List ℕ)) (s : List ℕ) (budget : ℕ) (old new : Option (List ℕ)) (why : SessionError) → ys ≡ xs
       → StartStops start old new → (why ≡ unread → new ≡ old) → Tells m xs ys old new start s budget (outcome_of (Err why))
   untaken (Ok R) s budget old new (stop.Fault io.Read) back h u = inl (u refl, back)
   untaken (Ok R) s budget old new (stop.Fault io.Write) back h u = inl (h, back)
@@ -63,7 +63,7 @@ module _ {V : Type 0} {P : V → Type 0} (m : Meanings P) (xs ys : List (DynBox 
   untaken (Err text) s budget old new (stop.Fault io.Write) back h u = (h, back)
   untaken (Err text) s budget old new stop.Memory back h u = (h, back)
 
-  pub tells_untaken : (profile session : Option (List ℕ)) (budget : ℕ) (old new : Option (List ℕ)) (why : Stop) → ys ≡ xs
+  pub tells_untaken : (profile session : Option (List ℕ)) (budget : ℕ) (old new : Option (List ℕ)) (why : SessionError) → ys ≡ xs
       → IfSome profile (λ p. StartStops (start_of p) old new) → (why ≡ unread → new ≡ old)
       → IfSome profile (λ p. IfSome session (λ s. Tells m xs ys old new (start_of p) s budget (outcome_of (Err why))))
   tells_untaken None session budget old new why back h u = tt
@@ -71,7 +71,7 @@ module _ {V : Type 0} {P : V → Type 0} (m : Meanings P) (xs ys : List (DynBox 
   tells_untaken (Some p) (Some s) budget old new why back h u = untaken (start_of p) s budget old new why back h u
 
   -- the whole run, where the profile was taken
-  pub tells : (R : RegistrationList) (profile session : Option (List ℕ)) (budget : ℕ) (old mid new : Option (List ℕ)) (ended : Result Status Stop)
+  pub tells : (R : RegistrationList) (profile session : Option (List ℕ)) (budget : ℕ) (old mid new : Option (List ℕ)) (ended : Result Status SessionError)
       → IfSome profile (λ p. Starts (start_of p) R old mid true)
       → IfOk ended (λ status. IfSome session (λ s. Ends m xs ys mid new (Ok R) s budget status))
       → OnErr ended (IfSome session (λ s. Stops m xs ys mid new (Ok R) s budget))
@@ -94,7 +94,7 @@ never_taken None B h = tt
 never_taken (Some p) B h = none_registered (start_of p) B h
 
 -- a write fault before there was an engine is one over a profile that is refused
-pub unwritten_untaken : (A : Type 0) (B : RegistrationList → Type 0) (profile : Option (List ℕ)) (why : Stop)
+pub unwritten_untaken : (A : Type 0) (B : RegistrationList → Type 0) (profile : Option (List ℕ)) (why : SessionError)
     → (why ≡ unwritten → IfSome profile (λ p. IfOk (start_of p) (λ R. ⊥)))
     → IfErr (outcome_of (Err why)) (λ e. e ≡ io.Write → A ⊎ IfSome profile (λ p. IfOk (start_of p) B))
 unwritten_untaken A B profile stop.Memory h = tt

@@ -21,8 +21,8 @@ use Rattle.asrun_session.specs.declared.ending.IoFault.{IoFault}
 use Rattle.asrun_session.specs.declared.ending.IoFault.TheVariants as io
 use Rattle.asrun_session.specs.declared.ending.Status.{Status}
 use Rattle.asrun_session.specs.declared.ending.Status.TheVariants.{AllOk, SomeRefused, BadInput, Memory}
-use Rattle.asrun_session.specs.declared.ending.Stop.{Stop}
-use Rattle.asrun_session.specs.declared.ending.Stop.TheVariants as stop
+use Rattle.asrun_session.specs.declared.ending.SessionError.{SessionError}
+use Rattle.asrun_session.specs.declared.ending.SessionError.TheVariants as stop
 use Rattle.asrun_session.specs.declared.profile.ProfileFault.{ProfileFault}
 use Rattle.asrun_session.specs.declared.profile.ProfileFault.TheVariants.{BadLine, Refused}
 
@@ -147,7 +147,7 @@ StartStops (Err text) old new = HasFront old new text
 StartStops (Ok R) old new = new ≡ old
 
 -- want of memory is a status, and a fault is none
-abbrev pub outcome_of : Result Status Stop → Result Status IoFault
+abbrev pub outcome_of : Result Status SessionError → Result Status IoFault
 outcome_of (Ok status) = Ok status
 outcome_of (Err stop.Memory) = Ok Memory
 outcome_of (Err (stop.Fault why)) = Err why

@@ -30,7 +30,7 @@ pub enum IoFault {
 
 /// What stops a session before its end.
 #[derive(Clone, Copy, Debug, Error)]
-pub enum Stop {
+pub enum SessionError {
     /// A fault of a reader or of the writer.
     #[error(transparent)]
     Fault(IoFault),
@@ -39,22 +39,22 @@ pub enum Stop {
     Memory,
 }
 
-impl From<AllocError> for Stop {
-    ghost use Rattle.asrun_session.specs.declared.ending.Stop.TheVariants.{Memory};
+impl From<AllocError> for SessionError {
+    ghost use Rattle.asrun_session.specs.declared.ending.SessionError.TheVariants.{Memory};
 
     ghost from_gives = { λ _ e. e ≡ Memory };
 
-    fn from(_e: AllocError) -> Stop {
-        Stop::Memory
+    fn from(_e: AllocError) -> SessionError {
+        SessionError::Memory
     }
 }
 
-impl From<IoFault> for Stop {
-    ghost use Rattle.asrun_session.specs.declared.ending.Stop.TheVariants.{Fault};
+impl From<IoFault> for SessionError {
+    ghost use Rattle.asrun_session.specs.declared.ending.SessionError.TheVariants.{Fault};
 
     ghost from_gives = { λ fault e. e ≡ Fault fault };
 
-    fn from(fault: IoFault) -> Stop {
-        Stop::Fault(fault)
+    fn from(fault: IoFault) -> SessionError {
+        SessionError::Fault(fault)
     }
 }

@@ -17,7 +17,7 @@ mod whole;
 mod writing;
 
 pub use action::{Act, Action, read_act};
-pub use ending::{IoFault, Status, Stop};
+pub use ending::{IoFault, Status, SessionError};
 pub use run::{perform, print_bad_line};
 pub use whole::{
     SessionEnd, load_profile, outcome_of, print_drivers_error, print_no_driver, session,

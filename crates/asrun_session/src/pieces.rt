@@ -6,7 +6,7 @@ ghost use Rattle.asrun_session.specs.Reading.{unread};
 ghost use Rattle.asrun_session.specs.Writing.{HasFront};
 ghost use Rattle.asrun_text.specs.Text.{event_text, error_text, denial_text, outcome_text, reply_text};
 
-use crate::ending::Stop;
+use crate::ending::SessionError;
 use crate::writing::write_text;
 use ang_engine::Reply;
 use ang_host::HostEvent;
@@ -18,7 +18,7 @@ use std::io::Write;
 const PIECE: usize = 32_768;
 
 /// What is pending is written where it is a piece or more.
-fn settle<W: Write>(writer: &mut W, text: &mut Vec<u8>) -> Result<(), Stop>
+fn settle<W: Write>(writer: &mut W, text: &mut Vec<u8>) -> Result<(), SessionError>
     ensures whole { OnOk result ((old : Option (List ℕ)) (given : List ℕ)
         → Holds old (W.contents writer.old) text.old.items given
         → Holds old (W.contents writer.new) text.new.items given) }
@@ -36,7 +36,7 @@ fn settle<W: Write>(writer: &mut W, text: &mut Vec<u8>) -> Result<(), Stop>
 }
 
 /// The line of an event.
-fn add_event<W: Write>(writer: &mut W, text: &mut Vec<u8>, event: &HostEvent) -> Result<(), Stop>
+fn add_event<W: Write>(writer: &mut W, text: &mut Vec<u8>, event: &HostEvent) -> Result<(), SessionError>
     ensures whole { OnOk result ((old : Option (List ℕ)) (given : List ℕ)
         → Holds old (W.contents writer.old) text.old.items given
         → Holds old (W.contents writer.new) text.new.items (given ++ event_text event.now)) }
@@ -54,7 +54,7 @@ pub fn add_events<W: Write>(
     writer: &mut W,
     text: &mut Vec<u8>,
     events: &[HostEvent],
-) -> Result<(), Stop>
+) -> Result<(), SessionError>
     ensures whole { OnOk result ((old : Option (List ℕ)) (given : List ℕ)
         → Holds old (W.contents writer.old) text.old.items given
         → Holds old (W.contents writer.new) text.new.items (given ++ flat_map event_text events.now)) }
@@ -70,7 +70,7 @@ pub fn add_events<W: Write>(
 }
 
 /// The line of an error.
-fn add_error<W: Write>(writer: &mut W, text: &mut Vec<u8>, error: &Error) -> Result<(), Stop>
+fn add_error<W: Write>(writer: &mut W, text: &mut Vec<u8>, error: &Error) -> Result<(), SessionError>
     ensures whole { OnOk result ((old : Option (List ℕ)) (given : List ℕ)
         → Holds old (W.contents writer.old) text.old.items given
         → Holds old (W.contents writer.new) text.new.items (given ++ error_text error.now)) }
@@ -88,7 +88,7 @@ pub fn add_errors<W: Write>(
     writer: &mut W,
     text: &mut Vec<u8>,
     errors: &[Error],
-) -> Result<(), Stop>
+) -> Result<(), SessionError>
     ensures whole { OnOk result ((old : Option (List ℕ)) (given : List ℕ)
         → Holds old (W.contents writer.old) text.old.items given
         → Holds old (W.contents writer.new) text.new.items (given ++ flat_map error_text errors.now)) }
@@ -104,7 +104,7 @@ pub fn add_errors<W: Write>(
 }
 
 /// The line of a denial.
-fn add_denial<W: Write>(writer: &mut W, text: &mut Vec<u8>, denial: Denial) -> Result<(), Stop>
+fn add_denial<W: Write>(writer: &mut W, text: &mut Vec<u8>, denial: Denial) -> Result<(), SessionError>
     ensures whole { OnOk result ((old : Option (List ℕ)) (given : List ℕ)
         → Holds old (W.contents writer.old) text.old.items given
         → Holds old (W.contents writer.new) text.new.items (given ++ denial_text denial)) }
@@ -122,7 +122,7 @@ pub fn add_denials<W: Write>(
     writer: &mut W,
     text: &mut Vec<u8>,
     denials: &[Denial],
-) -> Result<(), Stop>
+) -> Result<(), SessionError>
     ensures whole { OnOk result ((old : Option (List ℕ)) (given : List ℕ)
         → Holds old (W.contents writer.old) text.old.items given
         → Holds old (W.contents writer.new) text.new.items (given ++ flat_map denial_text denials.now)) }
@@ -138,7 +138,7 @@ pub fn add_denials<W: Write>(
 }
 
 /// Prints a reply: its events, errors, denials and outcome, a line for each.
-pub fn print_pieces<W: Write>(writer: &mut W, text: &mut Vec<u8>, reply: &Reply) -> Result<(), Stop>
+pub fn print_pieces<W: Write>(writer: &mut W, text: &mut Vec<u8>, reply: &Reply) -> Result<(), SessionError>
     ensures whole { OnOk result
         (Appends (W.contents writer.old) (W.contents writer.new) (reply_text reply.now)) }
     ensures front { OnErr result

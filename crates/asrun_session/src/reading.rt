@@ -4,7 +4,7 @@ ghost use Rattle.std.specs.Io.KnownBytes.{Consumes, IsAtEnd};
 ghost use Rattle.asrun_session.specs.Reading.{WasRead, IsReadThrough, IsTextOf};
 ghost use Rattle.asrun_session.specs.Writing.{unwritten};
 
-use crate::ending::{IoFault, Stop};
+use crate::ending::{IoFault, SessionError};
 use std::alloc::Global;
 use std::io::Read;
 
@@ -16,7 +16,7 @@ const CHUNK: usize = 4096;
 
 /// What a reader gave.
 #[derive(Drop)]
-pub enum Text {
+pub enum BoundedText {
     /// The whole text.
     Whole(Vec<u8>),
     /// More bytes than the limit.
@@ -24,7 +24,7 @@ pub enum Text {
 }
 
 /// One call of `read`, for at most `room` bytes, which go after the text. Gives how many came.
-fn read_more<R: Read>(reader: &mut R, text: &mut Vec<u8>, room: usize) -> Result<usize, Stop>
+fn read_more<R: Read>(reader: &mut R, text: &mut Vec<u8>, room: usize) -> Result<usize, SessionError>
     requires some { 0 < room }
     ensures taken { IfOk result (λ count. (bytes : List ℕ) × (length bytes ≡ count)
         × (text.new.items ≡ text.old.items ++ bytes)
@@ -37,7 +37,7 @@ fn read_more<R: Read>(reader: &mut R, text: &mut Vec<u8>, room: usize) -> Result
     let most = room.min(CHUNK);
     let count = match reader.read(&mut chunk[..most]) {
         Ok(count) => count,
-        Err(_) => return Err(Stop::Fault(IoFault::Read)),
+        Err(_) => return Err(SessionError::Fault(IoFault::Read)),
     };
     text.extend_from_slice(&chunk[..count])?;
     Ok(count)
@@ -48,7 +48,7 @@ fn read_more<R: Read>(reader: &mut R, text: &mut Vec<u8>, room: usize) -> Result
 /// # Errors
 /// A read fault where `read` fails, interrupted too, or where the text is neither whole nor above its
 /// limit after 1,048,576 calls; and want of memory.
-pub fn read_text<R: Read>(alloc: Global, reader: &mut R, limit: usize) -> Result<Text, Stop>
+pub fn read_text<R: Read>(alloc: Global, reader: &mut R, limit: usize) -> Result<BoundedText, SessionError>
     requires small { limit < 2 ^ 32 }
     ensures read { IfOk result (WasRead limit (R.remaining reader.old) (R.remaining reader.new)) }
     ensures text { IfOk result (λ text. IfSome (R.remaining reader.old) (IsTextOf limit text)) }
@@ -60,11 +60,11 @@ pub fn read_text<R: Read>(alloc: Global, reader: &mut R, limit: usize) -> Result
     for _ in 0..MOST_READS {
         let room = limit + 1 - text.len();
         if read_more(reader, &mut text, room)? == 0 {
-            return Ok(Text::Whole(text));
+            return Ok(BoundedText::Whole(text));
         }
         if limit < text.len() {
-            return Ok(Text::TooLong);
+            return Ok(BoundedText::TooLong);
         }
     }
-    Err(Stop::Fault(IoFault::Read))
+    Err(SessionError::Fault(IoFault::Read))
 }

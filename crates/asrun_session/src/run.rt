@@ -14,7 +14,7 @@ ghost use Rattle.asrun_session.specs.Writing.{HasFront};
 ghost use Rattle.asrun_session.specs.declared.action.Action.TheVariants as action;
 
 use crate::action::{Action, read_act};
-use crate::ending::{Status, Stop};
+use crate::ending::{Status, SessionError};
 use crate::pieces::print_pieces;
 use crate::text::push_bad_line;
 use crate::writing::write_text;
@@ -25,7 +25,7 @@ use std::alloc::Global;
 use std::io::Write;
 
 /// Prints a reply.
-fn print_reply<W: Write>(alloc: Global, writer: &mut W, reply: &Reply) -> Result<(), Stop>
+fn print_reply<W: Write>(alloc: Global, writer: &mut W, reply: &Reply) -> Result<(), SessionError>
     ensures whole { OnOk result
         (Appends (W.contents writer.old) (W.contents writer.new) (reply_text reply.now)) }
     ensures front { OnErr result
@@ -37,7 +37,7 @@ fn print_reply<W: Write>(alloc: Global, writer: &mut W, reply: &Reply) -> Result
 }
 
 /// Prints `line N BadLine`.
-pub fn print_bad_line<W: Write>(alloc: Global, writer: &mut W, number: u64) -> Result<(), Stop>
+pub fn print_bad_line<W: Write>(alloc: Global, writer: &mut W, number: u64) -> Result<(), SessionError>
     ensures whole { OnOk result
         (Appends (W.contents writer.old) (W.contents writer.new) (bad_line_text (Some number))) }
     ensures front { OnErr result
@@ -65,7 +65,7 @@ fn run_command<W: Write>(
     engine: &mut Engine,
     writer: &mut W,
     command: Command,
-) -> Result<bool, Stop>
+) -> Result<bool, SessionError>
     requires sound { IsSound ⟦<dyn Driver as Driver>⟧ engine.old }
     ensures sound { IsSound ⟦<dyn Driver as Driver>⟧ engine.new }
     ensures registrations { registrations engine.new ≡ registrations engine.old }
@@ -88,7 +88,7 @@ pub fn perform<W: Write>(
     writer: &mut W,
     action: Action,
     budget: u64,
-) -> Result<(bool, u64), Stop>
+) -> Result<(bool, u64), SessionError>
     requires sound { IsSound ⟦<dyn Driver as Driver>⟧ engine.old }
     ensures sound { IsSound ⟦<dyn Driver as Driver>⟧ engine.new }
     ensures registrations { registrations engine.new ≡ registrations engine.old }
@@ -119,7 +119,7 @@ pub fn run_session<W: Write>(
     writer: &mut W,
     text: &[u8],
     budget: u64,
-) -> Result<Status, Stop>
+) -> Result<Status, SessionError>
     requires sound { IsSound ⟦<dyn Driver as Driver>⟧ engine.old }
     requires few { length text.now < 2 ^ 32 }
     ensures sound { IsSound ⟦<dyn Driver as Driver>⟧ engine.new }
@@ -156,7 +156,7 @@ pub fn run_session<W: Write>(
                 print_bad_line(alloc, writer, number)?;
                 return Ok(Status::BadInput);
             }
-            Err(LineError::Memory) => return Err(Stop::Memory),
+            Err(LineError::Memory) => return Err(SessionError::Memory),
         }
     }
     Ok(if all_ok {

@@ -13,9 +13,9 @@ ghost use Rattle.asrun_session.specs.Reading.{unread, IsReadThrough};
 ghost use Rattle.asrun_session.specs.Whole.{profile_fault_text, registered_by, most_profile, most_session, start_of, Starts, Tells, StartStops, Ends, Stops, Unread, outcome_of, fresh};
 ghost use Rattle.asrun_session.specs.Writing.{HasFront, unwritten};
 
-use crate::ending::{IoFault, Status, Stop};
+use crate::ending::{IoFault, Status, SessionError};
 use crate::profile::{ProfileFault, ProfileStop, load};
-use crate::reading::{Text, read_text};
+use crate::reading::{BoundedText, read_text};
 use crate::run::run_session;
 use crate::text::push_profile_fault;
 use crate::writing::write_text;
@@ -44,7 +44,7 @@ fn print_profile_fault<W: Write>(
     alloc: Global,
     writer: &mut W,
     fault: ProfileFault,
-) -> Result<(), Stop>
+) -> Result<(), SessionError>
     ensures whole { OnOk result
         (Appends (W.contents writer.old) (W.contents writer.new) (profile_fault_text fault)) }
     ensures front { OnErr result
@@ -63,7 +63,7 @@ fn load_text<W: Write>(
     writer: &mut W,
     registry: &mut Registry,
     text: &[u8],
-) -> Result<bool, Stop>
+) -> Result<bool, SessionError>
     requires few { length text.now < 2 ^ 32 }
     ensures done { IfOk result (Starts (registered_by (loaded 1 registry.old (lines_of text.now)))
         registry.new.entries (W.contents writer.old) (W.contents writer.new)) }
@@ -76,7 +76,7 @@ fn load_text<W: Write>(
 {
     match load(registry, text) {
         Ok(()) => Ok(true),
-        Err(ProfileStop::Memory) => Err(Stop::Memory),
+        Err(ProfileStop::Memory) => Err(SessionError::Memory),
         Err(ProfileStop::Fault(fault)) => {
             print_profile_fault(alloc, writer, fault)?;
             Ok(false)
@@ -90,7 +90,7 @@ pub fn load_profile<R: Read, W: Write>(
     reader: &mut R,
     writer: &mut W,
     registry: &mut Registry,
-) -> Result<bool, Stop>
+) -> Result<bool, SessionError>
     requires new { registry.old ≡ fresh }
     ensures done { IfOk result (λ ok. IfSome (R.remaining reader.old) (λ text.
         Starts (start_of text) registry.new.entries (W.contents writer.old)
@@ -106,8 +106,8 @@ pub fn load_profile<R: Read, W: Write>(
     ensures fault { IfErr result (λ e. e ≡ unread → W.contents writer.new ≡ W.contents writer.old) }
 {
     match read_text(alloc, reader, MOST_PROFILE)? {
-        Text::Whole(text) => load_text(alloc, writer, registry, &text),
-        Text::TooLong => {
+        BoundedText::Whole(text) => load_text(alloc, writer, registry, &text),
+        BoundedText::TooLong => {
             write_text(writer, b"profile 0 TooLong\n")?;
             Ok(false)
         }
@@ -121,7 +121,7 @@ fn run_text<R: Read, W: Write>(
     writer: &mut W,
     engine: &mut Engine,
     budget: u64,
-) -> Result<Status, Stop>
+) -> Result<Status, SessionError>
     requires sound { IsSound ⟦<dyn Driver as Driver>⟧ engine.old }
     requires new { world_in ⟦<dyn Driver as Driver>⟧ engine.old ≡ no_modules }
     ensures sound { IsSound ⟦<dyn Driver as Driver>⟧ engine.new }
@@ -138,8 +138,8 @@ fn run_text<R: Read, W: Write>(
     ensures unused { IfErr result (λ e. e ≡ unread → engine.new ≡ engine.old) }
 {
     match read_text(alloc, reader, MOST_SESSION)? {
-        Text::Whole(text) => run_session(alloc, engine, writer, &text, budget),
-        Text::TooLong => {
+        BoundedText::Whole(text) => run_session(alloc, engine, writer, &text, budget),
+        BoundedText::TooLong => {
             write_text(writer, b"line 0 TooLong\n")?;
             Ok(Status::BadInput)
         }
@@ -147,7 +147,7 @@ fn run_text<R: Read, W: Write>(
 }
 
 /// Prints why the drivers were not taken as a list.
-pub fn print_drivers_error<W: Write>(writer: &mut W, why: DriversError) -> Result<Status, Stop>
+pub fn print_drivers_error<W: Write>(writer: &mut W, why: DriversError) -> Result<Status, SessionError>
     ensures whole { OnOk result
         (Appends (W.contents writer.old) (W.contents writer.new) (engine_text (NotListed why))) }
     ensures status { IfOk result (λ status. status ≡ Status.BadInput) }
@@ -163,7 +163,7 @@ pub fn print_drivers_error<W: Write>(writer: &mut W, why: DriversError) -> Resul
 }
 
 /// Prints that an entry's driver is not there.
-pub fn print_no_driver<W: Write>(writer: &mut W) -> Result<Status, Stop>
+pub fn print_no_driver<W: Write>(writer: &mut W) -> Result<Status, SessionError>
     ensures whole { OnOk result
         (Appends (W.contents writer.old) (W.contents writer.new) (engine_text NoDriver)) }
     ensures status { IfOk result (λ status. status ≡ Status.BadInput) }
@@ -183,7 +183,7 @@ fn run_engine<R: Read, W: Write>(
     registry: Registry,
     drivers: Drivers,
     budget: u64,
-) -> (Result<Status, Stop>, Vec<Box<dyn Driver>>)
+) -> (Result<Status, SessionError>, Vec<Box<dyn Driver>>)
     requires listed { AreListed ⟦<dyn Driver as Driver>⟧ (members drivers) }
     ensures done { IfOk result.0 (λ status. IfSome (R.remaining reader.old) (λ text.
         Ends ⟦<dyn Driver as Driver>⟧ (members drivers) result.1.items
@@ -216,7 +216,7 @@ fn run_engine<R: Read, W: Write>(
             drop(registry);
             let ended = match why {
                 NewError::NoDriver => print_no_driver(writer),
-                NewError::Memory => Err(Stop::Memory),
+                NewError::Memory => Err(SessionError::Memory),
             };
             (ended, drivers.into_boxes())
         }
@@ -231,7 +231,7 @@ fn run_drivers<R: Read, W: Write>(
     registry: Registry,
     drivers: Vec<Box<dyn Driver>>,
     budget: u64,
-) -> (Result<Status, Stop>, Vec<Box<dyn Driver>>)
+) -> (Result<Status, SessionError>, Vec<Box<dyn Driver>>)
     requires few { length drivers.items < 2 ^ 60 }
     ensures done { IfOk result.0 (λ status. IfSome (R.remaining reader.old) (λ text.
         Ends ⟦<dyn Driver as Driver>⟧ drivers.items result.1.items
@@ -259,13 +259,13 @@ fn run_drivers<R: Read, W: Write>(
     }
 }
 
-pub fn outcome_of(ended: Result<Status, Stop>) -> Result<Status, IoFault>
+pub fn outcome_of(ended: Result<Status, SessionError>) -> Result<Status, IoFault>
     ensures exact { result ≡ outcome_of ended }
 {
     match ended {
         Ok(status) => Ok(status),
-        Err(Stop::Memory) => Ok(Status::Memory),
-        Err(Stop::Fault(fault)) => Err(fault),
+        Err(SessionError::Memory) => Ok(Status::Memory),
+        Err(SessionError::Fault(fault)) => Err(fault),
     }
 }
 

@@ -5,7 +5,7 @@ use crate::rows::{Row, checked_of};
 use ang_kinds::{ErrorKind, Mask, Prim, Unbuilt};
 use ang_names::declare;
 use ang_registry::{RegError, Registry, View};
-use ang_typed::{Expression, Statement, Typed};
+use ang_typed::{TypedExpression, TypedStatement, Typed};
 use std::alloc::Global;
 
 /// What a module of the mask sees of `enum Color { RED = 1, BLUE = -2 }`, `void paint(Color)` and
@@ -254,26 +254,26 @@ fn enumerations_stand_where_int_does(rt: HostRuntime) -> Result<(), RegError> {
 }
 
 /// The expression that the one statement of the first function returns.
-fn returned(module: &Typed) -> Option<&Expression> {
+fn returned(module: &Typed) -> Option<&TypedExpression> {
     let function = module.functions.as_slice().first()?;
     match function.body.statements.as_slice() {
-        [Statement::Return(Some(e))] => Some(e),
+        [TypedStatement::Return(Some(e))] => Some(e),
         _ => None,
     }
 }
 
 /// Whether an expression is that number of type `int`, kept in 64 bits.
-fn is_number(e: &Expression, bits: u64) -> bool {
+fn is_number(e: &TypedExpression, bits: u64) -> bool {
     match e {
-        Expression::Number { ty, value } => *ty == Prim::I32 && *value == bits,
+        TypedExpression::Number { ty, value } => *ty == Prim::I32 && *value == bits,
         _ => false,
     }
 }
 
 /// The same of what is brought into an `int`.
-fn is_brought(e: &Expression, bits: u64) -> bool {
+fn is_brought(e: &TypedExpression, bits: u64) -> bool {
     match e {
-        Expression::Convert { from, to, operand } => {
+        TypedExpression::Convert { from, to, operand } => {
             *from == Prim::I32 && *to == Prim::I32 && is_number(operand, bits)
         }
         _ => false,

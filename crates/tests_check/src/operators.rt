@@ -1,12 +1,12 @@
 //! Examples of the language's rules, on operands made by hand.
 
 use ang_check_operators::{
-    Operand, Stop, Target, assignment, binary, boxed, conditional, convert, group, literal,
+    Operand, TypingError, SiteUse, assignment, binary, boxed, conditional, convert, group, literal,
     plain_operand, postfix, prefix, reading,
 };
 use ang_kinds::{ErrorKind, Place, Prim};
 use ang_lex::{Span, Token, TokenKind};
-use ang_typed::{Expression, Site, Variable};
+use ang_typed::{TypedExpression, TypedSite, TypedVariable};
 use ang_types::{ArgType, Lineage};
 use std::alloc::Global;
 
@@ -27,30 +27,30 @@ fn token(kind: TokenKind, column: u32) -> Token {
 }
 
 /// A value of this type.
-fn value(alloc: Global, ty: ArgType, column: u32) -> Result<Operand, Stop> {
-    let tree = boxed(alloc, Expression::Null)?;
+fn value(alloc: Global, ty: ArgType, column: u32) -> Result<Operand, TypingError> {
+    let tree = boxed(alloc, TypedExpression::Null)?;
     Ok(plain_operand(at(column), ty, tree))
 }
 
 /// A local variable of this type.
-fn variable(alloc: Global, ty: ArgType, column: u32, read_only: bool) -> Result<Operand, Stop> {
-    let target = Target {
+fn variable(alloc: Global, ty: ArgType, column: u32, read_only: bool) -> Result<Operand, TypingError> {
+    let target = SiteUse {
         read_only,
         bare: true,
         name: token(TokenKind::Name, column),
     };
-    let site = Site::Named(Variable::Local(0));
+    let site = TypedSite::Named(TypedVariable::Local(0));
     Ok(reading(alloc, at(column), site, ty, target)?)
 }
 
 type Typing = Result<ArgType, Option<(ErrorKind, u32)>>;
 
 /// The type that was given, or what was refused and in which column.
-fn typing(typed: Result<Operand, Stop>) -> Typing {
+fn typing(typed: Result<Operand, TypingError>) -> Typing {
     match typed {
         Ok(operand) => Ok(operand.ty),
-        Err(Stop::Refused(refusal)) => Err(Some((refusal.kind, refusal.place.column))),
-        Err(Stop::Memory) => Err(None),
+        Err(TypingError::Refused(refusal)) => Err(Some((refusal.kind, refusal.place.column))),
+        Err(TypingError::Memory) => Err(None),
     }
 }
 
@@ -64,44 +64,44 @@ fn between(
     left: ArgType,
     operator: TokenKind,
     right: ArgType,
-) -> Result<Operand, Stop> {
+) -> Result<Operand, TypingError> {
     let left = value(alloc, left, 1)?;
     let right = value(alloc, right, 5)?;
     binary(alloc, &objects(alloc), left, operator, right)
 }
 
 /// The operator in front of a value of this type.
-fn in_front(alloc: Global, operator: TokenKind, ty: ArgType) -> Result<Operand, Stop> {
+fn in_front(alloc: Global, operator: TokenKind, ty: ArgType) -> Result<Operand, TypingError> {
     let operand = value(alloc, ty, 2)?;
     prefix(alloc, &objects(alloc), &token(operator, 1), operand)
 }
 
 /// A conversion to the primitive type that is written in front of a value of this type.
-fn converted(alloc: Global, to: Prim, ty: ArgType) -> Result<Operand, Stop> {
+fn converted(alloc: Global, to: Prim, ty: ArgType) -> Result<Operand, TypingError> {
     let operand = value(alloc, ty, 6)?;
     let word = token(TokenKind::Primitive(to), 1);
     convert(alloc, &objects(alloc), &word, operand)
 }
 
 /// `int8(e)` of a value of this type.
-fn narrowed(alloc: Global, ty: ArgType) -> Result<Operand, Stop> {
+fn narrowed(alloc: Global, ty: ArgType) -> Result<Operand, TypingError> {
     converted(alloc, Prim::I8, ty)
 }
 
 /// `++` after a variable in parentheses.
-fn group_counted_up(alloc: Global) -> Result<Operand, Stop> {
+fn group_counted_up(alloc: Global) -> Result<Operand, TypingError> {
     let inner = variable(alloc, I8, 2, false)?;
     postfix(alloc, group(at(1), inner), TokenKind::Increment)
 }
 
 /// `--` after a variable that can't be written.
-fn constant_counted_down(alloc: Global) -> Result<Operand, Stop> {
+fn constant_counted_down(alloc: Global) -> Result<Operand, TypingError> {
     let constant = variable(alloc, I8, 2, true)?;
     postfix(alloc, constant, TokenKind::Decrement)
 }
 
 /// `++` in front of a variable of this type.
-fn counted_up(alloc: Global, ty: ArgType) -> Result<Operand, Stop> {
+fn counted_up(alloc: Global, ty: ArgType) -> Result<Operand, TypingError> {
     let operand = variable(alloc, ty, 2, false)?;
     prefix(
         alloc,
@@ -114,23 +114,23 @@ fn counted_up(alloc: Global, ty: ArgType) -> Result<Operand, Stop> {
 /// A value of this type assigned to what is written in front of it.
 fn stored(
     alloc: Global,
-    written: Result<Operand, Stop>,
+    written: Result<Operand, TypingError>,
     operator: TokenKind,
     ty: ArgType,
-) -> Result<Operand, Stop> {
+) -> Result<Operand, TypingError> {
     let written = written?;
     let value = value(alloc, ty, 6)?;
     assignment(alloc, &objects(alloc), written, &token(operator, 4), value)
 }
 
 /// `@` in front of a variable.
-fn seat(alloc: Global, ty: ArgType, read_only: bool) -> Result<Operand, Stop> {
+fn seat(alloc: Global, ty: ArgType, read_only: bool) -> Result<Operand, TypingError> {
     let inner = variable(alloc, ty, 2, read_only)?;
     prefix(alloc, &objects(alloc), &token(TokenKind::At, 1), inner)
 }
 
 /// `?:` with values of these types.
-fn chosen(alloc: Global, then: ArgType, otherwise: ArgType) -> Result<Operand, Stop> {
+fn chosen(alloc: Global, then: ArgType, otherwise: ArgType) -> Result<Operand, TypingError> {
     let condition = value(alloc, BOOL, 1)?;
     let then = value(alloc, then, 5)?;
     let otherwise = value(alloc, otherwise, 9)?;

@@ -6,7 +6,7 @@ use ang_kinds::{EntityNo, Error, ErrorKind, Mask, Unbuilt};
 use ang_names::declare;
 use ang_registry::{RegError, Registry, View};
 use ang_tree::Script;
-use ang_typed::{Expression, Statement, Typed};
+use ang_typed::{TypedExpression, TypedStatement, Typed};
 use std::alloc::{AllocError, Global};
 
 /// What a module of the mask sees of these: `void put(int64)` under 00000003 (entry 0), and under 00000001
@@ -216,9 +216,9 @@ fn each_body_and_initializer_gives_one_error(rt: HostRuntime) {
 }
 
 /// The entry that an expression calls.
-fn host_called(e: &Expression) -> Option<EntityNo> {
+fn host_called(e: &TypedExpression) -> Option<EntityNo> {
     match e {
-        Expression::HostCall { host, .. } => Some(host.entity),
+        TypedExpression::HostCall { host, .. } => Some(host.entity),
         _ => None,
     }
 }
@@ -229,7 +229,7 @@ fn entry_called(module: &Typed) -> Option<EntityNo> {
         return None;
     };
     match function.body.statements.as_slice() {
-        [Statement::Expression(Some(e))] => host_called(e),
+        [TypedStatement::Expression(Some(e))] => host_called(e),
         _ => None,
     }
 }

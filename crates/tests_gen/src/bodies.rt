@@ -1,28 +1,28 @@
 //! Whole bodies, with the code that docs/MEANING.md ("Code") gives for each construct.
 use crate::modules::{Code, first_unlike};
 use ang_code::{Instruction, RoutineCode};
-use ang_core::{Body, Expression, Statement};
+use ang_core::{CoreBody, CoreExpression, CoreStatement};
 use ang_gen::generate_module;
 use ang_kinds::Prim;
 use ang_meaning::{Arithmetic, Callee, Operation, Passing, Spot, Target};
 use std::alloc::{AllocError, Global};
 
-type Row = Result<Box<Statement>, AllocError>;
+type Row = Result<Box<CoreStatement>, AllocError>;
 
-type Made = Result<Body, AllocError>;
+type Made = Result<CoreBody, AllocError>;
 
-fn row(alloc: Global, statement: Statement) -> Row {
+fn row(alloc: Global, statement: CoreStatement) -> Row {
     Ok(Box::new(alloc, statement)?)
 }
 
-fn boxed(alloc: Global, expression: Expression) -> Result<Box<Expression>, AllocError> {
+fn boxed(alloc: Global, expression: CoreExpression) -> Result<Box<CoreExpression>, AllocError> {
     Ok(Box::new(alloc, expression)?)
 }
 
 fn body(alloc: Global, params: &[Passing], statement: Row) -> Made {
     let statement = statement?;
     let params = Vec::from_slice(alloc, params)?;
-    Ok(Body {
+    Ok(CoreBody {
         params,
         result: Some(Prim::I32),
         statement: Box::into_inner(statement),
@@ -31,11 +31,11 @@ fn body(alloc: Global, params: &[Passing], statement: Row) -> Made {
 
 /// `return b ? a : 2;`
 fn chosen(alloc: Global) -> Row {
-    let test = boxed(alloc, Expression::Local(0))?;
-    let one = boxed(alloc, Expression::Local(1))?;
-    let two = boxed(alloc, Expression::Number(2))?;
-    let choice = boxed(alloc, Expression::Choose(test, one, two))?;
-    row(alloc, Statement::Return(choice))
+    let test = boxed(alloc, CoreExpression::Local(0))?;
+    let one = boxed(alloc, CoreExpression::Local(1))?;
+    let two = boxed(alloc, CoreExpression::Number(2))?;
+    let choice = boxed(alloc, CoreExpression::Choose(test, one, two))?;
+    row(alloc, CoreStatement::Return(choice))
 }
 
 /// `return b ? a : 2;` with the parameters a and b.
@@ -45,26 +45,26 @@ fn choosing(alloc: Global) -> Made {
 
 /// `if (b) break; else continue;`
 fn choice(alloc: Global) -> Row {
-    let leave = row(alloc, Statement::Break)?;
-    let again = row(alloc, Statement::Continue)?;
-    let test = boxed(alloc, Expression::Local(1))?;
-    row(alloc, Statement::If(test, leave, again))
+    let leave = row(alloc, CoreStatement::Break)?;
+    let again = row(alloc, CoreStatement::Continue)?;
+    let test = boxed(alloc, CoreExpression::Local(1))?;
+    row(alloc, CoreStatement::If(test, leave, again))
 }
 
 /// `{ int x = 7; if (b) break; else continue; }`
 fn declaring(alloc: Global) -> Row {
     let choice = choice(alloc)?;
     let mut rows = Vec::with_capacity(alloc, 2)?;
-    rows.push(Statement::Declare(boxed(alloc, Expression::Number(7))?))?;
+    rows.push(CoreStatement::Declare(boxed(alloc, CoreExpression::Number(7))?))?;
     rows.push(Box::into_inner(choice))?;
-    row(alloc, Statement::Block(rows))
+    row(alloc, CoreStatement::Block(rows))
 }
 
 fn repeated(alloc: Global) -> Row {
     let inner = declaring(alloc)?;
-    let step = row(alloc, Statement::Skip)?;
-    let test = boxed(alloc, Expression::Local(0))?;
-    row(alloc, Statement::While(test, inner, step))
+    let step = row(alloc, CoreStatement::Skip)?;
+    let test = boxed(alloc, CoreExpression::Local(0))?;
+    row(alloc, CoreStatement::While(test, inner, step))
 }
 
 /// `while (b) { int x = 7; if (b) break; else continue; }` with the parameter b.
@@ -73,11 +73,11 @@ fn looping(alloc: Global) -> Made {
 }
 
 fn left(alloc: Global) -> Row {
-    let seven = boxed(alloc, Expression::Number(7))?;
-    let back = row(alloc, Statement::Return(seven))?;
-    let nothing = row(alloc, Statement::Block(Vec::new(alloc)))?;
-    let test = boxed(alloc, Expression::Local(0))?;
-    row(alloc, Statement::If(test, back, nothing))
+    let seven = boxed(alloc, CoreExpression::Number(7))?;
+    let back = row(alloc, CoreStatement::Return(seven))?;
+    let nothing = row(alloc, CoreStatement::Block(Vec::new(alloc)))?;
+    let test = boxed(alloc, CoreExpression::Local(0))?;
+    row(alloc, CoreStatement::If(test, back, nothing))
 }
 
 /// `if (b) return 7;` with the parameter b.
@@ -86,9 +86,9 @@ fn returning(alloc: Global) -> Made {
 }
 
 fn endless(alloc: Global) -> Row {
-    let inner = row(alloc, Statement::Skip)?;
-    let test = boxed(alloc, Expression::Number(1))?;
-    row(alloc, Statement::DoWhile(test, inner))
+    let inner = row(alloc, CoreStatement::Skip)?;
+    let test = boxed(alloc, CoreExpression::Number(1))?;
+    row(alloc, CoreStatement::DoWhile(test, inner))
 }
 
 /// `do { } while (true);`
@@ -96,10 +96,10 @@ fn repeating(alloc: Global) -> Made {
     body(alloc, &[], endless(alloc))
 }
 
-fn arguments(alloc: Global) -> Result<Vec<Expression>, AllocError> {
+fn arguments(alloc: Global) -> Result<Vec<CoreExpression>, AllocError> {
     let mut arguments = Vec::with_capacity(alloc, 2)?;
-    arguments.push(Expression::Local(0))?;
-    arguments.push(Expression::Number(0))?;
+    arguments.push(CoreExpression::Local(0))?;
+    arguments.push(CoreExpression::Number(0))?;
     Ok(arguments)
 }
 
@@ -112,11 +112,11 @@ fn called(alloc: Global) -> Row {
     let arguments = arguments(alloc)?;
     let targets = Vec::from_slice(alloc, &[TARGET])?;
     let mut operands = Vec::with_capacity(alloc, 2)?;
-    operands.push(Expression::Number(1))?;
-    operands.push(Expression::Call(Callee::Own(3), arguments, targets))?;
-    let minus = Operation::Work(Arithmetic::Subtract, Prim::I32);
-    let difference = boxed(alloc, Expression::Apply(minus, operands))?;
-    row(alloc, Statement::Evaluate(difference))
+    operands.push(CoreExpression::Number(1))?;
+    operands.push(CoreExpression::Call(Callee::Own(3), arguments, targets))?;
+    let minus = Operation::Binary(Arithmetic::Subtract, Prim::I32);
+    let difference = boxed(alloc, CoreExpression::Apply(minus, operands))?;
+    row(alloc, CoreStatement::Evaluate(difference))
 }
 
 /// `1 - f(a, a);` where the second parameter of f is `&out`, with the parameter a.
@@ -126,9 +126,9 @@ fn calling(alloc: Global) -> Made {
 
 const CHOICE: &[Instruction] = &[
     Instruction::Load(0),
-    Instruction::SkipIfFalse(2),
+    Instruction::JumpIfFalse(2),
     Instruction::Load(1),
-    Instruction::GoOn(1),
+    Instruction::Jump(1),
     Instruction::PushBits(2),
     Instruction::Return(0),
     Instruction::PushBits(0),
@@ -138,24 +138,24 @@ const CHOICE: &[Instruction] = &[
 const LOOP: &[Instruction] = &[
     Instruction::Tick,
     Instruction::Load(0),
-    Instruction::SkipIfFalse(10),
+    Instruction::JumpIfFalse(10),
     Instruction::PushBits(7),
     Instruction::Load(1),
-    Instruction::SkipIfFalse(3),
+    Instruction::JumpIfFalse(3),
     Instruction::Leave(1),
-    Instruction::GoOn(5),
-    Instruction::GoOn(2),
+    Instruction::Jump(5),
+    Instruction::Jump(2),
     Instruction::Leave(1),
-    Instruction::GoOn(1),
+    Instruction::Jump(1),
     Instruction::Leave(1),
-    Instruction::Back(11),
+    Instruction::LoopBack(11),
     Instruction::PushBits(0),
     Instruction::Return(0),
 ];
 
 const CHOICE_WITHOUT_ELSE: &[Instruction] = &[
     Instruction::Load(0),
-    Instruction::SkipIfFalse(2),
+    Instruction::JumpIfFalse(2),
     Instruction::PushBits(7),
     Instruction::Return(0),
     Instruction::PushBits(0),
@@ -163,11 +163,11 @@ const CHOICE_WITHOUT_ELSE: &[Instruction] = &[
 ];
 
 const DO_LOOP: &[Instruction] = &[
-    Instruction::GoOn(3),
+    Instruction::Jump(3),
     Instruction::Tick,
     Instruction::PushBits(1),
-    Instruction::SkipIfFalse(1),
-    Instruction::Back(2),
+    Instruction::JumpIfFalse(1),
+    Instruction::LoopBack(2),
     Instruction::PushBits(0),
     Instruction::Return(0),
 ];
@@ -184,7 +184,7 @@ const CALL: &[Instruction] = &[
         with: 3,
     },
     Instruction::DropUnder(1),
-    Instruction::Do(Operation::Work(Arithmetic::Subtract, Prim::I32)),
+    Instruction::Apply(Operation::Binary(Arithmetic::Subtract, Prim::I32)),
     Instruction::Drop,
     Instruction::PushBits(0),
     Instruction::Return(0),
@@ -199,7 +199,7 @@ const CODES: [Code; 5] = [
 ];
 
 /// The bodies of these codes.
-fn bodies(alloc: Global) -> Result<Vec<Body>, AllocError> {
+fn bodies(alloc: Global) -> Result<Vec<CoreBody>, AllocError> {
     let mut bodies = Vec::with_capacity(alloc, 5)?;
     bodies.push(choosing(alloc)?)?;
     bodies.push(looping(alloc)?)?;

@@ -3,35 +3,35 @@ use ang_code::{Instruction, RoutineCode};
 use ang_gen::generate_module;
 use ang_kinds::{List, Pass, Prim};
 use ang_lower::lower;
-use ang_meaning::{Arithmetic, Callee, Change, Comparison as Test, Operation, Passing};
+use ang_meaning::{Arithmetic, Callee, Update, Comparison as Test, Operation, Passing};
 use ang_typed::{
-    Block, Comparison, Expression, Function, Global as GlobalVariable, Loop, Parameter, Site,
-    Statement, StepKind, Typed, Variable,
+    TypedBlock, Comparison, TypedExpression, TypedFunction, Global as GlobalVariable, TypedLoop, TypedParameter, TypedSite,
+    TypedStatement, StepKind, Typed, TypedVariable,
 };
 use ang_types::ArgType;
 use std::alloc::{AllocError, Global};
 
 const INT: ArgType = ArgType::Plain(Prim::I32);
 
-fn boxed(alloc: Global, e: Expression) -> Result<Box<Expression>, AllocError> {
+fn boxed(alloc: Global, e: TypedExpression) -> Result<Box<TypedExpression>, AllocError> {
     Ok(Box::new(alloc, e)?)
 }
 
-fn number(alloc: Global, value: u64) -> Result<Box<Expression>, AllocError> {
+fn number(alloc: Global, value: u64) -> Result<Box<TypedExpression>, AllocError> {
     let ty = Prim::I32;
-    boxed(alloc, Expression::Number { ty, value })
+    boxed(alloc, TypedExpression::Number { ty, value })
 }
 
 /// The parameter n, which is local 0.
-const N: Site = Site::Named(Variable::Local(0));
+const N: TypedSite = TypedSite::Named(TypedVariable::Local(0));
 
 /// `n > 0`
-fn positive(alloc: Global) -> Result<Box<Expression>, AllocError> {
+fn positive(alloc: Global) -> Result<Box<TypedExpression>, AllocError> {
     let right = number(alloc, 0)?;
-    let left = boxed(alloc, Expression::Read { site: N, ty: INT })?;
+    let left = boxed(alloc, TypedExpression::Read { site: N, ty: INT })?;
     boxed(
         alloc,
-        Expression::Compare {
+        TypedExpression::Compare {
             comparison: Comparison::Greater,
             ty: Prim::I32,
             left,
@@ -41,31 +41,31 @@ fn positive(alloc: Global) -> Result<Box<Expression>, AllocError> {
 }
 
 /// `--n;`
-fn less(alloc: Global) -> Result<Statement, AllocError> {
+fn less(alloc: Global) -> Result<TypedStatement, AllocError> {
     let step = StepKind::DecrementBefore;
     let ty = Prim::I32;
-    let e = boxed(alloc, Expression::Step { site: N, ty, step })?;
-    Ok(Statement::Expression(Some(e)))
+    let e = boxed(alloc, TypedExpression::Step { site: N, ty, step })?;
+    Ok(TypedStatement::Expression(Some(e)))
 }
 
 /// `while (n > 0) { --n; }`
-fn repeated(alloc: Global) -> Result<Box<Loop>, AllocError> {
+fn repeated(alloc: Global) -> Result<Box<TypedLoop>, AllocError> {
     let statements = vec![in alloc; less(alloc)?]?;
     let condition = positive(alloc)?;
-    let body = Block { statements };
-    Ok(Box::new(alloc, Loop { condition, body })?)
+    let body = TypedBlock { statements };
+    Ok(Box::new(alloc, TypedLoop { condition, body })?)
 }
 
 /// `void f(int n) { while (n > 0) { --n; } }`
-fn looping(alloc: Global) -> Result<Function, AllocError> {
+fn looping(alloc: Global) -> Result<TypedFunction, AllocError> {
     let ty = INT;
     let pass = Pass::Value;
-    let parameters = vec![in alloc; Parameter { ty, pass }]?;
-    let statements = vec![in alloc; Statement::While(repeated(alloc)?)]?;
-    Ok(Function {
+    let parameters = vec![in alloc; TypedParameter { ty, pass }]?;
+    let statements = vec![in alloc; TypedStatement::While(repeated(alloc)?)]?;
+    Ok(TypedFunction {
         parameters: List::from_vec(parameters),
         result: ArgType::Void,
-        body: Block { statements },
+        body: TypedBlock { statements },
     })
 }
 
@@ -110,7 +110,7 @@ pub type Code = (
     &'static [Instruction],
 );
 
-const LESS: Change = Change {
+const LESS: Update = Update {
     work: Arithmetic::Subtract,
     at: Prim::I32,
     to: Prim::I32,
@@ -125,12 +125,12 @@ const LOOPING: Code = (
         Instruction::Tick,
         Instruction::Load(0),
         Instruction::PushBits(0),
-        Instruction::Do(Operation::Compare(Test::Greater, true)),
-        Instruction::SkipIfFalse(4),
+        Instruction::Apply(Operation::Compare(Test::Greater, true)),
+        Instruction::JumpIfFalse(4),
         Instruction::PushBits(1),
-        Instruction::Change(LESS, 0),
+        Instruction::Update(LESS, 0),
         Instruction::Drop,
-        Instruction::Back(7),
+        Instruction::LoopBack(7),
         Instruction::PushBits(0),
         Instruction::Return(0),
     ],
@@ -142,7 +142,7 @@ const INITIALIZER: Code = (
     1,
     &[
         Instruction::PushBits(5),
-        Instruction::Do(Operation::GlobalSet(1)),
+        Instruction::Apply(Operation::GlobalSet(1)),
         Instruction::Drop,
         Instruction::PushBits(0),
         Instruction::Return(0),
@@ -153,7 +153,7 @@ const CODES: [Code; 2] = [LOOPING, INITIALIZER];
 
 fn is_same_operation(one: Operation, other: Operation) -> bool {
     match (one, other) {
-        (Operation::Work(one, at), Operation::Work(other, its)) => one == other && at == its,
+        (Operation::Binary(one, at), Operation::Binary(other, its)) => one == other && at == its,
         (Operation::Compare(Test::Less, one), Operation::Compare(Test::Less, other)) => {
             one == other
         }
@@ -167,14 +167,14 @@ fn is_same(one: Instruction, other: Instruction) -> bool {
     match (one, other) {
         (Instruction::PushBits(one), Instruction::PushBits(other)) => one == other,
         (Instruction::Load(one), Instruction::Load(other)) => one == other,
-        (Instruction::Change(by, to), Instruction::Change(other, its)) => by == other && to == its,
-        (Instruction::Do(one), Instruction::Do(other)) => is_same_operation(one, other),
+        (Instruction::Update(by, to), Instruction::Update(other, its)) => by == other && to == its,
+        (Instruction::Apply(one), Instruction::Apply(other)) => is_same_operation(one, other),
         (Instruction::Drop, Instruction::Drop) => true,
         (Instruction::Leave(one), Instruction::Leave(other)) => one == other,
-        (Instruction::SkipIfFalse(one), Instruction::SkipIfFalse(other)) => one == other,
-        (Instruction::GoOn(one), Instruction::GoOn(other)) => one == other,
+        (Instruction::JumpIfFalse(one), Instruction::JumpIfFalse(other)) => one == other,
+        (Instruction::Jump(one), Instruction::Jump(other)) => one == other,
         (Instruction::Tick, Instruction::Tick) => true,
-        (Instruction::Back(one), Instruction::Back(other)) => one == other,
+        (Instruction::LoopBack(one), Instruction::LoopBack(other)) => one == other,
         (Instruction::Enter(Callee::Own(one)), Instruction::Enter(Callee::Own(other))) => {
             one == other
         }

@@ -1,5 +1,5 @@
 use ang_kinds::{Fault, Prim};
-use ang_meaning::{Arithmetic, Change, Comparison};
+use ang_meaning::{Arithmetic, Update, Comparison};
 use ang_vm_numbers::{change, compare, complement, convert, deny, negate, work};
 
 // The 64 bits of a negative number.
@@ -57,7 +57,7 @@ fn operators(rt: HostRuntime) {
     }
 }
 
-const STEP: Change = Change {
+const STEP: Update = Update {
     work: Arithmetic::Add,
     at: Prim::I32,
     to: Prim::U8,

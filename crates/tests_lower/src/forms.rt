@@ -2,74 +2,74 @@
 //! a tree down has nothing to drop before its end.
 use ang_kinds::{List, Pass, Prim};
 use ang_typed::{
-    Argument, Block, Callee, Choice, Comparison, Expression, For, Function,
-    Global as GlobalVariable, Local, Loop, Member, Operator, Parameter, Site, Statement, StepKind,
-    Typed, Variable,
+    TypedArgument, TypedBlock, TypedCallee, TypedChoice, Comparison, TypedExpression, TypedFor, TypedFunction,
+    Global as GlobalVariable, Local, TypedLoop, TypedMember, Operator, TypedParameter, TypedSite, TypedStatement, StepKind,
+    Typed, TypedVariable,
 };
 use ang_types::ArgType;
 use std::alloc::{AllocError, Global};
 
 pub const INT: ArgType = ArgType::Plain(Prim::I32);
 
-pub type Tree = Result<Box<Expression>, AllocError>;
+pub type Tree = Result<Box<TypedExpression>, AllocError>;
 
-pub type Place = Result<Site, AllocError>;
+pub type Place = Result<TypedSite, AllocError>;
 
-pub type Arguments = Result<Vec<Argument>, AllocError>;
+pub type Arguments = Result<Vec<TypedArgument>, AllocError>;
 
-pub type Row = Result<Box<Statement>, AllocError>;
+pub type Row = Result<Box<TypedStatement>, AllocError>;
 
-pub type Rows = Result<Vec<Statement>, AllocError>;
+pub type Rows = Result<Vec<TypedStatement>, AllocError>;
 
 // ---- expressions
 
-pub fn leaf(alloc: Global, e: Expression) -> Tree {
+pub fn leaf(alloc: Global, e: TypedExpression) -> Tree {
     Ok(Box::new(alloc, e)?)
 }
 
 pub fn number(alloc: Global, value: u64) -> Tree {
     let ty = Prim::I32;
-    leaf(alloc, Expression::Number { ty, value })
+    leaf(alloc, TypedExpression::Number { ty, value })
 }
 
 pub fn truth(alloc: Global, value: bool) -> Tree {
-    leaf(alloc, Expression::Truth(value))
+    leaf(alloc, TypedExpression::Truth(value))
 }
 
 pub fn null(alloc: Global) -> Tree {
-    leaf(alloc, Expression::Null)
+    leaf(alloc, TypedExpression::Null)
 }
 
-pub fn named(variable: Variable) -> Place {
-    Ok(Site::Named(variable))
+pub fn named(variable: TypedVariable) -> Place {
+    Ok(TypedSite::Named(variable))
 }
 
 /// A member of an object.
-pub fn member_of(object: Tree, member: Member) -> Place {
+pub fn member_of(object: Tree, member: TypedMember) -> Place {
     let object = object?;
-    Ok(Site::Of { object, member })
+    Ok(TypedSite::Of { object, member })
 }
 
 pub fn read_at(alloc: Global, site: Place) -> Tree {
     let site = site?;
-    leaf(alloc, Expression::Read { site, ty: INT })
+    leaf(alloc, TypedExpression::Read { site, ty: INT })
 }
 
-pub fn value_of(alloc: Global, variable: Variable) -> Tree {
+pub fn value_of(alloc: Global, variable: TypedVariable) -> Tree {
     read_at(alloc, named(variable))
 }
 
 pub fn local(alloc: Global, i: usize) -> Tree {
-    value_of(alloc, Variable::Local(i))
+    value_of(alloc, TypedVariable::Local(i))
 }
 
 pub fn step_at(alloc: Global, site: Place, step: StepKind) -> Tree {
     let site = site?;
     let ty = Prim::I32;
-    leaf(alloc, Expression::Step { site, ty, step })
+    leaf(alloc, TypedExpression::Step { site, ty, step })
 }
 
-pub fn step(alloc: Global, variable: Variable, step: StepKind) -> Tree {
+pub fn step(alloc: Global, variable: TypedVariable, step: StepKind) -> Tree {
     step_at(alloc, named(variable), step)
 }
 
@@ -77,10 +77,10 @@ pub fn assign_at(alloc: Global, site: Place, value: Tree) -> Tree {
     let value = value?;
     let site = site?;
     let ty = INT;
-    leaf(alloc, Expression::Assign { site, ty, value })
+    leaf(alloc, TypedExpression::Assign { site, ty, value })
 }
 
-pub fn assign(alloc: Global, variable: Variable, value: Tree) -> Tree {
+pub fn assign(alloc: Global, variable: TypedVariable, value: Tree) -> Tree {
     assign_at(alloc, named(variable), value)
 }
 
@@ -90,7 +90,7 @@ pub fn compound_at(alloc: Global, site: Place, operator: Operator, value: Tree) 
     let site = site?;
     leaf(
         alloc,
-        Expression::Compound {
+        TypedExpression::Compound {
             site,
             ty: Prim::I32,
             operator,
@@ -102,26 +102,26 @@ pub fn compound_at(alloc: Global, site: Place, operator: Operator, value: Tree) 
 
 pub fn negate(alloc: Global, ty: Prim, operand: Tree) -> Tree {
     let operand = operand?;
-    leaf(alloc, Expression::Negate { ty, operand })
+    leaf(alloc, TypedExpression::Negate { ty, operand })
 }
 
 pub fn complement(alloc: Global, ty: Prim, operand: Tree) -> Tree {
     let operand = operand?;
-    leaf(alloc, Expression::Complement { ty, operand })
+    leaf(alloc, TypedExpression::Complement { ty, operand })
 }
 
 pub fn not(alloc: Global, operand: Tree) -> Tree {
     let operand = operand?;
-    leaf(alloc, Expression::Not { operand })
+    leaf(alloc, TypedExpression::Not { operand })
 }
 
 pub fn converted(alloc: Global, to: Prim, operand: Tree) -> Tree {
     let operand = operand?;
     let from = Prim::I32;
-    leaf(alloc, Expression::Convert { from, to, operand })
+    leaf(alloc, TypedExpression::Convert { from, to, operand })
 }
 
-type Both = (Box<Expression>, Box<Expression>);
+type Both = (Box<TypedExpression>, Box<TypedExpression>);
 
 fn both(left: Tree, right: Tree) -> Result<Both, AllocError> {
     let left = left?;
@@ -133,7 +133,7 @@ pub fn operate(alloc: Global, operator: Operator, left: Tree, right: Tree) -> Tr
     let ty = Prim::I32;
     leaf(
         alloc,
-        Expression::Operate {
+        TypedExpression::Operate {
             operator,
             ty,
             left,
@@ -147,7 +147,7 @@ pub fn compare(alloc: Global, comparison: Comparison, left: Tree, right: Tree) -
     let ty = Prim::I32;
     leaf(
         alloc,
-        Expression::Compare {
+        TypedExpression::Compare {
             comparison,
             ty,
             left,
@@ -158,12 +158,12 @@ pub fn compare(alloc: Global, comparison: Comparison, left: Tree, right: Tree) -
 
 pub fn and(alloc: Global, left: Tree, right: Tree) -> Tree {
     let (left, right) = both(left, right)?;
-    leaf(alloc, Expression::And { left, right })
+    leaf(alloc, TypedExpression::And { left, right })
 }
 
 pub fn or(alloc: Global, left: Tree, right: Tree) -> Tree {
     let (left, right) = both(left, right)?;
-    leaf(alloc, Expression::Or { left, right })
+    leaf(alloc, TypedExpression::Or { left, right })
 }
 
 pub fn choose(alloc: Global, condition: Tree, then: Tree, otherwise: Tree) -> Tree {
@@ -171,7 +171,7 @@ pub fn choose(alloc: Global, condition: Tree, then: Tree, otherwise: Tree) -> Tr
     let condition = condition?;
     leaf(
         alloc,
-        Expression::Choose {
+        TypedExpression::Choose {
             condition,
             then,
             otherwise,
@@ -181,21 +181,21 @@ pub fn choose(alloc: Global, condition: Tree, then: Tree, otherwise: Tree) -> Tr
 
 pub fn same(alloc: Global, left: Tree, right: Tree) -> Tree {
     let (left, right) = both(left, right)?;
-    leaf(alloc, Expression::Same { left, right })
+    leaf(alloc, TypedExpression::Same { left, right })
 }
 
 pub fn cast(alloc: Global, family: usize, operand: Tree) -> Tree {
     let operand = operand?;
-    leaf(alloc, Expression::Cast { family, operand })
+    leaf(alloc, TypedExpression::Cast { family, operand })
 }
 
 /// A call that gives an `int`.
-pub fn call(alloc: Global, callee: Callee, arguments: Arguments) -> Tree {
+pub fn call(alloc: Global, callee: TypedCallee, arguments: Arguments) -> Tree {
     let arguments = arguments?;
     let result = INT;
     leaf(
         alloc,
-        Expression::Call {
+        TypedExpression::Call {
             callee,
             result,
             arguments,
@@ -212,7 +212,7 @@ pub fn make(
     let arguments = arguments?;
     leaf(
         alloc,
-        Expression::Make {
+        TypedExpression::Make {
             family,
             constructor,
             arguments,
@@ -225,14 +225,14 @@ pub fn no_arguments(alloc: Global) -> Arguments {
 }
 
 /// Arguments for two `&out` parameters of the type `int`: a variable of that type, and one of an other type.
-pub fn two_out(alloc: Global, one: Variable, other: Variable, to: ArgType) -> Arguments {
+pub fn two_out(alloc: Global, one: TypedVariable, other: TypedVariable, to: ArgType) -> Arguments {
     let mut arguments = Vec::with_capacity(alloc, 2)?;
-    arguments.push(Argument::Out {
+    arguments.push(TypedArgument::Out {
         variable: one,
         from: INT,
         to: INT,
     })?;
-    arguments.push(Argument::Out {
+    arguments.push(TypedArgument::Out {
         variable: other,
         from: INT,
         to,
@@ -243,12 +243,12 @@ pub fn two_out(alloc: Global, one: Variable, other: Variable, to: ArgType) -> Ar
 /// One argument by value.
 pub fn one_value(alloc: Global, value: Tree) -> Arguments {
     let value = Box::into_inner(value?);
-    Ok(vec![in alloc; Argument::Value { ty: INT, value }]?)
+    Ok(vec![in alloc; TypedArgument::Value { ty: INT, value }]?)
 }
 
 // ---- statements
 
-fn row(alloc: Global, statement: Statement) -> Row {
+fn row(alloc: Global, statement: TypedStatement) -> Row {
     Ok(Box::new(alloc, statement)?)
 }
 
@@ -269,23 +269,23 @@ pub fn only(alloc: Global, statement: Row) -> Rows {
 }
 
 pub fn evaluate(alloc: Global, e: Tree) -> Row {
-    row(alloc, Statement::Expression(Some(e?)))
+    row(alloc, TypedStatement::Expression(Some(e?)))
 }
 
 pub fn nothing(alloc: Global) -> Row {
-    row(alloc, Statement::Expression(None))
+    row(alloc, TypedStatement::Expression(None))
 }
 
 pub fn give_back(alloc: Global, e: Tree) -> Row {
-    row(alloc, Statement::Return(Some(e?)))
+    row(alloc, TypedStatement::Return(Some(e?)))
 }
 
 pub fn go_on(alloc: Global) -> Row {
-    row(alloc, Statement::Continue)
+    row(alloc, TypedStatement::Continue)
 }
 
 pub fn leave(alloc: Global) -> Row {
-    row(alloc, Statement::Break)
+    row(alloc, TypedStatement::Break)
 }
 
 /// `int x = initializer;`
@@ -294,7 +294,7 @@ pub fn one_local(alloc: Global, initializer: Tree) -> Row {
     let ty = INT;
     row(
         alloc,
-        Statement::Locals(vec![in alloc; Local { ty, initializer }]?),
+        TypedStatement::Locals(vec![in alloc; Local { ty, initializer }]?),
     )
 }
 
@@ -307,12 +307,12 @@ pub fn two_locals(alloc: Global) -> Row {
             initializer: None,
         })?;
     }
-    row(alloc, Statement::Locals(locals))
+    row(alloc, TypedStatement::Locals(locals))
 }
 
 pub fn block(alloc: Global, statements: Rows) -> Row {
     let statements = statements?;
-    row(alloc, Statement::Block(Block { statements }))
+    row(alloc, TypedStatement::Block(TypedBlock { statements }))
 }
 
 pub fn choice(alloc: Global, condition: Tree, then: Rows, otherwise: Rows) -> Row {
@@ -321,12 +321,12 @@ pub fn choice(alloc: Global, condition: Tree, then: Rows, otherwise: Rows) -> Ro
     let otherwise = otherwise?;
     row(
         alloc,
-        Statement::If(Box::new(
+        TypedStatement::If(Box::new(
             alloc,
-            Choice {
+            TypedChoice {
                 condition,
-                then: Block { statements: then },
-                otherwise: Block {
+                then: TypedBlock { statements: then },
+                otherwise: TypedBlock {
                     statements: otherwise,
                 },
             },
@@ -334,24 +334,24 @@ pub fn choice(alloc: Global, condition: Tree, then: Rows, otherwise: Rows) -> Ro
     )
 }
 
-fn loop_of(alloc: Global, condition: Tree, statements: Rows) -> Result<Box<Loop>, AllocError> {
+fn loop_of(alloc: Global, condition: Tree, statements: Rows) -> Result<Box<TypedLoop>, AllocError> {
     let condition = condition?;
     let statements = statements?;
-    let body = Block { statements };
-    Ok(Box::new(alloc, Loop { condition, body })?)
+    let body = TypedBlock { statements };
+    Ok(Box::new(alloc, TypedLoop { condition, body })?)
 }
 
 pub fn while_loop(alloc: Global, condition: Tree, statements: Rows) -> Row {
     row(
         alloc,
-        Statement::While(loop_of(alloc, condition, statements)?),
+        TypedStatement::While(loop_of(alloc, condition, statements)?),
     )
 }
 
 pub fn do_loop(alloc: Global, statements: Rows, condition: Tree) -> Row {
     row(
         alloc,
-        Statement::DoWhile(loop_of(alloc, condition, statements)?),
+        TypedStatement::DoWhile(loop_of(alloc, condition, statements)?),
     )
 }
 
@@ -363,13 +363,13 @@ pub fn for_loop(alloc: Global, start: Rows, condition: Tree, step: Tree, body: R
     let steps = vec![in alloc; Box::into_inner(step)]?;
     row(
         alloc,
-        Statement::For(Box::new(
+        TypedStatement::For(Box::new(
             alloc,
-            For {
+            TypedFor {
                 start,
                 condition: Some(condition),
                 steps,
-                body: Block { statements },
+                body: TypedBlock { statements },
             },
         )?),
     )
@@ -378,10 +378,10 @@ pub fn for_loop(alloc: Global, start: Rows, condition: Tree, step: Tree, body: R
 // ---- modules
 
 /// A parameter of the type `int` for each of these ways to pass one.
-fn integers(alloc: Global, passes: &[Pass]) -> Result<Vec<Parameter>, AllocError> {
+fn integers(alloc: Global, passes: &[Pass]) -> Result<Vec<TypedParameter>, AllocError> {
     let mut parameters = Vec::new(alloc);
     for pass in passes {
-        parameters.push(Parameter {
+        parameters.push(TypedParameter {
             ty: INT,
             pass: *pass,
         })?;
@@ -391,14 +391,14 @@ fn integers(alloc: Global, passes: &[Pass]) -> Result<Vec<Parameter>, AllocError
 
 /// A function that gives an `int`.
 pub fn function_of(
-    parameters: Result<Vec<Parameter>, AllocError>,
+    parameters: Result<Vec<TypedParameter>, AllocError>,
     statements: Rows,
-) -> Result<Function, AllocError> {
+) -> Result<TypedFunction, AllocError> {
     let statements = statements?;
     let parameters = List::from_vec(parameters?);
     let result = INT;
-    let body = Block { statements };
-    Ok(Function {
+    let body = TypedBlock { statements };
+    Ok(TypedFunction {
         parameters,
         result,
         body,
@@ -406,14 +406,14 @@ pub fn function_of(
 }
 
 /// A function with a parameter of the type `int` for each of these ways to pass one.
-pub fn function(alloc: Global, passes: &[Pass], statements: Rows) -> Result<Function, AllocError> {
+pub fn function(alloc: Global, passes: &[Pass], statements: Rows) -> Result<TypedFunction, AllocError> {
     function_of(integers(alloc, passes), statements)
 }
 
 /// A module without classes and imports.
 pub fn plain_module(
     alloc: Global,
-    functions: Vec<Function>,
+    functions: Vec<TypedFunction>,
     globals: Vec<GlobalVariable>,
 ) -> Typed {
     Typed {
@@ -428,7 +428,7 @@ pub fn plain_module(
 /// A module of this function alone.
 pub fn module_with(
     alloc: Global,
-    function: Result<Function, AllocError>,
+    function: Result<TypedFunction, AllocError>,
 ) -> Result<Typed, AllocError> {
     let functions = vec![in alloc; function?]?;
     Ok(plain_module(alloc, functions, Vec::new(alloc)))

@@ -8,13 +8,13 @@ use crate::forms::{
 use crate::trees::first_wrong;
 use ang_kinds::{EntityNo, Pass, Prim};
 use ang_typed::{
-    Argument, Callee, HostEntity, Member, Operator, Parameter, StepKind, Typed, Variable,
+    TypedArgument, TypedCallee, HostEntity, TypedMember, Operator, TypedParameter, StepKind, Typed, TypedVariable,
 };
 use ang_types::ArgType;
 use std::alloc::{AllocError, Global};
 
 /// A receiver of a script's class, which is never null.
-const THIS: Parameter = Parameter {
+const THIS: TypedParameter = TypedParameter {
     ty: ArgType::Object {
         number: 1024,
         read_only: false,
@@ -28,7 +28,7 @@ const HANDLE: ArgType = ArgType::Handle {
 };
 
 /// A handle to such an object.
-const OTHER: Parameter = Parameter {
+const OTHER: TypedParameter = TypedParameter {
     ty: HANDLE,
     pass: Pass::Value,
 };
@@ -43,7 +43,7 @@ fn method(alloc: Global, statements: Rows) -> Result<Typed, AllocError> {
 
 /// `o.a`, which is field 2.
 fn field(alloc: Global) -> Place {
-    member_of(local(alloc, 1), Member::Field(2))
+    member_of(local(alloc, 1), TypedMember::Field(2))
 }
 
 /// `o.p`, which is entity 21.
@@ -53,7 +53,7 @@ fn property(alloc: Global) -> Place {
         driver: 0,
         f: 3,
     };
-    member_of(local(alloc, 1), Member::Property(host))
+    member_of(local(alloc, 1), TypedMember::Property(host))
 }
 
 /// `o.a = 1; o.p = 2; o.a += 3; o.p++; return o.a;`
@@ -87,17 +87,17 @@ fn members_of_objects(rt: HostRuntime) -> Result<(), AllocError> {
 /// `a = 1; --a; g(b, c); return a;` of fields a, b and c of `this`, which are 0, 1 and 2, where both parameters of
 /// the import g, which is 7, are `&out`
 fn own(alloc: Global) -> Rows {
-    let stored = assign(alloc, Variable::Field(0), number(alloc, 1));
+    let stored = assign(alloc, TypedVariable::Field(0), number(alloc, 1));
     let rows = only(alloc, evaluate(alloc, stored));
-    let stepped = step(alloc, Variable::Field(0), StepKind::DecrementBefore);
+    let stepped = step(alloc, TypedVariable::Field(0), StepKind::DecrementBefore);
     let rows = then(rows, evaluate(alloc, stepped));
     let small = ArgType::Plain(Prim::U8);
-    let arguments = two_out(alloc, Variable::Field(1), Variable::Field(2), small);
+    let arguments = two_out(alloc, TypedVariable::Field(1), TypedVariable::Field(2), small);
     let rows = then(
         rows,
-        evaluate(alloc, call(alloc, Callee::Import(7), arguments)),
+        evaluate(alloc, call(alloc, TypedCallee::Import(7), arguments)),
     );
-    then(rows, give_back(alloc, value_of(alloc, Variable::Field(0))))
+    then(rows, give_back(alloc, value_of(alloc, TypedVariable::Field(0))))
 }
 
 /// A field of `this` is one of local 0.
@@ -116,9 +116,9 @@ fn fields_of_this(rt: HostRuntime) -> Result<(), AllocError> {
 // ---- making and choosing
 
 /// A receiver, and an `&out` parameter of a handle type for this variable.
-fn receiver_and_out(alloc: Global, variable: Variable) -> Arguments {
+fn receiver_and_out(alloc: Global, variable: TypedVariable) -> Arguments {
     let mut arguments = one_value(alloc, local(alloc, 0))?;
-    arguments.push(Argument::Out {
+    arguments.push(TypedArgument::Out {
         variable,
         from: HANDLE,
         to: HANDLE,
@@ -133,8 +133,8 @@ fn choosing(alloc: Global) -> Rows {
     let rows = only(alloc, evaluate(alloc, made));
     let made = make(alloc, 1, None, no_arguments(alloc));
     let rows = then(rows, evaluate(alloc, made));
-    let arguments = receiver_and_out(alloc, Variable::Local(1));
-    let chosen = call(alloc, Callee::Chosen(4), arguments);
+    let arguments = receiver_and_out(alloc, TypedVariable::Local(1));
+    let chosen = call(alloc, TypedCallee::Chosen(4), arguments);
     let rows = then(rows, evaluate(alloc, chosen));
     let other = cast(alloc, 6, local(alloc, 1));
     then(rows, evaluate(alloc, same(alloc, other, null(alloc))))

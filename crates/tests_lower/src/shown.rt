@@ -1,6 +1,6 @@
 //! Core trees as text.
-use ang_core::{Body, Expression, Statement};
-use ang_meaning::{Arithmetic, Callee, Change, Comparison, Operation, Spot, Target};
+use ang_core::{CoreBody, CoreExpression, CoreStatement};
+use ang_meaning::{Arithmetic, Callee, Update, Comparison, Operation, Spot, Target};
 use std::alloc::{AllocError, Global};
 
 fn work_name(work: Arithmetic) -> &'static str {
@@ -30,20 +30,20 @@ fn test_name(test: Comparison) -> &'static str {
     }
 }
 
-fn change_text(alloc: Global, by: Change) -> Result<String, AllocError> {
-    let Change { work, at, to, old } = by;
+fn change_text(alloc: Global, by: Update) -> Result<String, AllocError> {
+    let Update { work, at, to, old } = by;
     let work = work_name(work);
     format!(in alloc; "Change {{ work: {work}, at: {at:?}, to: {to:?}, old: {old} }}")
 }
 
-fn changing_text(alloc: Global, word: &str, at: usize, by: Change) -> Result<String, AllocError> {
+fn changing_text(alloc: Global, word: &str, at: usize, by: Update) -> Result<String, AllocError> {
     let by = change_text(alloc, by)?;
     format!(in alloc; "{word}({at}, {by})")
 }
 
 fn operation_text(alloc: Global, operation: Operation) -> Result<String, AllocError> {
     match operation {
-        Operation::Work(work, at) => format!(in alloc; "Work({}, {at:?})", work_name(work)),
+        Operation::Binary(work, at) => format!(in alloc; "Work({}, {at:?})", work_name(work)),
         Operation::Compare(test, sign) => format!(in alloc; "Compare({}, {sign})", test_name(test)),
         Operation::Convert(at) => format!(in alloc; "Convert({at:?})"),
         Operation::Negate(at) => format!(in alloc; "Negate({at:?})"),
@@ -102,7 +102,7 @@ fn show_targets(alloc: Global, targets: &[Target], out: &mut String) -> Result<(
 #[cycle(expression)]
 fn show_operands(
     alloc: Global,
-    operands: &[Expression],
+    operands: &[CoreExpression],
     out: &mut String,
 ) -> Result<(), AllocError> {
     for operand in operands {
@@ -114,33 +114,33 @@ fn show_operands(
 
 /// An expression: what stands in parentheses is done with the operands after it.
 #[cycle(expression)]
-pub fn show(alloc: Global, e: &Expression, out: &mut String) -> Result<(), AllocError> {
+pub fn show(alloc: Global, e: &CoreExpression, out: &mut String) -> Result<(), AllocError> {
     match e {
-        Expression::Number(n) => out.push_str(format!(in alloc; "{n}")?.as_str()),
-        Expression::Null => out.push_str("null"),
-        Expression::Local(i) => out.push_str(format!(in alloc; "l{i}")?.as_str()),
-        Expression::Assign(i, value) => {
+        CoreExpression::Number(n) => out.push_str(format!(in alloc; "{n}")?.as_str()),
+        CoreExpression::Null => out.push_str("null"),
+        CoreExpression::Local(i) => out.push_str(format!(in alloc; "l{i}")?.as_str()),
+        CoreExpression::Assign(i, value) => {
             out.push_str(format!(in alloc; "(l{i} =) ")?.as_str())?;
             show(alloc, value, out)
         }
-        Expression::Change(i, by, value) => {
+        CoreExpression::Update(i, by, value) => {
             let by = change_text(alloc, *by)?;
             out.push_str(format!(in alloc; "(l{i} {by}) ")?.as_str())?;
             show(alloc, value, out)
         }
-        Expression::Apply(operation, operands) => {
+        CoreExpression::Apply(operation, operands) => {
             let operation = operation_text(alloc, *operation)?;
             out.push_str(format!(in alloc; "({operation})")?.as_str())?;
             show_operands(alloc, operands.as_slice(), out)
         }
-        Expression::Call(callee, arguments, targets) => {
+        CoreExpression::Call(callee, arguments, targets) => {
             let callee = callee_text(alloc, *callee)?;
             out.push_str(format!(in alloc; "({callee} [")?.as_str())?;
             show_targets(alloc, targets.as_slice(), out)?;
             out.push_str("])")?;
             show_operands(alloc, arguments.as_slice(), out)
         }
-        Expression::Choose(test, one, two) => {
+        CoreExpression::Choose(test, one, two) => {
             out.push_str("[")?;
             show(alloc, test, out)?;
             out.push_str(" ? ")?;
@@ -154,7 +154,7 @@ pub fn show(alloc: Global, e: &Expression, out: &mut String) -> Result<(), Alloc
 
 /// Statements in turn.
 #[cycle(statement)]
-fn show_row(alloc: Global, row: &[Statement], out: &mut String) -> Result<(), AllocError> {
+fn show_row(alloc: Global, row: &[CoreStatement], out: &mut String) -> Result<(), AllocError> {
     for statement in row {
         show_statement(alloc, statement, out)?;
         out.push_str(" ")?;
@@ -166,7 +166,7 @@ fn show_row(alloc: Global, row: &[Statement], out: &mut String) -> Result<(), Al
 fn show_with(
     alloc: Global,
     word: &str,
-    e: &Expression,
+    e: &CoreExpression,
     out: &mut String,
 ) -> Result<(), AllocError> {
     out.push_str(word)?;
@@ -178,40 +178,40 @@ fn show_with(
 #[cycle(statement)]
 fn show_statement(
     alloc: Global,
-    statement: &Statement,
+    statement: &CoreStatement,
     out: &mut String,
 ) -> Result<(), AllocError> {
     match statement {
-        Statement::Skip => out.push_str("skip;"),
-        Statement::Evaluate(e) => show_with(alloc, "", e, out),
-        Statement::Declare(e) => show_with(alloc, "declare ", e, out),
-        Statement::Block(row) => {
+        CoreStatement::Skip => out.push_str("skip;"),
+        CoreStatement::Evaluate(e) => show_with(alloc, "", e, out),
+        CoreStatement::Declare(e) => show_with(alloc, "declare ", e, out),
+        CoreStatement::Block(row) => {
             out.push_str("{ ")?;
             show_row(alloc, row.as_slice(), out)?;
             out.push_str("}")
         }
-        Statement::If(test, one, two) => {
+        CoreStatement::If(test, one, two) => {
             show_with(alloc, "if ", test, out)?;
             show_statement(alloc, one, out)?;
             show_statement(alloc, two, out)
         }
-        Statement::While(test, body, step) => {
+        CoreStatement::While(test, body, step) => {
             show_with(alloc, "while ", test, out)?;
             show_statement(alloc, body, out)?;
             show_statement(alloc, step, out)
         }
-        Statement::DoWhile(test, body) => {
+        CoreStatement::DoWhile(test, body) => {
             show_with(alloc, "do while ", test, out)?;
             show_statement(alloc, body, out)
         }
-        Statement::Return(e) => show_with(alloc, "return ", e, out),
-        Statement::Break => out.push_str("break;"),
-        Statement::Continue => out.push_str("continue;"),
+        CoreStatement::Return(e) => show_with(alloc, "return ", e, out),
+        CoreStatement::Break => out.push_str("break;"),
+        CoreStatement::Continue => out.push_str("continue;"),
     }
 }
 
 /// A whole body: how its parameters take their arguments, and what it does.
-pub fn show_body(alloc: Global, body: &Body) -> Result<String, AllocError> {
+pub fn show_body(alloc: Global, body: &CoreBody) -> Result<String, AllocError> {
     let params = body.params.as_slice();
     let mut out = format!(in alloc; "{params:?} ")?;
     show_statement(alloc, &body.statement, &mut out)?;

@@ -6,12 +6,12 @@ use crate::forms::{
     truth, two_locals, two_out, value_of, while_loop,
 };
 use crate::shown::show_body;
-use ang_core::Body;
+use ang_core::CoreBody;
 use ang_kinds::{EntityNo, Pass, Prim};
 use ang_lower::lower;
 use ang_typed::{
-    Callee, Comparison, Expression, Global as GlobalVariable, HostEntity, Operator, Site, StepKind,
-    Typed, Variable,
+    TypedCallee, Comparison, TypedExpression, Global as GlobalVariable, HostEntity, Operator, TypedSite, StepKind,
+    Typed, TypedVariable,
 };
 use ang_types::ArgType;
 use std::alloc::{AllocError, Global};
@@ -19,14 +19,14 @@ use std::alloc::{AllocError, Global};
 // ---- what they come to
 
 /// The bodies of a module that is not used again.
-fn bodies_of(alloc: Global, module: Typed) -> Result<Vec<Body>, AllocError> {
+fn bodies_of(alloc: Global, module: Typed) -> Result<Vec<CoreBody>, AllocError> {
     lower(alloc, &module)
 }
 
 /// The place of the first body that has another text, or that one of the two lists lacks.
 fn first_unlike(
     alloc: Global,
-    bodies: &[Body],
+    bodies: &[CoreBody],
     texts: &[&str],
 ) -> Result<Option<usize>, AllocError> {
     for (at, body) in bodies.iter().enumerate() {
@@ -52,7 +52,7 @@ pub fn first_wrong(
 fn counting_rows(alloc: Global) -> Rows {
     let sum = operate(alloc, Operator::Add, local(alloc, 0), number(alloc, 1));
     let rows = only(alloc, one_local(alloc, sum));
-    let stored = assign(alloc, Variable::Local(1), local(alloc, 2));
+    let stored = assign(alloc, TypedVariable::Local(1), local(alloc, 2));
     let rows = then(rows, evaluate(alloc, stored));
     then(rows, give_back(alloc, local(alloc, 2)))
 }
@@ -79,14 +79,14 @@ fn counted(alloc: Global) -> Row {
     let again = only(alloc, go_on(alloc));
     let out = only(alloc, leave(alloc));
     let body = only(alloc, choice(alloc, same, again, out));
-    let next = step(alloc, Variable::Local(1), StepKind::IncrementBefore);
+    let next = step(alloc, TypedVariable::Local(1), StepKind::IncrementBefore);
     for_loop(alloc, start, less, next, body)
 }
 
 /// `int f(int n) { for (int i = 0; i < n; ++i) { if (i == n) continue; else break; } while (true) { n--; } do ; while (false); }`
 fn looping(alloc: Global) -> Result<Typed, AllocError> {
     let rows = only(alloc, counted(alloc));
-    let less = step(alloc, Variable::Local(0), StepKind::DecrementAfter);
+    let less = step(alloc, TypedVariable::Local(0), StepKind::DecrementAfter);
     let body = only(alloc, evaluate(alloc, less));
     let rows = then(rows, while_loop(alloc, truth(alloc, true), body));
     let body = only(alloc, nothing(alloc));
@@ -109,8 +109,8 @@ fn loops_and_their_steps(rt: HostRuntime) -> Result<(), AllocError> {
 
 /// `f(a, g)` of a local a and a global g of the type `to`, both for `&out` parameters of the type `int`
 fn called(alloc: Global, to: ArgType) -> Tree {
-    let arguments = two_out(alloc, Variable::Local(0), Variable::Global(4), to);
-    call(alloc, Callee::Own(0), arguments)
+    let arguments = two_out(alloc, TypedVariable::Local(0), TypedVariable::Global(4), to);
+    call(alloc, TypedCallee::Own(0), arguments)
 }
 
 /// `put(1)`, where `put` is entity 17
@@ -118,7 +118,7 @@ fn asked(alloc: Global) -> Tree {
     let arguments = one_value(alloc, number(alloc, 1))?;
     leaf(
         alloc,
-        Expression::HostCall {
+        TypedExpression::HostCall {
             host: HostEntity {
                 entity: EntityNo(17),
                 driver: 0,
@@ -163,8 +163,8 @@ fn a_variable_of_an_enumeration_takes_an_int(rt: HostRuntime) -> Result<(), Allo
     Ok(())
 }
 
-fn property(entity: u32) -> Variable {
-    Variable::Property(HostEntity {
+fn property(entity: u32) -> TypedVariable {
+    TypedVariable::Property(HostEntity {
         entity: EntityNo(entity),
         driver: 2,
         f: 0,
@@ -191,8 +191,8 @@ fn changed(alloc: Global, value: Tree) -> Tree {
     let value = value?;
     leaf(
         alloc,
-        Expression::Compound {
-            site: Site::Named(Variable::Global(2)),
+        TypedExpression::Compound {
+            site: TypedSite::Named(TypedVariable::Global(2)),
             ty: Prim::U8,
             operator: Operator::BitXor,
             operating: Prim::I64,
@@ -204,7 +204,7 @@ fn changed(alloc: Global, value: Tree) -> Tree {
 /// `{ p = g; g ^= !(1 > 2 && true || false) ? -1 : ~q; }` of properties p and q and a global g, the operator in
 /// `int64`. (The types do not fit: the lowering does not look at them.)
 fn choosing(alloc: Global) -> Result<Typed, AllocError> {
-    let written = assign(alloc, property(13), value_of(alloc, Variable::Global(2)));
+    let written = assign(alloc, property(13), value_of(alloc, TypedVariable::Global(2)));
     let rows = only(alloc, evaluate(alloc, written));
     let rows = then(rows, evaluate(alloc, changed(alloc, chosen(alloc))));
     let whole = only(alloc, block(alloc, rows));
@@ -252,7 +252,7 @@ fn operations_on_literals_are_done(rt: HostRuntime) -> Result<(), AllocError> {
 
 /// `int a; int b = 5; int c = b + 1;`
 fn globals(alloc: Global) -> Result<Vec<GlobalVariable>, AllocError> {
-    let b = value_of(alloc, Variable::Global(1));
+    let b = value_of(alloc, TypedVariable::Global(1));
     let sum = operate(alloc, Operator::Add, b, number(alloc, 1))?;
     let five = number(alloc, 5)?;
     let mut globals = Vec::with_capacity(alloc, 3)?;

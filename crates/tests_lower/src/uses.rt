@@ -2,7 +2,7 @@
 use ang_host::Role;
 use ang_kinds::{EntityNo, List, Mask, Param, Pass, Prim, Shape, Signature, TypeRef};
 use ang_lower::host_use;
-use ang_meaning::{HostType, HostUse};
+use ang_meaning::{HostValueType, HostUse};
 use ang_view::{Entry, EntryKind};
 use std::alloc::{AllocError, Global};
 
@@ -95,12 +95,12 @@ fn passes(alloc: Global) -> Result<(bool, bool), AllocError> {
         matches!(
             found.params.as_slice(),
             [
-                HostType::Plain(Prim::I64),
-                HostType::Handle,
-                HostType::Plain(Prim::I32),
+                HostValueType::Plain(Prim::I64),
+                HostValueType::Handle,
+                HostValueType::Plain(Prim::I32),
             ]
         ),
-        matches!(found.result, HostType::Plain(Prim::Bool)),
+        matches!(found.result, HostValueType::Plain(Prim::Bool)),
     ))
 }
 

@@ -4,16 +4,16 @@ ghost use Rattle.std.specs.Prelude.{◌<◌, ◌^◌, length};
 use crate::known::KNOWN;
 use ang_code::Instruction;
 use ang_code::Instruction::{
-    Back, Change as Changed, Do, Drop, DropUnder, Enter, Leave, Load, PushBits, PushNull, Return,
-    SkipIfFalse, Store, Tick,
+    LoopBack, Update as Changed, Apply, Drop, DropUnder, Enter, Leave, Load, PushBits, PushNull, Return,
+    JumpIfFalse, Store, Tick,
 };
 use ang_kinds::{EntityNo, Prim};
-use ang_meaning::{Arithmetic, Callee, Change, Comparison, Operation, Slot};
+use ang_meaning::{Arithmetic, Callee, Update, Comparison, Operation, Slot};
 use ang_vm_fused::fused::take;
 use ang_vm_stack::fuse::fuse;
-use ang_vm_stack::kind::Kind;
-use ang_vm_stack::place::Place;
-use ang_vm_stack::step::{Handle, Step};
+use ang_vm_stack::kind::Dispatch;
+use ang_vm_stack::place::Cursor;
+use ang_vm_stack::step::{HandleOperand, Step};
 use std::alloc::{AllocError, Global};
 
 const LESS: Comparison = Comparison::Less;
@@ -26,7 +26,7 @@ const I64: Prim = Prim::I64;
 
 const U64: Prim = Prim::U64;
 
-const LATER: Change = Change {
+const LATER: Update = Update {
     work: Arithmetic::Add,
     at: Prim::I64,
     to: Prim::I64,
@@ -85,46 +85,46 @@ const BACK: [Row; 7] = [
 
 /// Calls, returns, host calls, loads, fields, globals and handles are left to the run, and so is what faults, finds no
 /// value, brings it to a rare type or names no instructions. Each says which it is.
-const LEFT: [(Step, Kind); 21] = [
-    (Step::Other, Kind::Alone),
-    (Step::Ask(1), Kind::Alone),
-    (Step::Load(1), Kind::Load),
-    (Step::Move(2, 0), Kind::Move),
-    (Step::Same(Handle::Local(1), Handle::Null), Kind::Same),
-    (Step::GetField(0, 0), Kind::GetField),
-    (Step::PutField(0, 0), Kind::PutField),
-    (Step::ChangeField(LATER, 0, 0), Kind::ChangeField),
-    (Step::MoveField(0, 0, 1, 0), Kind::MoveField),
-    (Step::GetGlobal(0), Kind::GetGlobal),
-    (Step::PutGlobal(0), Kind::PutGlobal),
-    (Step::ChangeGlobal(LATER, 0), Kind::ChangeGlobal),
-    (Step::MoveGlobal(0, 1), Kind::MoveGlobal),
-    (Step::Enter(Callee::Own(0)), Kind::Enter),
-    (Step::Return(0), Kind::Return),
-    (Step::ReturnNothing(0), Kind::ReturnNothing),
-    (Step::Keep(2), Kind::Value),
-    (Step::DropUnder(2), Kind::Value),
-    (Step::KeepOut(None, 0), Kind::Value),
-    (Step::KeepLastOut(None, 0), Kind::Value),
+const LEFT: [(Step, Dispatch); 21] = [
+    (Step::Other, Dispatch::Alone),
+    (Step::Ask(1), Dispatch::Alone),
+    (Step::Load(1), Dispatch::Load),
+    (Step::Move(2, 0), Dispatch::Move),
+    (Step::Same(HandleOperand::Local(1), HandleOperand::Null), Dispatch::Same),
+    (Step::GetField(0, 0), Dispatch::GetField),
+    (Step::PutField(0, 0), Dispatch::PutField),
+    (Step::ChangeField(LATER, 0, 0), Dispatch::ChangeField),
+    (Step::MoveField(0, 0, 1, 0), Dispatch::MoveField),
+    (Step::GetGlobal(0), Dispatch::GetGlobal),
+    (Step::PutGlobal(0), Dispatch::PutGlobal),
+    (Step::ChangeGlobal(LATER, 0), Dispatch::ChangeGlobal),
+    (Step::MoveGlobal(0, 1), Dispatch::MoveGlobal),
+    (Step::Enter(Callee::Own(0)), Dispatch::Enter),
+    (Step::Return(0), Dispatch::Return),
+    (Step::ReturnNothing(0), Dispatch::ReturnNothing),
+    (Step::Keep(2), Dispatch::Value),
+    (Step::DropUnder(2), Dispatch::Value),
+    (Step::KeepOut(None, 0), Dispatch::Value),
+    (Step::KeepLastOut(None, 0), Dispatch::Value),
     (
         Step::WorkTopConstant(Arithmetic::Divide, I64, 0),
-        Kind::Value,
+        Dispatch::Value,
     ),
 ];
 
 /// A place, and the numbers in the first three places of the stack.
 #[derive(Clone, Copy, PartialEq, Eq)]
 struct After {
-    place: Place,
+    place: Cursor,
     first: Slot,
     second: Slot,
     third: Slot,
 }
 
 /// What a step comes to where `top` of these numbers are in use, or which kind of step it is where it is not taken.
-fn taken(top: usize, numbers: [u64; 3], ticks: u64, step: Step) -> Result<After, Kind> {
+fn taken(top: usize, numbers: [u64; 3], ticks: u64, step: Step) -> Result<After, Dispatch> {
     if top > 4 {
-        return Err(Kind::Alone);
+        return Err(Dispatch::Alone);
     }
     let [first, second, third] = numbers;
     let mut stack = [
@@ -133,7 +133,7 @@ fn taken(top: usize, numbers: [u64; 3], ticks: u64, step: Step) -> Result<After,
         Slot::Bits(third),
         Slot::Bits(0),
     ];
-    let here = Place { at: 7, top, ticks };
+    let here = Cursor { at: 7, top, ticks };
     let place = take(&mut stack, here, 4, &step)?;
     Ok(After {
         place,
@@ -144,10 +144,10 @@ fn taken(top: usize, numbers: [u64; 3], ticks: u64, step: Step) -> Result<After,
 }
 
 /// That, with `ticks` ticks left.
-fn left(ticks: u64, want: Left) -> Result<After, Kind> {
+fn left(ticks: u64, want: Left) -> Result<After, Dispatch> {
     let (at, top, first, second, third) = want;
     Ok(After {
-        place: Place { at, top, ticks },
+        place: Cursor { at, top, ticks },
         first: Slot::Bits(first),
         second: Slot::Bits(second),
         third: Slot::Bits(third),
@@ -174,7 +174,7 @@ fn steps_are_taken(rt: HostRuntime) {
             "back to {after}"
         );
         assert!(rt;
-            taken(2, [5, 3, 0], 0, step) == Err(Kind::Value),
+            taken(2, [5, 3, 0], 0, step) == Err(Dispatch::Value),
             "no tick, back to {after}"
         );
     }
@@ -195,13 +195,13 @@ fn steps_are_taken(rt: HostRuntime) {
 #[test]
 fn steps_are_left(rt: HostRuntime) {
     assert!(rt;
-        taken(2, [5, 3, 0], 9, Step::MaskXor(U64, 1, 0, 2)) == Err(Kind::Value),
+        taken(2, [5, 3, 0], 9, Step::MaskXor(U64, 1, 0, 2)) == Err(Dispatch::Value),
         "no room"
     );
     let pushed = taken(4, [2, 9, 5], 9, Step::Push(4));
-    assert!(rt; pushed == Err(Kind::Value), "no room");
+    assert!(rt; pushed == Err(Dispatch::Value), "no room");
     let small = taken(3, [2, 9, 5], 9, Step::KeepOut(Some(Prim::I8), 0));
-    assert!(rt; small == Err(Kind::Value), "rare type");
+    assert!(rt; small == Err(Dispatch::Value), "rare type");
     for (step, kind) in LEFT {
         assert!(rt; taken(2, [5, 3, 0], 9, step) == Err(kind), "{kind:?}");
     }
@@ -213,12 +213,12 @@ const COUNTING: &[Instruction] = &[
     Tick,
     Load(0),
     PushBits(10),
-    Do(Operation::Compare(LESS, true)),
-    SkipIfFalse(4),
+    Apply(Operation::Compare(LESS, true)),
+    JumpIfFalse(4),
     PushBits(1),
     Changed(LATER, 0),
     Drop,
-    Back(7),
+    LoopBack(7),
     Load(0),
     Return(1),
 ];
@@ -243,12 +243,12 @@ const ASKING: &[Instruction] = &[
     Load(0),
     Load(2),
     PushBits(1),
-    Do(Operation::Work(ADD, I64)),
-    Do(Operation::Ask(EntityNo(7))),
+    Apply(Operation::Binary(ADD, I64)),
+    Apply(Operation::Ask(EntityNo(7))),
     Drop,
     Load(0),
     PushBits(3),
-    Do(Operation::Ask(EntityNo(7))),
+    Apply(Operation::Ask(EntityNo(7))),
     Drop,
     Load(1),
     Return(2),
@@ -291,7 +291,7 @@ const CALLS: [(usize, Option<Step>); 8] = [
 ];
 
 /// A change of a `uint` by `^`.
-const DIFFER: Change = Change {
+const DIFFER: Update = Update {
     work: Arithmetic::Xor,
     at: Prim::U32,
     to: Prim::U32,
@@ -303,54 +303,54 @@ const DIFFER: Change = Change {
 const PAIRED: &[Instruction] = &[
     Load(1),
     Load(1),
-    Do(Operation::Work(Arithmetic::Multiply, I64)),
+    Apply(Operation::Binary(Arithmetic::Multiply, I64)),
     PushBits(16),
-    Do(Operation::Work(Arithmetic::ShiftSigned, I64)),
+    Apply(Operation::Binary(Arithmetic::ShiftSigned, I64)),
     Load(1),
     Load(1),
-    Do(Operation::Work(ADD, I64)),
+    Apply(Operation::Binary(ADD, I64)),
     PushBits(9),
-    Do(Operation::Compare(Comparison::Greater, true)),
-    SkipIfFalse(4),
+    Apply(Operation::Compare(Comparison::Greater, true)),
+    JumpIfFalse(4),
     Load(1),
     Load(1),
-    Do(Operation::Work(SUBTRACT, I64)),
+    Apply(Operation::Binary(SUBTRACT, I64)),
     Load(2),
-    Do(Operation::Work(ADD, I64)),
+    Apply(Operation::Binary(ADD, I64)),
     Store(0),
     Drop,
     Load(1),
     Load(1),
-    Do(Operation::Work(Arithmetic::Multiply, Prim::I32)),
+    Apply(Operation::Binary(Arithmetic::Multiply, Prim::I32)),
     Load(2),
-    Do(Operation::Compare(Comparison::LessEqual, true)),
-    SkipIfFalse(4),
+    Apply(Operation::Compare(Comparison::LessEqual, true)),
+    JumpIfFalse(4),
     Load(1),
     Load(1),
-    Do(Operation::Work(Arithmetic::Remainder, Prim::I32)),
+    Apply(Operation::Binary(Arithmetic::Remainder, Prim::I32)),
     PushBits(0),
-    Do(Operation::Compare(Comparison::Equal, true)),
-    SkipIfFalse(4),
+    Apply(Operation::Compare(Comparison::Equal, true)),
+    JumpIfFalse(4),
     Load(1),
     Load(1),
     PushBits(255),
-    Do(Operation::Work(Arithmetic::And, Prim::U32)),
-    Do(Operation::Work(Arithmetic::Xor, Prim::U32)),
+    Apply(Operation::Binary(Arithmetic::And, Prim::U32)),
+    Apply(Operation::Binary(Arithmetic::Xor, Prim::U32)),
     Load(1),
     PushBits(15),
-    Do(Operation::Work(Arithmetic::ShiftRight, Prim::U32)),
+    Apply(Operation::Binary(Arithmetic::ShiftRight, Prim::U32)),
     Changed(DIFFER, 0),
     Drop,
     Load(1),
     Load(1),
-    Do(Operation::Work(Arithmetic::Xor, Prim::I32)),
-    Do(Operation::Convert(I64)),
+    Apply(Operation::Binary(Arithmetic::Xor, Prim::I32)),
+    Apply(Operation::Convert(I64)),
     Changed(LATER, 0),
     Drop,
     Leave(2),
-    Back(9),
+    LoopBack(9),
     Leave(3),
-    Back(9),
+    LoopBack(9),
     Leave(2),
     Drop,
     DropUnder(2),
@@ -449,7 +449,7 @@ const OUT_STEPS: [(usize, Option<Step>); 6] = [
 ];
 
 /// A change of a `uint64` by `^`.
-const DIFFER_64: Change = Change {
+const DIFFER_64: Update = Update {
     work: Arithmetic::Xor,
     at: U64,
     to: U64,
@@ -461,24 +461,24 @@ const HASHING: &[Instruction] = &[
     Load(1),
     Load(1),
     PushBits(255),
-    Do(Operation::Work(Arithmetic::And, U64)),
-    Do(Operation::Work(Arithmetic::Xor, U64)),
+    Apply(Operation::Binary(Arithmetic::And, U64)),
+    Apply(Operation::Binary(Arithmetic::Xor, U64)),
     PushBits(0x1_0000_01B3),
-    Do(Operation::Work(Arithmetic::Multiply, U64)),
+    Apply(Operation::Binary(Arithmetic::Multiply, U64)),
     Store(0),
     Drop,
     PushBits(0x1_0000_01B3),
-    Do(Operation::Work(Arithmetic::Multiply, U64)),
+    Apply(Operation::Binary(Arithmetic::Multiply, U64)),
     PushBits(0x1_0000_01B3),
-    Do(Operation::Work(ADD, U64)),
+    Apply(Operation::Binary(ADD, U64)),
     Load(1),
     PushBits(13),
-    Do(Operation::Work(Arithmetic::ShiftLeft, U64)),
+    Apply(Operation::Binary(Arithmetic::ShiftLeft, U64)),
     Changed(DIFFER_64, 0),
     Drop,
     Load(1),
     PushBits(7),
-    Do(Operation::Work(Arithmetic::ShiftRight, U64)),
+    Apply(Operation::Binary(Arithmetic::ShiftRight, U64)),
     Changed(DIFFER_64, 0),
     Drop,
 ];
@@ -499,22 +499,22 @@ const HASHED: [(usize, Option<Step>); 8] = [
 /// the object that it holds itself, and at the end the stored value is kept.
 const OBJECTS: &[Instruction] = &[
     Load(1),
-    Do(Operation::FieldGet(2)),
+    Apply(Operation::FieldGet(2)),
     Load(3),
-    Do(Operation::FieldSet(4)),
+    Apply(Operation::FieldSet(4)),
     Drop,
     Load(5),
-    Do(Operation::FieldChange(6, LATER)),
+    Apply(Operation::FieldChange(6, LATER)),
     Drop,
     Load(1),
-    Do(Operation::FieldGet(2)),
+    Apply(Operation::FieldGet(2)),
     Load(0),
-    Do(Operation::FieldSet(4)),
+    Apply(Operation::FieldSet(4)),
     Drop,
     Load(1),
-    Do(Operation::FieldGet(2)),
+    Apply(Operation::FieldGet(2)),
     Load(3),
-    Do(Operation::FieldSet(4)),
+    Apply(Operation::FieldSet(4)),
     Return(1),
 ];
 
@@ -532,13 +532,13 @@ const FIELDS: [(usize, Option<Step>); 8] = [
 
 /// A global is stored into another one, and is changed; at the end the stored value is kept.
 const GLOBALS: &[Instruction] = &[
-    Do(Operation::GlobalGet(2)),
-    Do(Operation::GlobalSet(3)),
+    Apply(Operation::GlobalGet(2)),
+    Apply(Operation::GlobalSet(3)),
     Drop,
-    Do(Operation::GlobalChange(4, LATER)),
+    Apply(Operation::GlobalChange(4, LATER)),
     Drop,
-    Do(Operation::GlobalGet(2)),
-    Do(Operation::GlobalSet(3)),
+    Apply(Operation::GlobalGet(2)),
+    Apply(Operation::GlobalSet(3)),
     Return(1),
 ];
 
@@ -555,24 +555,24 @@ const GLOBAL_STEPS: [(usize, Option<Step>); 5] = [
 const COMPARING: &[Instruction] = &[
     Load(1),
     Load(1),
-    Do(Operation::Same),
-    Do(Operation::GlobalGet(3)),
+    Apply(Operation::Same),
+    Apply(Operation::GlobalGet(3)),
     PushNull,
-    Do(Operation::Same),
+    Apply(Operation::Same),
     PushNull,
     Load(3),
-    Do(Operation::Same),
+    Apply(Operation::Same),
     Load(1),
     Load(0),
-    Do(Operation::Same),
+    Apply(Operation::Same),
 ];
 
 /// Each pair is one step, but where the second one is the value that the first one pushes.
 const COMPARED: [(usize, Option<Step>); 6] = [
-    (0, Some(Step::Same(Handle::Local(1), Handle::Local(0)))),
-    (3, Some(Step::Same(Handle::Global(3), Handle::Null))),
+    (0, Some(Step::Same(HandleOperand::Local(1), HandleOperand::Local(0)))),
+    (3, Some(Step::Same(HandleOperand::Global(3), HandleOperand::Null))),
     (4, Some(Step::Other)),
-    (6, Some(Step::Same(Handle::Null, Handle::Local(2)))),
+    (6, Some(Step::Same(HandleOperand::Null, HandleOperand::Local(2)))),
     (9, Some(Step::Load(1))),
     (10, Some(Step::Load(0))),
 ];
@@ -589,7 +589,7 @@ fn ends(step: Step) -> Option<After> {
         Slot::Bits(0),
         Slot::Bits(0),
     ];
-    let here = Place {
+    let here = Cursor {
         at: 20,
         top: 4,
         ticks: 9,

@@ -1,6 +1,6 @@
 //! Values that pass between scripts and drivers.
 use ang_kinds::{Prim, Value};
-use ang_meaning::{HostType, Slot};
+use ang_meaning::{HostValueType, Slot};
 use ang_vm_numbers::{slot_from, value_from};
 
 const VALUES: [(Prim, u64, Value); 9] = [
@@ -17,8 +17,8 @@ const VALUES: [(Prim, u64, Value); 9] = [
 
 /// Whether a value passes in both directions.
 fn passes(of: Prim, bits: u64, value: Value) -> bool {
-    value_from(0, HostType::Plain(of), Slot::Bits(bits)) == value
-        && slot_from(0, HostType::Plain(of), &value) == Some(Slot::Bits(bits))
+    value_from(0, HostValueType::Plain(of), Slot::Bits(bits)) == value
+        && slot_from(0, HostValueType::Plain(of), &value) == Some(Slot::Bits(bits))
 }
 
 #[test]

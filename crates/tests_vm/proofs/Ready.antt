@@ -19,7 +19,7 @@ use Rattle.ang_meaning.specs.declared.slot.Slot.{Slot}
 use Rattle.ang_meaning.specs.declared.slot.Slot.TheVariants.{Bits, Script, Host}
 use Rattle.ang_meaning.specs.declared.routine.Routine.{Routine}
 use Rattle.ang_meaning.specs.World.{World, with_inputs}
-use Rattle.ang_meaning.specs.Setting.{Setting}
+use Rattle.ang_meaning.specs.Environment.{Environment}
 use Rattle.ang_meaning.specs.Counting.{Thing, KeyOf, NumberOf, names, how_many, in_lists, counts_by, IsCounted}
 use Rattle.ang_meaning.proofs.Counted.{give_counted}
 use Rattle.ang_code.specs.Machine.{Texts, call_begins, initializer_begins}
@@ -110,7 +110,7 @@ empty_globals x (v ∷ gs) h =
 
 -- ---- after a run
 
-module _ (z : Setting) (code : Texts) (g : Routine) where
+module _ (z : Environment) (code : Texts) (g : Routine) where
   end_counted : (budget : ℕ) (vs : List Slot) (w w' : World) (result : Result Slot Fault) → IsCounted vs w → HasCalled z code (λ is. call_begins z code budget g vs (with_inputs is w)) result w'
       → result ≢ Err Null → IsCounted [] w'
   end_counted budget vs w w' (Ok v) p h apart =

@@ -2,7 +2,7 @@
 use ang_code::Instruction;
 use ang_host::Role;
 use ang_kinds::{EntityNo, List, Prim};
-use ang_meaning::{HostType, HostUse, Operation};
+use ang_meaning::{HostValueType, HostUse, Operation};
 use std::alloc::{AllocError, Global};
 
 /// The driver without objects.
@@ -14,20 +14,20 @@ pub const COUNTER: u32 = 1;
 /// The driver whose objects hold a number.
 pub const CELL: u32 = 2;
 
-const NOTHING: HostType = HostType::Nothing;
+const NOTHING: HostValueType = HostValueType::Nothing;
 
-const INT: HostType = HostType::Plain(Prim::I32);
+const INT: HostValueType = HostValueType::Plain(Prim::I32);
 
-const LONG: HostType = HostType::Plain(Prim::I64);
+const LONG: HostValueType = HostValueType::Plain(Prim::I64);
 
-const BYTE: HostType = HostType::Plain(Prim::I8);
+const BYTE: HostValueType = HostValueType::Plain(Prim::I8);
 
-const NATURAL: HostType = HostType::Plain(Prim::U32);
+const NATURAL: HostValueType = HostValueType::Plain(Prim::U32);
 
-const HANDLE: HostType = HostType::Handle;
+const HANDLE: HostValueType = HostValueType::Handle;
 
 /// An entity: its driver, its role, whether it is asked of an object, its parameters and its result.
-type Entity = (u32, Role, bool, &'static [HostType], HostType);
+type Entity = (u32, Role, bool, &'static [HostValueType], HostValueType);
 
 /// By number: the types `Counter` (0) and `Cell` (6), which nobody asks, with what belongs to them; what belongs to
 /// no type; and at the end a sum with a result that is too small.
@@ -53,49 +53,49 @@ const ENTITIES: [Option<Entity>; 18] = [
 ];
 
 /// `Counter(int)`
-pub const NEW_COUNTER: Instruction = Instruction::Do(Operation::Ask(EntityNo(2)));
+pub const NEW_COUNTER: Instruction = Instruction::Apply(Operation::Ask(EntityNo(2)));
 
 /// `Counter::bump`
-pub const BUMP: Instruction = Instruction::Do(Operation::Ask(EntityNo(3)));
+pub const BUMP: Instruction = Instruction::Apply(Operation::Ask(EntityNo(3)));
 
 /// `Counter::value`
-pub const VALUE: Instruction = Instruction::Do(Operation::Ask(EntityNo(4)));
+pub const VALUE: Instruction = Instruction::Apply(Operation::Ask(EntityNo(4)));
 
 /// `Counter::step`
 pub const STEP: EntityNo = EntityNo(5);
 
 /// `Cell(int)`
-pub const NEW_CELL: Instruction = Instruction::Do(Operation::Ask(EntityNo(7)));
+pub const NEW_CELL: Instruction = Instruction::Apply(Operation::Ask(EntityNo(7)));
 
 /// `Cell(Cell@+, int)`
-pub const CELL_ABOVE: Instruction = Instruction::Do(Operation::Ask(EntityNo(8)));
+pub const CELL_ABOVE: Instruction = Instruction::Apply(Operation::Ask(EntityNo(8)));
 
 /// `Cell::get`
-pub const GET: Instruction = Instruction::Do(Operation::Ask(EntityNo(9)));
+pub const GET: Instruction = Instruction::Apply(Operation::Ask(EntityNo(9)));
 
 /// `Cell::set`
-pub const SET: Instruction = Instruction::Do(Operation::Ask(EntityNo(10)));
+pub const SET: Instruction = Instruction::Apply(Operation::Ask(EntityNo(10)));
 
 /// `pick`
-pub const PICK: Instruction = Instruction::Do(Operation::Ask(EntityNo(11)));
+pub const PICK: Instruction = Instruction::Apply(Operation::Ask(EntityNo(11)));
 
 /// `print`, as events have it.
 pub const PRINTING: u32 = 12;
 
 /// `print`
-pub const PRINT: Instruction = Instruction::Do(Operation::Ask(EntityNo(PRINTING)));
+pub const PRINT: Instruction = Instruction::Apply(Operation::Ask(EntityNo(PRINTING)));
 
 /// `sum`
-pub const SUM: Instruction = Instruction::Do(Operation::Ask(EntityNo(13)));
+pub const SUM: Instruction = Instruction::Apply(Operation::Ask(EntityNo(13)));
 
 /// `fail`
-pub const FAIL: Instruction = Instruction::Do(Operation::Ask(EntityNo(14)));
+pub const FAIL: Instruction = Instruction::Apply(Operation::Ask(EntityNo(14)));
 
 /// The register.
 pub const REGISTER: EntityNo = EntityNo(15);
 
 /// The sum whose result is too small.
-pub const SMALL_SUM: Instruction = Instruction::Do(Operation::Ask(EntityNo(17)));
+pub const SMALL_SUM: Instruction = Instruction::Apply(Operation::Ask(EntityNo(17)));
 
 fn entity(alloc: Global, row: &Option<Entity>) -> Result<Option<HostUse>, AllocError> {
     let Some((driver, role, member, params, result)) = *row else {

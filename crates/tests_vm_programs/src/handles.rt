@@ -5,10 +5,10 @@ use crate::entities::{
 use crate::program::{Module, Text};
 use ang_code::Instruction;
 use ang_code::Instruction::{
-    Back, Do, Drop, DropUnder, Enter, Leave, Load, PushBits, PushNull, Return, Store, Swap, Tick,
+    LoopBack, Apply, Drop, DropUnder, Enter, Leave, Load, PushBits, PushNull, Return, Store, Swap, Tick,
 };
 use ang_kinds::Prim;
-use ang_meaning::{Arithmetic, Callee, Change, Operation, Passing, Routine, Slot};
+use ang_meaning::{Arithmetic, Callee, Update, Operation, Passing, Routine, Slot};
 
 /// The module `a`, with two globals.
 pub const HANDLES: Module = Module {
@@ -35,10 +35,10 @@ pub const EXPORTER: Module = Module {
     globals: &[],
 };
 
-const DIVIDE: Instruction = Do(Operation::Work(Arithmetic::Divide, Prim::I32));
+const DIVIDE: Instruction = Apply(Operation::Binary(Arithmetic::Divide, Prim::I32));
 
 /// `+= n` on an `int`.
-const PLUS: Change = Change {
+const PLUS: Update = Update {
     work: Arithmetic::Add,
     at: Prim::I32,
     to: Prim::I32,
@@ -46,15 +46,15 @@ const PLUS: Change = Change {
 };
 
 /// `c.step += n`
-const STEP_PLUS: Instruction = Do(Operation::Alter(STEP, PLUS));
+const STEP_PLUS: Instruction = Apply(Operation::Alter(STEP, PLUS));
 
 /// `c.step++`, before the 1 and the object.
-const STEP_ON: Instruction = Do(Operation::Alter(STEP, Change { old: true, ..PLUS }));
+const STEP_ON: Instruction = Apply(Operation::Alter(STEP, Update { old: true, ..PLUS }));
 
 /// `c.step /= n`
-const STEP_PARTED: Instruction = Do(Operation::Alter(
+const STEP_PARTED: Instruction = Apply(Operation::Alter(
     STEP,
-    Change {
+    Update {
         work: Arithmetic::Divide,
         ..PLUS
     },
@@ -66,7 +66,7 @@ const EXPORTED: &[Instruction] = &[Load(0), NEW_CELL, Return(0)];
 /// The bodies by number.
 const TEXTS: &[Text] = list! {
     // 0: int p() { Counter c(5); c.step = 3; c.bump(); return c.value(); }
-    (&[], 4, &[PushBits(5), NEW_COUNTER, PushBits(3), Load(1), Do(Operation::Write(STEP)), Drop,
+    (&[], 4, &[PushBits(5), NEW_COUNTER, PushBits(3), Load(1), Apply(Operation::Write(STEP)), Drop,
         Load(0), BUMP, Drop, Load(0), VALUE, Return(1)]),
     // 1: void m() { Cell@ a = Cell(1); { Cell@ b = Cell(2); } @a = pick(a); }
     (&[], 4, &[PushBits(1), NEW_CELL, PushBits(2), NEW_CELL, Leave(1), Load(0), PICK, Store(0),
@@ -88,12 +88,12 @@ const TEXTS: &[Text] = list! {
     // 7: Cell@ a = Cell(1); Counter@ b = Counter(2); Cell@ n; Counter@ o; print(n is o); print(a is a); print(a is
     // b); print(a is n); print(pick(n) is n); print(a is Cell(3));
     (&[], 7, &[PushBits(1), NEW_CELL, PushBits(2), NEW_COUNTER, PushNull, PushNull, Load(1),
-        Load(1), Do(Operation::Same), PRINT, Drop, Load(3), Load(4), Do(Operation::Same), PRINT,
-        Drop, Load(3), Load(3), Do(Operation::Same), PRINT, Drop, Load(3), Load(2),
-        Do(Operation::Same), PRINT, Drop, Load(1), PICK, Load(2), Do(Operation::Same), PRINT, Drop,
-        Load(3), PushBits(3), NEW_CELL, Do(Operation::Same), PRINT, Drop, PushBits(0), Return(4)]),
+        Load(1), Apply(Operation::Same), PRINT, Drop, Load(3), Load(4), Apply(Operation::Same), PRINT,
+        Drop, Load(3), Load(3), Apply(Operation::Same), PRINT, Drop, Load(3), Load(2),
+        Apply(Operation::Same), PRINT, Drop, Load(1), PICK, Load(2), Apply(Operation::Same), PRINT, Drop,
+        Load(3), PushBits(3), NEW_CELL, Apply(Operation::Same), PRINT, Drop, PushBits(0), Return(4)]),
     // 8: Counter c(5); print(c.step); print(c.step += 4); print(c.step++); c.bump(); return c.value();
-    (&[], 4, &[PushBits(5), NEW_COUNTER, Load(0), Do(Operation::Read(STEP)), PRINT, Drop,
+    (&[], 4, &[PushBits(5), NEW_COUNTER, Load(0), Apply(Operation::Read(STEP)), PRINT, Drop,
         PushBits(4), Load(1), STEP_PLUS, PRINT, Drop, PushBits(1), Load(1), STEP_ON, PRINT, Drop,
         Load(0), BUMP, Drop, Load(0), VALUE, Return(1)]),
     // 9: void m() { Counter c(5); c.step /= 0; }
@@ -111,16 +111,16 @@ const TEXTS: &[Text] = list! {
     (&[], 4, &[PushBits(1), NEW_CELL, PushBits(9223372036854775807), PushBits(1), SUM, CELL_ABOVE,
         Drop, PushBits(0), Return(0)]),
     // 14: void k() { @g = Cell(1); }
-    (&[], 2, &[PushBits(1), NEW_CELL, Do(Operation::GlobalSet(0)), Drop, PushBits(0), Return(0)]),
+    (&[], 2, &[PushBits(1), NEW_CELL, Apply(Operation::GlobalSet(0)), Drop, PushBits(0), Return(0)]),
     // 15: int u() { return g.get(); }
-    (&[], 2, &[Do(Operation::GlobalGet(0)), GET, Return(0)]),
+    (&[], 2, &[Apply(Operation::GlobalGet(0)), GET, Return(0)]),
     // 16: void r() { @g = Cell(2); print(7); }
-    (&[], 2, &[PushBits(2), NEW_CELL, Do(Operation::GlobalSet(0)), Drop, PushBits(7), PRINT, Drop,
+    (&[], 2, &[PushBits(2), NEW_CELL, Apply(Operation::GlobalSet(0)), Drop, PushBits(7), PRINT, Drop,
         PushBits(0), Return(0)]),
     // 17: void c() { @g = null; }
-    (&[], 1, &[PushNull, Do(Operation::GlobalSet(0)), Drop, PushBits(0), Return(0)]),
+    (&[], 1, &[PushNull, Apply(Operation::GlobalSet(0)), Drop, PushBits(0), Return(0)]),
     // 18: void m() { @g = Cell(1); fail(9); }
-    (&[], 2, &[PushBits(1), NEW_CELL, Do(Operation::GlobalSet(0)), Drop, PushBits(9), FAIL, Drop,
+    (&[], 2, &[PushBits(1), NEW_CELL, Apply(Operation::GlobalSet(0)), Drop, PushBits(9), FAIL, Drop,
         PushBits(0), Return(0)]),
     // 19: void d(Cell@ c) { d(c); }
     (&[Passing::In], 2, &[Load(0), Enter(Callee::Own(19)), Drop, PushBits(0), Return(0)]),
@@ -140,7 +140,7 @@ const TEXTS: &[Text] = list! {
     // 26: int m() { return Cell(Cell(1), 2).get(); }
     (&[], 2, &[PushBits(1), NEW_CELL, PushBits(2), CELL_ABOVE, GET, Return(0)]),
     // 27: void m() { while (true) { Cell@ c = Cell(1); } }
-    (&[], 2, &[Tick, PushBits(1), NEW_CELL, Leave(1), Back(3), PushBits(0), Return(0)]),
+    (&[], 2, &[Tick, PushBits(1), NEW_CELL, Leave(1), LoopBack(3), PushBits(0), Return(0)]),
     // 28: void p(Cell@ a, Counter@ b) { Cell@ c = Cell(3); Cell@ d = Cell(4); }
     (&[Passing::In, Passing::In], 4, &[PushBits(3), NEW_CELL, PushBits(4), NEW_CELL, PushBits(0),
         Return(2)]),

@@ -3,11 +3,11 @@ use crate::entities::{FAIL, PRINT, REGISTER, SMALL_SUM, SUM};
 use crate::program::{Module, Text};
 use ang_code::Instruction;
 use ang_code::Instruction::{
-    Back, Change as Changed, Do, Drop, DropUnder, Enter, Load, PushBits, Return, SkipIfFalse,
+    LoopBack, Update as Changed, Apply, Drop, DropUnder, Enter, Load, PushBits, Return, JumpIfFalse,
     Store, Swap, Tick,
 };
 use ang_kinds::Prim;
-use ang_meaning::{Arithmetic, Callee, Change, Comparison, Operation, Passing, Slot};
+use ang_meaning::{Arithmetic, Callee, Update, Comparison, Operation, Passing, Slot};
 
 /// The module `m`, with two globals.
 pub const NUMBERS: Module = Module {
@@ -21,23 +21,23 @@ pub const NUMBERS: Module = Module {
 };
 
 /// An addition of a number, whose value is the one before.
-const INCREMENT: Change = Change {
+const INCREMENT: Update = Update {
     work: Arithmetic::Add,
     at: Prim::I64,
     to: Prim::I64,
     old: true,
 };
 
-const ADD: Instruction = Do(Operation::Work(Arithmetic::Add, Prim::I32));
+const ADD: Instruction = Apply(Operation::Binary(Arithmetic::Add, Prim::I32));
 
-const SUBTRACT: Instruction = Do(Operation::Work(Arithmetic::Subtract, Prim::I32));
+const SUBTRACT: Instruction = Apply(Operation::Binary(Arithmetic::Subtract, Prim::I32));
 
-const DIVIDE: Instruction = Do(Operation::Work(Arithmetic::Divide, Prim::I32));
+const DIVIDE: Instruction = Apply(Operation::Binary(Arithmetic::Divide, Prim::I32));
 
 /// Adds an `int` to the register; its value is the new one.
-const ADD_TO_REG: Instruction = Do(Operation::Alter(
+const ADD_TO_REG: Instruction = Apply(Operation::Alter(
     REGISTER,
-    Change {
+    Update {
         work: Arithmetic::Add,
         at: Prim::I32,
         to: Prim::I32,
@@ -48,13 +48,13 @@ const ADD_TO_REG: Instruction = Do(Operation::Alter(
 /// The bodies by number.
 const TEXTS: &[Text] = list! {
     // 0: int fib(int n) { return n < 2 ? n : fib(n - 1) + fib(n - 2); }
-    (&[Passing::In], 4, &[Load(0), PushBits(2), Do(Operation::Compare(Comparison::Less, true)),
-        SkipIfFalse(2), Load(0), Return(0), Load(0), PushBits(1), SUBTRACT, Enter(Callee::Own(0)),
+    (&[Passing::In], 4, &[Load(0), PushBits(2), Apply(Operation::Compare(Comparison::Less, true)),
+        JumpIfFalse(2), Load(0), Return(0), Load(0), PushBits(1), SUBTRACT, Enter(Callee::Own(0)),
         Load(1), PushBits(2), SUBTRACT, Enter(Callee::Own(0)), ADD, Return(0)]),
     // 1: int64 i = 0; for (; i < 10; i++) {} return i;
     (&[], 3, &[PushBits(0), Tick, Load(0), PushBits(10),
-        Do(Operation::Compare(Comparison::Less, true)), SkipIfFalse(4), PushBits(1),
-        Changed(INCREMENT, 0), Drop, Back(7), Load(0), Return(1)]),
+        Apply(Operation::Compare(Comparison::Less, true)), JumpIfFalse(4), PushBits(1),
+        Changed(INCREMENT, 0), Drop, LoopBack(7), Load(0), Return(1)]),
     // 2: int d() { return d(); }
     (&[], 1, &[Enter(Callee::Own(2)), Return(0)]),
     // 3: 7 - sum(30, 2), after a note of 5.
@@ -71,7 +71,7 @@ const TEXTS: &[Text] = list! {
     // 8: A sum of 200, which is too large.
     (&[], 2, &[PushBits(200), PushBits(0), SMALL_SUM, Return(0)]),
     // 9: int m() { reg = 300; return reg; }
-    (&[], 2, &[PushBits(300), Do(Operation::Write(REGISTER)), Drop, Do(Operation::Read(REGISTER)),
+    (&[], 2, &[PushBits(300), Apply(Operation::Write(REGISTER)), Drop, Apply(Operation::Read(REGISTER)),
         Return(0)]),
     // 10: A call of the body below, whose &out parameter is kept in the local.
     (&[], 3, &[PushBits(1), PushBits(0), PushBits(3), Enter(Callee::Own(11)),
@@ -79,9 +79,9 @@ const TEXTS: &[Text] = list! {
     // 11: int k(int &out x, int y) { return x = 9; }
     (&[Passing::In, Passing::Out], 1, &[PushBits(9), Store(1), Return(0)]),
     // 12: the second global is 6.
-    (&[], 1, &[PushBits(6), Do(Operation::GlobalSet(1)), Return(0)]),
+    (&[], 1, &[PushBits(6), Apply(Operation::GlobalSet(1)), Return(0)]),
     // 13: The difference of both globals.
-    (&[], 2, &[Do(Operation::GlobalGet(1)), Do(Operation::GlobalGet(0)), SUBTRACT, Return(0)]),
+    (&[], 2, &[Apply(Operation::GlobalGet(1)), Apply(Operation::GlobalGet(0)), SUBTRACT, Return(0)]),
     // 14: two ticks.
     (&[], 1, &[Tick, Tick, PushBits(0), Return(0)]),
 };

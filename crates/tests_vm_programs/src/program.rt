@@ -6,9 +6,9 @@ use crate::numbers::NUMBERS;
 use ang_code::{Instruction, RoutineCode};
 use ang_kinds::{List, Prim};
 use ang_meaning::{Class, Passing, Routine, Slot, ValueKind};
-use ang_vm_stack::body::Body;
-use ang_vm_stack::methods::{Method, Methods};
-use ang_vm_stack::table::{ClassCode, Import, ModuleCode, Table};
+use ang_vm_stack::body::LoadedBody;
+use ang_vm_stack::methods::{MethodEntry, Methods};
+use ang_vm_stack::table::{ClassCode, LinkedImport, ModuleCode, Table};
 use std::alloc::{AllocError, Global};
 
 /// A body: its parameters, the last one first, the most values that it has above them, and its text.
@@ -47,17 +47,17 @@ pub struct Module {
 /// The modules, by number.
 const MODULES: [Module; 4] = [NUMBERS, HANDLES, EXPORTER, CLASSES];
 
-fn body(alloc: Global, ty: Option<Prim>, text: &Text) -> Result<Body, AllocError> {
+fn body(alloc: Global, ty: Option<Prim>, text: &Text) -> Result<LoadedBody, AllocError> {
     let code = RoutineCode {
         params: text.0.to_vec(alloc)?,
         result: ty,
         height: text.1,
         text: text.2.to_vec(alloc)?,
     };
-    Body::new(alloc, code)
+    LoadedBody::new(alloc, code)
 }
 
-fn bodies(alloc: Global, written: &Module) -> Result<Vec<Body>, AllocError> {
+fn bodies(alloc: Global, written: &Module) -> Result<Vec<LoadedBody>, AllocError> {
     let mut bodies = Vec::new(alloc);
     for text in written.texts {
         bodies.push(body(alloc, written.result, text)?)?;
@@ -65,10 +65,10 @@ fn bodies(alloc: Global, written: &Module) -> Result<Vec<Body>, AllocError> {
     Ok(bodies)
 }
 
-fn imports(alloc: Global, rows: &[ImportRow]) -> Result<Vec<Import>, AllocError> {
+fn imports(alloc: Global, rows: &[ImportRow]) -> Result<Vec<LinkedImport>, AllocError> {
     let mut imports = Vec::new(alloc);
     for (params, bound) in rows {
-        imports.push(Import {
+        imports.push(LinkedImport {
             params: Vec::from_slice(alloc, params)?,
             bound: *bound,
         })?;
@@ -79,7 +79,7 @@ fn imports(alloc: Global, rows: &[ImportRow]) -> Result<Vec<Import>, AllocError>
 fn methods(alloc: Global, home: u32, rows: &[(usize, usize)]) -> Result<Methods, AllocError> {
     let mut methods = Vec::new(alloc);
     for (slot, number) in rows {
-        methods.push(Method {
+        methods.push(MethodEntry {
             slot: *slot,
             function: Routine {
                 home,

@@ -10,15 +10,15 @@ use Rattle.ang_tree.specs.declared.statement.Statement.TheVariants as from
 use Rattle.ang_tree.specs.declared.statement.Statement.TheOpen.{Statement-F}
 use Rattle.ang_typed.specs.Typed as tree
 use Rattle.ang_typed.specs.View as typed
-use Rattle.ang_typed.specs.declared.statement.Block as blocks
-use Rattle.ang_typed.specs.declared.statement.Statement as statements
-use Rattle.ang_typed.specs.declared.statement.Statement.TheVariants as to
-use Rattle.ang_typed.specs.declared.statement.Statement.TheOpen as open_tree
+use Rattle.ang_typed.specs.declared.statement.TypedBlock as blocks
+use Rattle.ang_typed.specs.declared.statement.TypedStatement as statements
+use Rattle.ang_typed.specs.declared.statement.TypedStatement.TheVariants as to
+use Rattle.ang_typed.specs.declared.statement.TypedStatement.TheOpen as open_tree
 use Rattle.ang_check_operators.specs.Refusals.{Typing}
 use Rattle.ang_check_context.specs.declared.scope.LocalVariable.{LocalVariable}
 use Rattle.ang_check_stmt.specs.declared.halt.Halt.{Halt}
 use Rattle.ang_check_stmt.specs.Halts.{GivesOrHalts}
-use Rattle.ang_check_stmt.specs.Typing.{Frame, with_same, jump, stmt_typing, stmts_typing}
+use Rattle.ang_check_stmt.specs.Typing.{FunctionContext, with_same, jump, stmt_typing, stmts_typing}
 use Rattle.ang_check_stmt.proofs.SoFar.{gives_same, keeps_same, keeps_on, stmts_behind, statements_turn, statements_end}
 use Rattle.ang_check_stmt.proofs.statements.+statement.Goals as goal
 
@@ -39,18 +39,18 @@ written_continue x =
 typed_break : typed.view_stmt to.Break ≡ tree.break
 typed_break =
     ap typed.view_stmt (sym to.rolls-Break)
-    ∙ statements.fold-roll-Statement tree.Stmt tree.Stmts tree.Stmt tree.Stmt typed.Repeated
-    typed.statement_step typed.block_step typed.choice_step typed.for_step typed.loop_step open_tree.Statement-F.Break
+    ∙ statements.fold-roll-TypedStatement tree.Stmt tree.Stmts tree.Stmt tree.Stmt typed.Repeated
+    typed.statement_step typed.block_step typed.choice_step typed.for_step typed.loop_step open_tree.TypedStatement-F.Break
 
 typed_continue : typed.view_stmt to.Continue ≡ tree.continue
 typed_continue =
     ap typed.view_stmt (sym to.rolls-Continue)
-    ∙ statements.fold-roll-Statement tree.Stmt tree.Stmts tree.Stmt tree.Stmt typed.Repeated
-    typed.statement_step typed.block_step typed.choice_step typed.for_step typed.loop_step open_tree.Statement-F.Continue
+    ∙ statements.fold-roll-TypedStatement tree.Stmt tree.Stmts tree.Stmt tree.Stmt typed.Repeated
+    typed.statement_step typed.block_step typed.choice_step typed.for_step typed.loop_step open_tree.TypedStatement-F.Continue
 
 -- `break` or `continue`, of which the statement is one
-jumped : (f : Frame) (loop : Bool) (start : ℕ) (ps : List LocalVariable) (w : Statement) (word : Token) (x : statements.Statement) (s : written.Stmt) (y : tree.Stmt)
-    (r : Result statements.Statement Halt)
+jumped : (f : FunctionContext) (loop : Bool) (start : ℕ) (ps : List LocalVariable) (w : Statement) (word : Token) (x : statements.TypedStatement) (s : written.Stmt) (y : tree.Stmt)
+    (r : Result statements.TypedStatement Halt)
     → trees.view_stmt w ≡ s → typed.view_stmt x ≡ y → stmt_typing f loop start ps s ≡ with_same ps (jump loop word y)
     → GivesOrHalts typed.view_stmt r (jump loop word (typed.view_stmt x))
     → GivesOrHalts (λ z. (ps, typed.view_stmt z)) r (stmt_typing f loop start ps (trees.view_stmt w))
@@ -76,7 +76,7 @@ statements-returns-clause-exact t c =
     let whole = statements_end c.args.frame.now c.args.in_loop c.args.start c.loop-item.locals _
     (list_map typed.view_stmt c.loop-item.found.items) c.args.written.now c.loop-item.item-index c.loop-item.invariant.left c.loop-item-test.false in
     whole ∙ ap (λ (ss : tree.Stmts). Ok ss)
-    (sym (blocks.fold-roll-Block tree.Stmt tree.Stmts tree.Stmt tree.Stmt typed.Repeated
+    (sym (blocks.fold-roll-TypedBlock tree.Stmt tree.Stmts tree.Stmt tree.Stmt typed.Repeated
     typed.statement_step typed.block_step typed.choice_step typed.for_step typed.loop_step (record { statements = c.loop-item.found })))
 
 pub statement-returns-in-Break : goal.statement-returns-in-Break

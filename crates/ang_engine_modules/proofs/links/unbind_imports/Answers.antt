@@ -1,5 +1,5 @@
 use Rattle.std.proofs.Common.{rules, ◌≡◌, ◌∙◌, ap, length, slice_index_or, map}
-use Rattle.ang_vm_stack.specs.declared.table.Import.{Import}
+use Rattle.ang_vm_stack.specs.declared.table.LinkedImport.{LinkedImport}
 use Rattle.ang_engine_modules.specs.Modules.{unbound_link}
 use Rattle.ang_engine_modules.proofs.Lists.{next_first, left_mapped}
 use Rattle.ang_engine_modules.proofs.Imports.{unbound_import, bounds_unbound, params_unbound}
@@ -17,7 +17,7 @@ returns-clause-bound c =
     let old = c.args.imports.now in
     let same : c.deref_mut-import-items.result.now ≡ old.items = search rules in
     let count : old.len ≡ length old.items = search rules in
-    ap (map (λ (y : Import). y.bound))
+    ap (map (λ (y : LinkedImport). y.bound))
     (left_mapped (unbound_import c.args.home) c.loop-import.import-index old.len c.loop-import.import-items c.deref_mut-import-items.result.now old.items c.loop-import.invariant same
     c.loop-import-test.false count)
     ∙ bounds_unbound c.args.home old.items
@@ -27,7 +27,7 @@ returns-clause-params c =
     let old = c.args.imports.now in
     let same : c.deref_mut-import-items.result.now ≡ old.items = search rules in
     let count : old.len ≡ length old.items = search rules in
-    ap (map (λ (y : Import). y.params.items))
+    ap (map (λ (y : LinkedImport). y.params.items))
     (left_mapped (unbound_import c.args.home) c.loop-import.import-index old.len c.loop-import.import-items c.deref_mut-import-items.result.now old.items c.loop-import.invariant same
     c.loop-import-test.false count)
     ∙ params_unbound c.args.home old.items

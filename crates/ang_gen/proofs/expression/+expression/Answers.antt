@@ -4,10 +4,10 @@ use Rattle.std.proofs.lemmas.Grind.{common_steps}
 use Rattle.std.proofs.lemmas.List.{length_push, length-reverse}
 use Rattle.std.proofs.lemmas.Iterator.Adapters.{YieldsList-from_rev_slice}
 use Rattle.std.proofs.lemmas.Iterator.Consumers.{YieldsList-turn, YieldsList-so_far}
-use Rattle.ang_code.specs.declared.instruction.Instruction.TheVariants.{Do, Enter}
+use Rattle.ang_code.specs.declared.instruction.Instruction.TheVariants.{Apply, Enter}
 use Rattle.ang_gen.specs.Code.{expr_code, outs_code}
-use Rattle.ang_core.specs.declared.tree.Expression.TheFolds.{the_lemmas}
-use Rattle.ang_core.proofs.tree.Expression.TheLaws.{the_size}
+use Rattle.ang_core.specs.declared.tree.CoreExpression.TheFolds.{the_lemmas}
+use Rattle.ang_core.proofs.tree.CoreExpression.TheLaws.{the_size}
 use Rattle.ang_gen.specs.Rows.{list_code}
 use Rattle.ang_gen.proofs.Lists.{apply_code, call_code}
 use Rattle.ang_gen.proofs.Turns.{operands_turn, row_depth}
@@ -50,7 +50,7 @@ write_expression-returns-in_ok-put-in-Apply t c =
     let same : list_code d c.deref-in-Apply.result.now ++ c.put-in-Apply.new.self ≡ expr_code d c.args.e.now ++ old =
     ap (λ l. list_code d l ++ c.put-in-Apply.new.self) c.deref-in-Apply.ensures.value
     ∙ ap (λ l. list_code d items ++ l) c.in_ok-put-in-Apply.ensures.before
-    ∙ sym (append_assoc (list_code d items) (Do c.in-Apply.operation ∷ []) old)
+    ∙ sym (append_assoc (list_code d items) (Apply c.in-Apply.operation ∷ []) old)
     ∙ ap (λ l. l ++ old) (sym (apply_code d c.in-Apply.operation c.in-Apply.operands))
     ∙ ap (λ x. expr_code d x ++ old) (sym c.in-Apply.is) in
     record { code = subst (λ l. OnOk c.write_operands.result (c.write_operands.new.text ≡ l)) same c.write_operands.ensures.code }

@@ -3,9 +3,9 @@ use Rattle.std.specs.Prelude.{max, map}
 use Rattle.std.proofs.lemmas.Grind.{common_steps}
 use Rattle.std.proofs.lemmas.Iterator.Adapters.{YieldsList-from_rev_slice}
 use Rattle.std.proofs.lemmas.Iterator.Consumers.{YieldsList-turn, YieldsList-so_far}
-use Rattle.ang_code.specs.declared.instruction.Instruction.TheVariants.{SkipIfFalse, GoOn, Back}
-use Rattle.ang_core.specs.declared.tree.Statement.TheFolds.{the_lemmas}
-use Rattle.ang_core.proofs.tree.Statement.TheLaws.{the_size}
+use Rattle.ang_code.specs.declared.instruction.Instruction.TheVariants.{JumpIfFalse, Jump, LoopBack}
+use Rattle.ang_core.specs.declared.tree.CoreStatement.TheFolds.{the_lemmas}
+use Rattle.ang_core.proofs.tree.CoreStatement.TheLaws.{the_size}
 use Rattle.ang_core.specs.Sound.{declared}
 use Rattle.ang_gen.specs.Code.{expr_code, leave_code, block_code, stmt_code, while_code}
 use Rattle.ang_gen.specs.Peaks.{peak, statement_peak}
@@ -183,8 +183,8 @@ write_statement-returns-in_ok-write_block-in-If-2 t c =
     c.in_ok-write_block-in-If.ensures.code ∙ ap (λ z. block_at q n j (length t0 - x.exit) (length t0 - x.again) z ++ t0) c.deref-in-If.ensures in
     let e3 : t3 ≡ block_at q n j (length t2 - x.exit) (length t2 - x.again) c.in-If.one.value ++ t2 =
     c.in_ok-write_block-in-If-2.ensures.code ∙ ap (λ z. block_at q n j (length t2 - x.exit) (length t2 - x.again) z ++ t2) c.deref-in-If-2.ensures in
-    let same : expr_code 0 c.deref-in-If-3.result.now ++ (SkipIfFalse (length t3 - c.len-second.result) ∷ t3) ≡ stmt_code q n j (length t0 - x.exit) (length t0 - x.again) c.args.s.now ++ t0 =
-    ap (λ z. expr_code 0 z ++ (SkipIfFalse (length t3 - c.len-second.result) ∷ t3)) c.deref-in-If-3.ensures
+    let same : expr_code 0 c.deref-in-If-3.result.now ++ (JumpIfFalse (length t3 - c.len-second.result) ∷ t3) ≡ stmt_code q n j (length t0 - x.exit) (length t0 - x.again) c.args.s.now ++ t0 =
+    ap (λ z. expr_code 0 z ++ (JumpIfFalse (length t3 - c.len-second.result) ∷ t3)) c.deref-in-If-3.ensures
     ∙ if_arm t0 t1 t2 t3 q n j x.exit x.again c.len-second.result c.len-end.result c.in-If.test.value c.in-If.one.value c.in-If.two.value c.requires.exit c.requires.again
     e1 c.len-end.ensures.count c.len-second.ensures.count c.in_ok-write_past-in-If.ensures.code e3
     ∙ ap (λ z. stmt_code q n j (length t0 - x.exit) (length t0 - x.again) z ++ t0) (sym c.in-If.is) in
@@ -199,7 +199,7 @@ write_statement-returns-in_ok-write_body-in-While t c =
     let body_code = block_code (stmt_code q n n (ending s + length step_code + 1) (ending s) s) (declared s) in
     let e2 : t2 ≡ step_code ++ t1 = c.in_ok-write_step-in-While.ensures.code ∙ ap (λ z. block_code (stmt_code q n 0 0 0 z) (declared z) ++ t1) c.deref-in-While.ensures in
     let e3 : t3 ≡ body_at q n (length t2 - behind) s ++ t2 = c.in_ok-write_body-in-While.ensures.code ∙ ap (λ z. body_at q n (length t2 - behind) z ++ t2) c.deref-in-While-2.ensures in
-    let seen : t3 ≡ body_code ++ (step_code ++ Back 0 ∷ t0) =
+    let seen : t3 ≡ body_code ++ (step_code ++ LoopBack 0 ∷ t0) =
     while_arm t0 t1 t2 t3 step_code q n behind s c.in_ok-put-in-While.ensures.before c.len-behind.ensures.count e2 e3 in
     record {
       code =
@@ -215,11 +215,11 @@ write_statement-returns-in_ok-write_body-in-DoWhile t c =
     let s = c.in-DoWhile.body.value in
     let body_code = block_code (stmt_code q n n (ending s + 0 + 1) (ending s) s) (declared s) in
     let e3 : t3 ≡ body_at q n (length t1 - behind) s ++ t1 = c.in_ok-write_body-in-DoWhile.ensures.code ∙ ap (λ z. body_at q n (length t1 - behind) z ++ t1) c.deref-in-DoWhile.ensures in
-    let seen : t3 ≡ body_code ++ ([] ++ Back 0 ∷ t0) =
+    let seen : t3 ≡ body_code ++ ([] ++ LoopBack 0 ∷ t0) =
     while_arm t0 t1 t1 t3 [] q n behind s c.in_ok-put-in-DoWhile.ensures.before c.len-behind-in-DoWhile.ensures.count refl e3 in
     record {
       code =
           subst (λ z. OnOk c.begin_at_body.result (c.begin_at_body.new.text ≡ stmt_code q n x.alive (length t0 - x.exit) (length t0 - x.again) z ++ t0)) (sym c.in-DoWhile.is)
-          (subst (λ z. OnOk c.begin_at_body.result (c.begin_at_body.new.text ≡ GoOn (length (expr_code 0 z) + 2) ∷ (while_code (expr_code 0 z) body_code [] ++ t0))) c.deref-in-DoWhile-2.ensures
+          (subst (λ z. OnOk c.begin_at_body.result (c.begin_at_body.new.text ≡ Jump (length (expr_code 0 z) + 2) ∷ (while_code (expr_code 0 z) body_code [] ++ t0))) c.deref-in-DoWhile-2.ensures
           (c.begin_at_body.ensures.code body_code t0 seen (sym c.len-behind-in-DoWhile.ensures.count)));
     }

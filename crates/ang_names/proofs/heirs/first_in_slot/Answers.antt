@@ -1,7 +1,7 @@
 use Rattle.std.specs.Prelude.{ℕ, ◌≡◌, ◌+◌, ◌==◌, Bool, None, drop, find, get_or, slice_get}
 use Rattle.std.specs.Option.{option_or}
 use Rattle.std.proofs.Common.{rules, sym, ap, ◌∙◌}
-use Rattle.ang_names_known.specs.declared.names.Method.{Method}
+use Rattle.ang_names_known.specs.declared.names.ScriptMethod.{ScriptMethod}
 use Rattle.ang_names.specs.ByNumber.{methods_at, methods_in}
 use Rattle.ang_names.proofs.Inherited.{first_from}
 use Rattle.ang_names.proofs.heirs.first_in_slot.Goals as goal
@@ -12,7 +12,7 @@ returns-in-Some c =
     let order = c.args.order.now in
     let i = c.loop-number.number-index in
     let n : ℕ = get_or order i 0 in
-    let p : Method → Bool = λ m. m.slot == c.args.slot in
+    let p : ScriptMethod → Bool = λ m. m.slot == c.args.slot in
     let here = sym c.in-Some.ensures.exact in
     record {
       exact = sym (
@@ -27,7 +27,7 @@ loop-number-preserved c =
     let order = c.args.order.now in
     let i = c.loop-number.number-index in
     let n : ℕ = get_or order i 0 in
-    let p : Method → Bool = λ m. m.slot == c.args.slot in
+    let p : ScriptMethod → Bool = λ m. m.slot == c.args.slot in
     let here : find p (methods_in (slice_get fs n)) ≡ None = search rules in
     c.loop-number.invariant
     ∙ first_from p (λ k. methods_in (slice_get fs k)) order i c.loop-number-test.true

@@ -1,7 +1,7 @@
 use Rattle.std.specs.Prelude.{ℕ, ◌≡◌, ◌+◌, Bool, not, None, drop, find, get_or, slice_get}
 use Rattle.std.specs.Option.{option_or}
 use Rattle.std.proofs.Common.{rules, sym, ap, ◌∙◌}
-use Rattle.ang_names_known.specs.declared.names.Method.{Method}
+use Rattle.ang_names_known.specs.declared.names.ScriptMethod.{ScriptMethod}
 use Rattle.ang_names.specs.Heirs.{has_public_method}
 use Rattle.ang_names.specs.ByNumber.{interface_methods, interface_methods_at}
 use Rattle.ang_names.proofs.Inherited.{first_from}
@@ -13,7 +13,7 @@ returns-in-Some c =
     let order = c.args.above.now in
     let i = c.loop-number.number-index in
     let n : ℕ = get_or order i 0 in
-    let p : Method → Bool = λ m. not (has_public_method fs c.args.class m) in
+    let p : ScriptMethod → Bool = λ m. not (has_public_method fs c.args.class m) in
     let own = c.interface_methods-methods.ensures.exact ∙ ap (λ gs. interface_methods (slice_get gs n)) c.families.ensures.same in
     let here = ap (find p) (sym own) ∙ sym c.in-Some.ensures.exact in
     record {
@@ -29,7 +29,7 @@ loop-number-preserved c =
     let order = c.args.above.now in
     let i = c.loop-number.number-index in
     let n : ℕ = get_or order i 0 in
-    let p : Method → Bool = λ m. not (has_public_method fs c.args.class m) in
+    let p : ScriptMethod → Bool = λ m. not (has_public_method fs c.args.class m) in
     let none : find p c.interface_methods-methods.result.now ≡ None = search rules in
     let own = c.interface_methods-methods.ensures.exact ∙ ap (λ gs. interface_methods (slice_get gs n)) c.families.ensures.same in
     let here : find p (interface_methods (slice_get fs n)) ≡ None = ap (find p) (sym own) ∙ none in

@@ -1,7 +1,7 @@
 use Rattle.std.proofs.Common.{◌<◌, ◌≤◌, ◌==◌, ◌++◌, [], length, arith, sym, ap, ◌∙◌}
 use Rattle.std.proofs.lemmas.List.{drop_all}
 use Rattle.ang_index.specs.Rows.{items_at}
-use Rattle.ang_names_known.specs.declared.names.Method.{Method}
+use Rattle.ang_names_known.specs.declared.names.ScriptMethod.{ScriptMethod}
 use Rattle.ang_names.specs.Rows.{slot_row}
 use Rattle.ang_names.proofs.InRows.{and_true, place_more, places_end}
 use Rattle.ang_names.proofs.indexed.places_by_slot.Goals as goal
@@ -16,7 +16,7 @@ loop-place-preserved c slot =
     let all = c.args.methods.now in
     let n = c.loop-place.place in
     let inside : n < length all = omega arith in
-    place_more (λ (m : Method). m.slot == slot) all c.index-methods-place.result n _ (slot_row slot all)
+    place_more (λ (m : ScriptMethod). m.slot == slot) all c.index-methods-place.result n _ (slot_row slot all)
     (items_at slot [] c.loop-place.slots) (items_at slot [] c.push.new.self)
     inside c.index-methods-place.is (and_true (c.index-methods-place.result.slot == slot)) (c.in_ok-push.ensures.pushed slot []) (c.loop-place.invariant slot)
 
@@ -27,6 +27,6 @@ returns c =
     let over : length all ≤ n = omega arith in
     record {
       exact = record {
-        places = λ slot. sym (c.loop-place.invariant slot ∙ places_end (λ (m : Method). m.slot == slot) all n (items_at slot [] c.loop-place.slots) (drop_all n all over));
+        places = λ slot. sym (c.loop-place.invariant slot ∙ places_end (λ (m : ScriptMethod). m.slot == slot) all n (items_at slot [] c.loop-place.slots) (drop_all n all over));
       };
     }

@@ -1,6 +1,6 @@
 use Rattle.std.proofs.Common.{◌≡◌, map, take}
-use Rattle.ang_names_known.specs.declared.names.Method.{Method}
+use Rattle.ang_names_known.specs.declared.names.ScriptMethod.{ScriptMethod}
 use Rattle.ang_names_known.proofs.places.method_texts.Given as goal
 
 abbrev pub invariant-loop-method : goal.invariant-loop-method
-invariant-loop-method l = l.texts.items ≡ map (λ (m : Method). m.function.name) (take l.method-index l.methods)
+invariant-loop-method l = l.texts.items ≡ map (λ (m : ScriptMethod). m.function.name) (take l.method-index l.methods)

@@ -1,5 +1,5 @@
 use Rattle.ang_heap.proofs.Storing.{moves_none}
 use Rattle.ang_vm.proofs.bodies.give_up.Goals as goal
 
-pub returns-in-Lost-clause-moves : goal.returns-in-Lost-clause-moves
-returns-in-Lost-clause-moves g c = λ roles. moves_none (λ v. (g.dyn-1.0.entry v).1) roles c.args.store.now
+pub returns-in-Stuck-clause-moves : goal.returns-in-Stuck-clause-moves
+returns-in-Stuck-clause-moves g c = λ roles. moves_none (λ v. (g.dyn-1.0.entry v).1) roles c.args.store.now

@@ -8,7 +8,7 @@ use Rattle.ang_code.specs.Machine.{back}
 use Rattle.ang_heap.specs.Stores.{world_of}
 use Rattle.ang_heap.proofs.Storing.{moves_join}
 use Rattle.ang_vm_stack.specs.declared.place.Pause.TheVariants as pause
-use Rattle.ang_vm_stack.specs.declared.place.Ending.TheVariants as ending
+use Rattle.ang_vm_stack.specs.declared.place.RunResult.TheVariants as ending
 use Rattle.ang_vm_stack.specs.Stacks.{values}
 use Rattle.ang_vm_stack.specs.Tables.{body_of, setting_of, texts_of}
 use Rattle.ang_vm_steps.proofs.Paths.{reach_same, reach_told, reach_then, lead_reach}
@@ -45,13 +45,13 @@ returns-in-Faults-clause-ends g c =
 pub returns-in-Faults-clause-moves : goal.returns-in-Faults-clause-moves
 returns-in-Faults-clause-moves g c = moved_then (λ v. (g.dyn-1.0.entry v).1) c.args.table.now _ _ _ c.loop-callee.invariant.moves (moved_then (λ v. (g.dyn-1.0.entry v).1) c.args.table.now _ _ _ c.run_within-crossing.ensures.moves (moved_by (λ v. (g.dyn-1.0.entry v).1) c.args.table.now _ _ c.fail.ensures.moves))
 
-pub returns-in-Lost-clause-ends : goal.returns-in-Lost-clause-ends
-returns-in-Lost-clause-ends g c =
+pub returns-in-Stuck-clause-ends : goal.returns-in-Stuck-clause-ends
+returns-in-Stuck-clause-ends g c =
     reach_then (setting_of c.args.table.now c.args.nesting) (texts_of c.args.table.now) c.loop-callee.invariant.reaches
-    (halted c.args.table.now c.args.nesting c.loop-callee.here c.loop-callee.stack.items c.run_within-crossing.new.stack.items c.loop-callee.frames.items (world_of (λ v. (g.dyn-1.0.entry v).1) c.loop-callee.store) (world_of (λ v. (g.dyn-1.0.entry v).1) c.run_within-crossing.new.store) pause.Lost ending.Lost (world_of (λ v. (g.dyn-1.0.entry v).1) c.run_within-crossing.new.store) (pauses_at c.args.table.now c.loop-callee.here c.loop-callee.stack.items c.run_within-crossing.new.stack.items (world_of (λ v. (g.dyn-1.0.entry v).1) c.loop-callee.store) (world_of (λ v. (g.dyn-1.0.entry v).1) c.run_within-crossing.new.store) _ _ (ap (λ x. pause_of x c.run_within-crossing.result.0) c.in-Lost.is) c.run_within-crossing.ensures.comes) (told_same (λ is. refl)))
+    (halted c.args.table.now c.args.nesting c.loop-callee.here c.loop-callee.stack.items c.run_within-crossing.new.stack.items c.loop-callee.frames.items (world_of (λ v. (g.dyn-1.0.entry v).1) c.loop-callee.store) (world_of (λ v. (g.dyn-1.0.entry v).1) c.run_within-crossing.new.store) pause.Stuck ending.Stuck (world_of (λ v. (g.dyn-1.0.entry v).1) c.run_within-crossing.new.store) (pauses_at c.args.table.now c.loop-callee.here c.loop-callee.stack.items c.run_within-crossing.new.stack.items (world_of (λ v. (g.dyn-1.0.entry v).1) c.loop-callee.store) (world_of (λ v. (g.dyn-1.0.entry v).1) c.run_within-crossing.new.store) _ _ (ap (λ x. pause_of x c.run_within-crossing.result.0) c.in-Stuck.is) c.run_within-crossing.ensures.comes) (told_same (λ is. refl)))
 
-pub returns-in-Lost-clause-moves : goal.returns-in-Lost-clause-moves
-returns-in-Lost-clause-moves g c = moved_then (λ v. (g.dyn-1.0.entry v).1) c.args.table.now _ _ _ c.loop-callee.invariant.moves c.run_within-crossing.ensures.moves
+pub returns-in-Stuck-clause-moves : goal.returns-in-Stuck-clause-moves
+returns-in-Stuck-clause-moves g c = moved_then (λ v. (g.dyn-1.0.entry v).1) c.args.table.now _ _ _ c.loop-callee.invariant.moves c.run_within-crossing.ensures.moves
 
 -- a call
 pub loop-callee-preserved-in-Enters : goal.loop-callee-preserved-in-Enters
@@ -92,7 +92,7 @@ leave_within-requires-clause-counted g c =
 pub returns-in_default-leave_within-clause-ends : goal.returns-in_default-leave_within-clause-ends
 returns-in_default-leave_within-clause-ends g c =
     reach_then (setting_of c.args.table.now c.args.nesting) (texts_of c.args.table.now) c.loop-callee.invariant.reaches
-    (left_over c.args.table.now c.args.nesting c.loop-callee.here c.loop-callee.stack.items c.run_within-crossing.new.stack.items c.loop-callee.frames.items (world_of (λ v. (g.dyn-1.0.entry v).1) c.loop-callee.store) (world_of (λ v. (g.dyn-1.0.entry v).1) c.run_within-crossing.new.store) c.run_within-crossing.result.0 c.in-Returns.count ending.Lost (world_of (λ v. (g.dyn-1.0.entry v).1) c.leave_within.new.store) (pauses_at c.args.table.now c.loop-callee.here c.loop-callee.stack.items c.run_within-crossing.new.stack.items (world_of (λ v. (g.dyn-1.0.entry v).1) c.loop-callee.store) (world_of (λ v. (g.dyn-1.0.entry v).1) c.run_within-crossing.new.store) _ _ (ap (λ x. pause_of x c.run_within-crossing.result.0) c.in-Returns.is) c.run_within-crossing.ensures.comes)
+    (left_over c.args.table.now c.args.nesting c.loop-callee.here c.loop-callee.stack.items c.run_within-crossing.new.stack.items c.loop-callee.frames.items (world_of (λ v. (g.dyn-1.0.entry v).1) c.loop-callee.store) (world_of (λ v. (g.dyn-1.0.entry v).1) c.run_within-crossing.new.store) c.run_within-crossing.result.0 c.in-Returns.count ending.Stuck (world_of (λ v. (g.dyn-1.0.entry v).1) c.leave_within.new.store) (pauses_at c.args.table.now c.loop-callee.here c.loop-callee.stack.items c.run_within-crossing.new.stack.items (world_of (λ v. (g.dyn-1.0.entry v).1) c.loop-callee.store) (world_of (λ v. (g.dyn-1.0.entry v).1) c.run_within-crossing.new.store) _ _ (ap (λ x. pause_of x c.run_within-crossing.result.0) c.in-Returns.is) c.run_within-crossing.ensures.comes)
     (told_then (c.leave_within.ensures.told (setting_of c.args.table.now c.args.nesting) (texts_of c.args.table.now) c.loop-callee.here.body c.run_within-crossing.result.0.at c.loop-callee.here.room (reverse c.loop-callee.frames.items) c.run_within-crossing.result.0.ticks (params_there c.args.table.now c.loop-callee.here.body c.loop-callee.code.now c.args.nesting c.loop-callee.invariant.code)) (told_same (λ is. ap (λ o. handed o c.leave_within.new.stack.items (reverse c.loop-callee.frames.items) c.run_within-crossing.result.0.ticks (with_inputs is (world_of (λ v. (g.dyn-1.0.entry v).1) c.leave_within.new.store))) (c.in_default-leave_within.is)))))
 
 pub returns-in_default-leave_within-clause-moves : goal.returns-in_default-leave_within-clause-moves
@@ -115,7 +115,7 @@ pub returns-in_default-resume_within-clause-ends : goal.returns-in_default-resum
 returns-in_default-resume_within-clause-ends g c =
     let split : reverse c.loop-callee.frames.items ≡ c.in-Some-pop.caller ∷ reverse c.pop.new.self.items = ap reverse c.in-Some-pop.ensures.items ∙ push_front c.pop.new.self.items c.in-Some-pop.caller in
     reach_then (setting_of c.args.table.now c.args.nesting) (texts_of c.args.table.now) c.loop-callee.invariant.reaches
-    (left_over c.args.table.now c.args.nesting c.loop-callee.here c.loop-callee.stack.items c.run_within-crossing.new.stack.items c.loop-callee.frames.items (world_of (λ v. (g.dyn-1.0.entry v).1) c.loop-callee.store) (world_of (λ v. (g.dyn-1.0.entry v).1) c.run_within-crossing.new.store) c.run_within-crossing.result.0 c.in-Returns.count ending.Lost (world_of (λ v. (g.dyn-1.0.entry v).1) c.leave_within.new.store) (pauses_at c.args.table.now c.loop-callee.here c.loop-callee.stack.items c.run_within-crossing.new.stack.items (world_of (λ v. (g.dyn-1.0.entry v).1) c.loop-callee.store) (world_of (λ v. (g.dyn-1.0.entry v).1) c.run_within-crossing.new.store) _ _ (ap (λ x. pause_of x c.run_within-crossing.result.0) c.in-Returns.is) c.run_within-crossing.ensures.comes)
+    (left_over c.args.table.now c.args.nesting c.loop-callee.here c.loop-callee.stack.items c.run_within-crossing.new.stack.items c.loop-callee.frames.items (world_of (λ v. (g.dyn-1.0.entry v).1) c.loop-callee.store) (world_of (λ v. (g.dyn-1.0.entry v).1) c.run_within-crossing.new.store) c.run_within-crossing.result.0 c.in-Returns.count ending.Stuck (world_of (λ v. (g.dyn-1.0.entry v).1) c.leave_within.new.store) (pauses_at c.args.table.now c.loop-callee.here c.loop-callee.stack.items c.run_within-crossing.new.stack.items (world_of (λ v. (g.dyn-1.0.entry v).1) c.loop-callee.store) (world_of (λ v. (g.dyn-1.0.entry v).1) c.run_within-crossing.new.store) _ _ (ap (λ x. pause_of x c.run_within-crossing.result.0) c.in-Returns.is) c.run_within-crossing.ensures.comes)
     (told_then (c.in-Some-leave_within.ensures.told (setting_of c.args.table.now c.args.nesting) (texts_of c.args.table.now) c.loop-callee.here.body c.run_within-crossing.result.0.at c.loop-callee.here.room (reverse c.loop-callee.frames.items) c.run_within-crossing.result.0.ticks (params_there c.args.table.now c.loop-callee.here.body c.loop-callee.code.now c.args.nesting c.loop-callee.invariant.code)) (told_same (λ is. ap (λ x. back x c.in-Some-leave_within.parted.value [] (values c.leave_within.new.stack.items c.in-Some-leave_within.parted.kept) c.run_within-crossing.result.0.ticks (with_inputs is (world_of (λ v. (g.dyn-1.0.entry v).1) c.leave_within.new.store))) split ∙ c.resume_within.ensures.told (reverse c.pop.new.self.items) (with_inputs is (world_of (λ v. (g.dyn-1.0.entry v).1) c.leave_within.new.store))
     ∙ ap (λ o. resumed o c.resume_within.new.stack.items (reverse c.pop.new.self.items) (with_inputs is (world_of (λ v. (g.dyn-1.0.entry v).1) c.leave_within.new.store))) c.in_default-resume_within.is))))
 

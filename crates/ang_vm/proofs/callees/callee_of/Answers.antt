@@ -1,6 +1,6 @@
 use Rattle.std.proofs.Common.{ap, sym, ◌∙◌}
 use Rattle.ang_meaning.specs.World.{with_inputs}
-use Rattle.ang_meaning.specs.Setting.{target, virtual_of, bound as bound_to}
+use Rattle.ang_meaning.specs.Environment.{target, virtual_of, bound as bound_to}
 use Rattle.ang_heap.specs.Stores.{world_of}
 use Rattle.ang_vm_stack.specs.Stacks.{values}
 use Rattle.ang_vm_stack.specs.Tables.{setting_of}

@@ -2,7 +2,7 @@ use Rattle.std.proofs.Common.{ap, sym, ◌∙◌}
 use Rattle.std.specs.FinMap as map
 use Rattle.ang_meaning.specs.declared.slot.Slot.TheVariants.{Script}
 use Rattle.ang_meaning.specs.World.{with_inputs}
-use Rattle.ang_meaning.specs.Setting.{virtual_of, bound as bound_to}
+use Rattle.ang_meaning.specs.Environment.{virtual_of, bound as bound_to}
 use Rattle.ang_heap.specs.Heaps.{objects_of}
 use Rattle.ang_heap.specs.Stores.{world_of}
 use Rattle.ang_vm_stack.specs.Tables.{setting_of}

@@ -1,5 +1,5 @@
 use Rattle.std.proofs.Common.{◌-◌, sym, ◌∙◌, ap, arith}
-use Rattle.ang_meaning.specs.Setting.{params_in}
+use Rattle.ang_meaning.specs.Environment.{params_in}
 use Rattle.ang_meaning.specs.Results.{local_at}
 use Rattle.ang_vm_stack.specs.Stacks.{values}
 use Rattle.ang_vm_stack.specs.Tables.{slot_of}

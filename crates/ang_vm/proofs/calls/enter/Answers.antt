@@ -1,7 +1,7 @@
 use Rattle.std.proofs.Common.{◌≡◌, ◌≤◌, length, sym, ap, ◌∙◌, arith, Some, None}
 use Rattle.std.specs.Prelude.{reverse}
 use Rattle.ang_meaning.specs.World.{with_inputs}
-use Rattle.ang_meaning.specs.Setting.{target}
+use Rattle.ang_meaning.specs.Environment.{target}
 use Rattle.ang_meaning.proofs.Telling.{told_same, told_then}
 use Rattle.ang_code.specs.Machine.{found_enters}
 use Rattle.ang_heap.specs.Stores.{world_of}

@@ -2,7 +2,7 @@ use Rattle.std.proofs.Common.{◌+◌, ◌-◌, ◌<◌, ◌∷◌, length, refl
 use Rattle.std.specs.Prelude.{reverse}
 use Rattle.std.proofs.lemmas.List.{length-reverse}
 use Rattle.ang_meaning.specs.World.{with_inputs}
-use Rattle.ang_meaning.specs.Setting.{has_objects}
+use Rattle.ang_meaning.specs.Environment.{has_objects}
 use Rattle.ang_meaning.proofs.Telling.{told_same, told_then}
 use Rattle.ang_vm_stack.specs.Stacks.{values}
 use Rattle.ang_vm_stack.specs.Tables.{setting_of, texts_of}

@@ -1,6 +1,6 @@
 use Rattle.std.proofs.Common.{◌≡◌, ◌+◌, ◌-◌, drop, sym, ap, ◌∙◌, cond, false, arith}
 use Rattle.std.proofs.lemmas.List.{get_or_default}
-use Rattle.ang_meaning.specs.Setting.{has_objects}
+use Rattle.ang_meaning.specs.Environment.{has_objects}
 use Rattle.ang_vm_stack.specs.Stacks.{values}
 use Rattle.ang_vm.proofs.Calling.{objects_turn, none_left}
 use Rattle.ang_vm.proofs.calls.have_objects.Goals as goal

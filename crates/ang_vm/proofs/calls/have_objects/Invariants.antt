@@ -1,5 +1,5 @@
 use Rattle.std.proofs.Common.{◌≡◌, ◌-◌, drop}
-use Rattle.ang_meaning.specs.Setting.{has_objects}
+use Rattle.ang_meaning.specs.Environment.{has_objects}
 use Rattle.ang_vm_stack.specs.Stacks.{values}
 use Rattle.ang_vm.proofs.calls.have_objects.Given as goal
 

@@ -1,6 +1,6 @@
 use Rattle.std.proofs.Common.{◌-◌, length, sym, ap, ◌∙◌, arith}
 use Rattle.std.specs.Prelude.{not}
-use Rattle.ang_meaning.specs.Setting.{is_null}
+use Rattle.ang_meaning.specs.Environment.{is_null}
 use Rattle.ang_vm_stack.specs.Stacks.{values}
 use Rattle.ang_vm_stack.proofs.Values.{values_length}
 use Rattle.ang_vm.proofs.Calling.{none_wanted, receiver_some, receiver_there}

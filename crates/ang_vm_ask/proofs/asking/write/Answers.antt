@@ -2,7 +2,7 @@ use Rattle.std.proofs.Common.{◌++◌, ◌∷◌, [], ap, ◌∙◌, arith}
 use Rattle.ang_host.specs.declared.answer.HostReply.TheVariants.{Asking}
 use Rattle.ang_host.specs.declared.event.HostEvent.TheVariants.{Called}
 use Rattle.ang_host.specs.Boxes.{members}
-use Rattle.ang_meaning.specs.declared.host.HostType.TheVariants.{Nothing}
+use Rattle.ang_meaning.specs.declared.host.HostValueType.TheVariants.{Nothing}
 use Rattle.ang_meaning.specs.Hosts.{value_of}
 use Rattle.ang_meaning.proofs.Telling.{told_then}
 use Rattle.ang_heap.specs.Parts.{counts_of}

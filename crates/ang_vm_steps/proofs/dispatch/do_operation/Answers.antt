@@ -1,5 +1,5 @@
 use Rattle.std.proofs.Common.{refl, ap, []}
-use Rattle.ang_meaning.specs.declared.operation.Operation.TheVariants.{Work, Compare, Convert, Negate, Complement, Not, Same, GlobalGet, GlobalSet, GlobalChange, Make, FieldGet, FieldSet, FieldChange, Cast}
+use Rattle.ang_meaning.specs.declared.operation.Operation.TheVariants.{Binary, Compare, Convert, Negate, Complement, Not, Same, GlobalGet, GlobalSet, GlobalChange, Make, FieldGet, FieldSet, FieldChange, Cast}
 use Rattle.ang_heap.specs.Stores.{world_of}
 use Rattle.ang_heap.proofs.Storing.{moves_none}
 use Rattle.ang_vm_ask.specs.Asks.{asks_host}
@@ -7,12 +7,12 @@ use Rattle.ang_vm_stack.specs.Tables.{setting_of, texts_of}
 use Rattle.ang_vm_steps.proofs.Turning.{turned_do, turned_act, same_count}
 use Rattle.ang_vm_steps.proofs.dispatch.do_operation.Goals as goal
 
-pub returns-in-Work : goal.returns-in-Work
-returns-in-Work g c = record {
+pub returns-in-Binary : goal.returns-in-Binary
+returns-in-Binary g c = record {
   turned = λ there.
       let w = world_of (λ v. (g.dyn-1.0.entry v).1) c.args.store.now in
-      turned_do c.args.table.now c.args.body c.args.room c.args.here c.args.operation.now (Work c.in-Work.what c.in-Work.at) c.args.size c.args.stack.now _ w w c.in-Work.is there c.requires.in_room c.do_work.result c.next.result
-      (turned_act c.args.table.now c.args.body c.args.room c.args.here (Work c.in-Work.what c.in-Work.at) c.args.stack.now _ w w c.do_work.result (λ nesting. c.do_work.ensures.acts (setting_of c.args.table.now nesting) (texts_of c.args.table.now) w)) c.do_work.ensures.in_room c.next.ensures.exact;
+      turned_do c.args.table.now c.args.body c.args.room c.args.here c.args.operation.now (Binary c.in-Binary.what c.in-Binary.at) c.args.size c.args.stack.now _ w w c.in-Binary.is there c.requires.in_room c.do_work.result c.next.result
+      (turned_act c.args.table.now c.args.body c.args.room c.args.here (Binary c.in-Binary.what c.in-Binary.at) c.args.stack.now _ w w c.do_work.result (λ nesting. c.do_work.ensures.acts (setting_of c.args.table.now nesting) (texts_of c.args.table.now) w)) c.do_work.ensures.in_room c.next.ensures.exact;
   moves = λ roles h. moves_none (λ v. (g.dyn-1.0.entry v).1) roles c.args.store.now;
   ready = c.requires.ready;
   count = refl;

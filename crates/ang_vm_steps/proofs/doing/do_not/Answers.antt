@@ -1,6 +1,6 @@
 use Rattle.std.proofs.Common.{◌≤◌, ◌+◌, ◌-◌, ◌∷◌, [], length, refl, arith}
 use Rattle.ang_meaning.specs.declared.operation.Operation.TheVariants.{Not}
-use Rattle.ang_meaning.specs.Setting.{is_fit}
+use Rattle.ang_meaning.specs.Environment.{is_fit}
 use Rattle.ang_meaning.specs.Perform.{operands}
 use Rattle.ang_vm_steps.proofs.TopValues.{do_lost, do_here, room_left, one_taken}
 use Rattle.ang_vm_steps.proofs.doing.do_not.Goals as goal

@@ -1,6 +1,6 @@
 use Rattle.std.proofs.Common.{◌≤◌, ◌∷◌, [], length, refl, arith}
 use Rattle.ang_meaning.specs.declared.operation.Operation.TheVariants.{GlobalChange}
-use Rattle.ang_meaning.specs.Setting.{is_fit}
+use Rattle.ang_meaning.specs.Environment.{is_fit}
 use Rattle.ang_meaning.specs.Perform.{operands}
 use Rattle.ang_heap.specs.Stores.{world_of}
 use Rattle.ang_vm_steps.proofs.TopValues.{do_short, do_told, one_taken}

@@ -1,7 +1,7 @@
 use Rattle.std.proofs.Common.{length, ap, arith}
 use Rattle.std.proofs.lemmas.List.{length-map}
 use Rattle.ang_meaning.specs.World.{ScriptRecord}
-use Rattle.ang_meaning.specs.Setting.{default_of}
+use Rattle.ang_meaning.specs.Environment.{default_of}
 use Rattle.ang_heap.specs.Heaps.{objects_of, record_of}
 use Rattle.ang_heap.specs.Places.{places_of}
 use Rattle.ang_heap.proofs.Places.{made_places}

@@ -11,9 +11,9 @@ use Rattle.ang_host.specs.declared.event.Role.{Role}
 use Rattle.ang_meaning.specs.declared.class.Class.{Class}
 use Rattle.ang_meaning.specs.declared.class.ValueKind.{ValueKind}
 use Rattle.ang_meaning.specs.declared.class.ValueKind.TheVariants.{Number as NumberField, Handle as HandleField}
-use Rattle.ang_meaning.specs.declared.host.HostType.TheVariants.{Nothing}
+use Rattle.ang_meaning.specs.declared.host.HostValueType.TheVariants.{Nothing}
 use Rattle.ang_meaning.specs.declared.operation.Operation.{Operation}
-use Rattle.ang_meaning.specs.declared.operation.Operation.TheVariants.{Work, Compare, Convert, Negate, Complement, Not, Same, GlobalGet, GlobalSet, GlobalChange, Ask, Read, Write, Alter, Make, FieldGet, FieldSet, FieldChange, Cast}
+use Rattle.ang_meaning.specs.declared.operation.Operation.TheVariants.{Binary, Compare, Convert, Negate, Complement, Not, Same, GlobalGet, GlobalSet, GlobalChange, Ask, Read, Write, Alter, Make, FieldGet, FieldSet, FieldChange, Cast}
 use Rattle.ang_meaning.specs.declared.host.HostUse.{HostUse}
 use Rattle.ang_meaning.specs.World.{World, ScriptRecord}
 use Rattle.ang_meaning.specs.declared.routine.Routine.{Routine}
@@ -23,7 +23,7 @@ use Rattle.ang_meaning.specs.declared.routine.Passing.{Passing}
 use Rattle.ang_meaning.specs.declared.routine.Passing.TheVariants.{In, Out, Object}
 
 -- The first number of each is a module's. The values of a function's parameters come with the last one first, here and everywhere.
-pub record Setting : Type 0 where
+pub record Environment : Type 0 where
   -- a module's name
   pub name : ℕ → List ℕ
   -- the registered entities that the module sees, by their numbers (docs/MEANING.md, "Masks and views")
@@ -54,7 +54,7 @@ class_in None = record { number = 0; rank = 0; fields = []; under = [] }
 class_in (Some c) = c
 
 -- the class of a number, as its objects have it
-abbrev pub class_at : Setting → ℕ → ℕ → Class
+abbrev pub class_at : Environment → ℕ → ℕ → Class
 class_at z m c = record (class_in (z.class m c)) { number = c }
 
 -- stands where there is no entity; no sound code asks it
@@ -65,7 +65,7 @@ abbrev pub host_in : Option HostUse → HostUse
 host_in None = nobody
 host_in (Some u) = u
 
-abbrev pub use_at : Setting → ℕ → EntityNo → HostUse
+abbrev pub use_at : Environment → ℕ → EntityNo → HostUse
 use_at z m e = host_in (z.host m e.0)
 
 -- the function that a call enters, or why it enters none
@@ -83,11 +83,11 @@ params_in (Some ps) = ps
 params_in None = []
 
 -- the method of an object's class in a slot; null where there is no object
-abbrev pub method_of : Setting → ℕ → ℕ → Option ScriptRecord → Found
+abbrev pub method_of : Environment → ℕ → ℕ → Option ScriptRecord → Found
 method_of z m s None = Misses Null
 method_of z m s (Some o) = bound (z.method m o.class s)
 
-abbrev pub virtual_of : Setting → ℕ → ℕ → Slot → World → Found
+abbrev pub virtual_of : Environment → ℕ → ℕ → Slot → World → Found
 virtual_of z m s (Bits n) w = Misses Null
 virtual_of z m s (Script None) w = Misses Null
 virtual_of z m s (Script (Some n)) w = method_of z m s (map.get w.objects n)
@@ -99,7 +99,7 @@ receiver_in ps vs = slice_index_or (take (length ps) vs) (length ps - 1) (Bits 0
 
 -- What a callee means in a module, where the values on top are its arguments, the last one first. A method is that of the receiver's class (the
 -- AngelScript manual, "Inheritance and polymorphism").
-unfoldable pub target : Setting → ℕ → Callee → List Slot → World → Found
+unfoldable pub target : Environment → ℕ → Callee → List Slot → World → Found
 target z m (Own g) vs w = Enters (record { home = m; number = g })
 target z m (Import i) vs w = bound (z.linked m i)
 target z m (Virtual s) vs w = virtual_of z m s (receiver_in (params_in (z.slot m s)) vs) w
@@ -119,7 +119,7 @@ has_objects (In ∷ ps) (v ∷ vs) = has_objects ps vs
 has_objects (Out ∷ ps) (v ∷ vs) = has_objects ps vs
 has_objects (Object ∷ ps) (v ∷ vs) = not (is_null v) && has_objects ps vs
 
-abbrev pub params_of : Setting → Routine → List Passing
+abbrev pub params_of : Environment → Routine → List Passing
 params_of z g = params_in (z.params g)
 
 -- whether an entity is asked by a call: a function or method, or a factory, which makes an object and has no receiver
@@ -147,8 +147,8 @@ may_write None = false
 may_write (Some u) = is_property u.role && not u.read_only
 
 -- Whether an operation asks an entity that there is, in the way of its role, or makes an object of a class that there is.
-unfoldable pub is_fit : Setting → ℕ → Operation → Bool
-is_fit z m (Work a p) = true
+unfoldable pub is_fit : Environment → ℕ → Operation → Bool
+is_fit z m (Binary a p) = true
 is_fit z m (Compare c signed) = true
 is_fit z m (Convert p) = true
 is_fit z m (Negate p) = true
