@@ -2,9 +2,9 @@
 """Runs the scripts of bench/scripts in the program, and in the original engine where its program is given, and prints a line for
 each: the ticks of the run, how many ticks a second the program makes, the seconds of both, and the original's seconds divided by
 the program's. Above 1 the program is faster. After several lines comes the geometric mean of the ratios. Then it does the same with
-those of bench/classes, which have classes of their own, with those of bench/objects, which use objects of the host, and with those
-of bench/imports, which import functions of other modules. The program lists and prints what is asked of the host's objects, which
-is in its seconds.
+those of bench/classes, which have classes of their own, with those of bench/objects, which ask the host, and with those of
+bench/imports, which import functions of other modules. The program lists and prints what is asked of the host, which is in its
+seconds.
 
     python3 bench/machine.py ASRUN [--original MACHINE] [--modes plain,bare,counted,listed] [--rounds N] [--check] [SCRIPT ...]
 
@@ -37,6 +37,10 @@ type Counter 1
 factory Counter 1 Counter@ make(int)
 method Counter 0 void bump()
 method Counter 1 int value() const
+function 0 1 int64 sum(int64, int64)
+type Cell 2
+factory Cell 0 Cell@ make(int)
+method Cell 0 int get() const
 """
 EVENTS = ("host ", "end ")
 FOLDERS = ["scripts", "classes", "objects", "imports"]

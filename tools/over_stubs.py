@@ -217,7 +217,7 @@ def write_stub(crate, folder, wanted, called, gone):
     types = re.compile(r"^\s*(?:pub )?(?:struct|enum) (\w+)", re.M)
     homes = {name: module_of(path, src) for path, text in code.items() for name in types.findall(text)}
     stubs = {path: Stubbed(text, wanted, called) for path, text in code.items()}
-    stay = {name for stub in stubs.values() for _, name in stub.functions}
+    stay = {name for stub in stubs.values() for owner, name in stub.functions if not owner}
     gone[crate.name] = {name for stub in stubs.values() for name in stub.gone} - stay
     missing = set().union(*[gone.get(it.name, set()) for it in [crate, *crate.deps]]) - stay
     modules = {name for stub in stubs.values() for name in re.findall(r"\bmod (\w+)", stub.text)}

@@ -11,7 +11,7 @@
 //     plain    the engine as it comes: the code can be interrupted at each statement, and nobody does (this, if left out)
 //     bare     built so that nothing can interrupt the code
 //     counted  as plain, with a line callback that counts against a budget
-//     listed   as plain, and each call of an object of the host is listed with its caller, its arguments and its answer, and so is each
+//     listed   as plain, and each call of the host is listed with its caller, its arguments and its answer, and so is each
 //              object's end; the list is printed into a file when the run has ended, which is in the seconds
 
 #include <angelscript.h>
@@ -64,86 +64,127 @@ void show_message(const asSMessageInfo *message, void *) {
     std::fprintf(stderr, "%d:%d %s\n", message->row, message->col, message->message);
 }
 
-/// An object of the host that counts, as those of our sample driver do.
-class Counter {
+/// A count of references and a number, which each object of the host has. It begins with one reference.
+class Held {
 public:
-    explicit Counter(int value, unsigned key = 0) : key_(key), value_(value) {}
+    explicit Held(int value, unsigned key = 0) : key_(key), value_(value) {}
     void add_reference() { references_ += 1; }
-    void release() {
-        if (gives_up()) delete this;
-    }
     bool gives_up() {
         references_ -= 1;
         return references_ == 0;
     }
     unsigned key() const { return key_; }
-    void bump() { value_ = static_cast<int>(static_cast<unsigned>(value_) + 1u); }
     int value() const { return value_; }
 
-private:
+protected:
     int references_ = 1;
     unsigned key_;
     int value_;
 };
 
-Counter *make_counter(int value) { return new Counter(value); }
-
-int value_of(const Counter *counter) { return counter->value(); }
-
-/// What a script did to an object of the host.
-enum class Deed { Made, Bumped, Told, Ended };
-
-/// One entry of the list: who called what of which object, and the number that was handed over or answered.
-struct Event {
-    Deed deed;
-    std::string caller;
-    unsigned key;
-    int number;
+/// An object of the host that counts, as those of our sample driver do.
+class Counter : public Held {
+public:
+    using Held::Held;
+    void release() {
+        if (gives_up()) delete this;
+    }
+    void bump() { value_ = static_cast<int>(static_cast<unsigned>(value_) + 1u); }
 };
 
-/// The list of a run, and how many objects were made.
+/// An object of the host that holds a number, as those of our sample driver do.
+class Cell : public Held {
+public:
+    using Held::Held;
+    void release() {
+        if (gives_up()) delete this;
+    }
+};
+
+template <typename Thing> Thing *make(int value) { return new Thing(value); }
+
+template <typename Thing> int value_of(const Thing *thing) { return thing->value(); }
+
+/// A sum, or an exception where it does not fit into 64 bits.
+std::int64_t sum_of(std::int64_t a, std::int64_t b) {
+    std::int64_t total = 0;
+    if (__builtin_add_overflow(a, b, &total)) asGetActiveContext()->SetException("no such sum");
+    return total;
+}
+
+/// What a script asked of the host, and what became of an object.
+enum class Deed { CounterMade, Bumped, CounterTold, CounterEnded, CellMade, CellTold, CellEnded, Summed };
+
+/// One entry of the list: who called what of which object, and the numbers that were handed over or answered.
+struct Event {
+    Deed deed;
+    unsigned key;
+    std::string caller;
+    std::int64_t number, other, answer;
+};
+
+/// The list of a run, and how many objects of each type were made.
 struct List {
     std::vector<Event> events;
-    unsigned made = 0;
+    unsigned counters = 0, cells = 0;
 };
 
 List list;
 
-void add_event(Deed deed, unsigned key, int number) {
-    list.events.push_back({deed, asGetActiveContext()->GetFunction()->GetModuleName(), key, number});
+void add_event(Deed deed, unsigned key, std::int64_t number, std::int64_t other = 0, std::int64_t answer = 0) {
+    list.events.push_back({deed, key, asGetActiveContext()->GetFunction()->GetModuleName(), number, other, answer});
 }
 
-Counter *make_listed(int value) {
-    const unsigned key = list.made++;
-    add_event(Deed::Made, key, value);
-    return new Counter(value, key);
-}
+void add_end(Deed deed, unsigned key) { list.events.push_back({deed, key, std::string(), 0, 0, 0}); }
+
+/// The functions of a type of objects, each of which is listed.
+template <typename Thing, unsigned List::*made, Deed made_deed, Deed told_deed, Deed ended_deed> struct Listed {
+    static Thing *make(int value) {
+        const unsigned key = list.*made;
+        list.*made += 1;
+        add_event(made_deed, key, value);
+        return new Thing(value, key);
+    }
+    static int value(const Thing *thing) {
+        add_event(told_deed, thing->key(), thing->value());
+        return thing->value();
+    }
+    static void release(Thing *thing) {
+        if (!thing->gives_up()) return;
+        add_end(ended_deed, thing->key());
+        delete thing;
+    }
+};
+
+using ListedCounter = Listed<Counter, &List::counters, Deed::CounterMade, Deed::CounterTold, Deed::CounterEnded>;
+using ListedCell = Listed<Cell, &List::cells, Deed::CellMade, Deed::CellTold, Deed::CellEnded>;
 
 void bump_listed(Counter *counter) {
     counter->bump();
     add_event(Deed::Bumped, counter->key(), 0);
 }
 
-int value_listed(const Counter *counter) {
-    add_event(Deed::Told, counter->key(), counter->value());
-    return counter->value();
-}
-
-void release_listed(Counter *counter) {
-    if (!counter->gives_up()) return;
-    list.events.push_back({Deed::Ended, std::string(), counter->key(), 0});
-    delete counter;
+std::int64_t sum_listed(std::int64_t a, std::int64_t b) {
+    const std::int64_t total = sum_of(a, b);
+    add_event(Deed::Summed, 0, a, b, total);
+    return total;
 }
 
 /// The line of an entry, as asrun prints it.
 std::string line_of(const Event &event) {
     const std::string key = "#" + std::to_string(event.key);
     const std::string number = std::to_string(event.number);
+    const std::string host = "host " + event.caller;
     switch (event.deed) {
-        case Deed::Made: return "host " + event.caller + " 2 1 - (" + number + ") made " + key + "\n";
-        case Deed::Bumped: return "host " + event.caller + " 3 1 " + key + " () void\n";
-        case Deed::Told: return "host " + event.caller + " 4 1 " + key + " () " + number + "\n";
-        case Deed::Ended: return "end 1 " + key + "\n";
+        case Deed::CounterMade: return host + " 2 1 - (" + number + ") made " + key + "\n";
+        case Deed::Bumped: return host + " 3 1 " + key + " () void\n";
+        case Deed::CounterTold: return host + " 4 1 " + key + " () " + number + "\n";
+        case Deed::CounterEnded: return "end 1 " + key + "\n";
+        case Deed::CellMade: return host + " 7 2 - (" + number + ") made " + key + "\n";
+        case Deed::CellTold: return host + " 8 2 " + key + " () " + number + "\n";
+        case Deed::CellEnded: return "end 2 " + key + "\n";
+        case Deed::Summed:
+            return host + " 5 0 - (" + number + "," + std::to_string(event.other) + ") " + std::to_string(event.answer) + "\n";
     }
     return "";
 }
@@ -160,32 +201,42 @@ void print_list() {
     list = List();
 }
 
-/// The functions that the scripts of bench/objects use of the host, listed or not.
-struct CounterFunctions {
-    asSFuncPtr make, release, bump, value;
-    asDWORD by_method;
+/// The functions of a type that the scripts of bench/objects use, listed or not.
+struct TypeFunctions {
+    asSFuncPtr make, add_reference, release, value;
+    asDWORD released_by;
 };
 
-CounterFunctions counter_functions(Mode mode) {
-    if (mode == Mode::Listed) {
-        return {asFUNCTION(make_listed), asFUNCTION(release_listed), asFUNCTION(bump_listed), asFUNCTION(value_listed),
+void well(int answer) { require(answer >= 0, "what the host offers is refused"); }
+
+void register_type(asIScriptEngine *engine, const char *name, const char *factory, const char *value, const TypeFunctions &of) {
+    well(engine->RegisterObjectType(name, 0, asOBJ_REF));
+    well(engine->RegisterObjectBehaviour(name, asBEHAVE_FACTORY, factory, of.make, asCALL_CDECL));
+    well(engine->RegisterObjectBehaviour(name, asBEHAVE_ADDREF, "void add_reference()", of.add_reference, asCALL_THISCALL));
+    well(engine->RegisterObjectBehaviour(name, asBEHAVE_RELEASE, "void release()", of.release, of.released_by));
+    well(engine->RegisterObjectMethod(name, value, of.value, asCALL_CDECL_OBJFIRST));
+}
+
+template <typename Thing, typename ListedThing> TypeFunctions functions_of(bool is_listed) {
+    const asSFuncPtr counts = asMETHOD(Thing, add_reference);
+    if (is_listed) {
+        return {asFUNCTION(ListedThing::make), counts, asFUNCTION(ListedThing::release), asFUNCTION(ListedThing::value),
                 asCALL_CDECL_OBJFIRST};
     }
-    return {asFUNCTION(make_counter), asMETHOD(Counter, release), asMETHOD(Counter, bump), asFUNCTION(value_of),
-            asCALL_THISCALL};
+    return {asFUNCTION(make<Thing>), counts, asMETHOD(Thing, release), asFUNCTION(value_of<Thing>), asCALL_THISCALL};
 }
 
 /// What the scripts of bench/objects use of the host.
-void register_counter(asIScriptEngine *engine, Mode mode) {
-    const auto well = [](int answer) { require(answer >= 0, "the counter is refused"); };
-    const CounterFunctions of = counter_functions(mode);
-    well(engine->RegisterObjectType("Counter", 0, asOBJ_REF));
-    well(engine->RegisterObjectBehaviour("Counter", asBEHAVE_FACTORY, "Counter@ make(int)", of.make, asCALL_CDECL));
-    well(engine->RegisterObjectBehaviour("Counter", asBEHAVE_ADDREF, "void add_reference()",
-                                         asMETHOD(Counter, add_reference), asCALL_THISCALL));
-    well(engine->RegisterObjectBehaviour("Counter", asBEHAVE_RELEASE, "void release()", of.release, of.by_method));
-    well(engine->RegisterObjectMethod("Counter", "void bump()", of.bump, of.by_method));
-    well(engine->RegisterObjectMethod("Counter", "int value() const", of.value, asCALL_CDECL_OBJFIRST));
+void register_host(asIScriptEngine *engine, Mode mode) {
+    const bool is_listed = mode == Mode::Listed;
+    const auto counters = functions_of<Counter, ListedCounter>(is_listed);
+    const auto cells = functions_of<Cell, ListedCell>(is_listed);
+    register_type(engine, "Counter", "Counter@ make(int)", "int value() const", counters);
+    register_type(engine, "Cell", "Cell@ make(int)", "int get() const", cells);
+    const asSFuncPtr bump = is_listed ? asFUNCTION(bump_listed) : asMETHOD(Counter, bump);
+    well(engine->RegisterObjectMethod("Counter", "void bump()", bump, is_listed ? asCALL_CDECL_OBJFIRST : asCALL_THISCALL));
+    const asSFuncPtr sum = is_listed ? asFUNCTION(sum_listed) : asFUNCTION(sum_of);
+    well(engine->RegisterGlobalFunction("int64 sum(int64, int64)", sum, asCALL_CDECL));
 }
 
 asIScriptModule *built_module(asIScriptEngine *engine, const char *name, const std::filesystem::path &path) {
@@ -218,7 +269,7 @@ asIScriptFunction *built_main(asIScriptEngine *engine, const Request &request) {
     const std::filesystem::path path = request.path;
     engine->SetMessageCallback(asFUNCTION(show_message), nullptr, asCALL_CDECL);
     engine->SetEngineProperty(asEP_BUILD_WITHOUT_LINE_CUES, request.mode == Mode::Bare);
-    register_counter(engine, request.mode);
+    register_host(engine, request.mode);
     asIScriptModule *module = built_module(engine, "bench", path);
     bind_imports(engine, module, path.parent_path() / "exporters");
     asIScriptFunction *main = module->GetFunctionByDecl("int64 main()");

@@ -58,7 +58,7 @@ between_of : (a b : Stepped) → AreSame ⊥ a b → AreBetween a.world b.world
 between_of a b m = record {
   modules = m.modules;
   by = m.by;
-  alike = record { objects = m.alike.objects; hosts = m.alike.hosts; globals = m.alike.globals; events = refl; inputs = refl };
+  alike = record { objects = m.alike.objects; hosts = m.alike.hosts; globals = m.alike.globals; events = refl; spent = m.alike.spent; inputs = refl };
   counted = m.counted;
   good = m.good;
 }
@@ -181,6 +181,7 @@ empty_between = record {
     hosts = refl;
     globals = refl;
     events = refl;
+    spent = refl;
     inputs = refl;
   };
   counted = nothing_counted (running no_modules []) refl (λ d k. ap count_of (get-empty {X = ℕ} nat_cmp k)) (λ x. refl);

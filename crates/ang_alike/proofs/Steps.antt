@@ -76,7 +76,7 @@ module _ (apart : Type 0) where
     modules = refl;
     counted = p;
     good = good;
-    alike = record { objects = h.objects; hosts = h.hosts; globals = h.globals; events = refl; inputs = h.inputs };
+    alike = record { objects = h.objects; hosts = h.hosts; globals = h.globals; events = refl; spent = h.spent; inputs = h.inputs };
   })
 
   -- a run has ended
@@ -87,7 +87,7 @@ module _ (apart : Type 0) where
     modules = refl;
     counted = p;
     good = good;
-    alike = record { objects = h.objects; hosts = h.hosts; globals = h.globals; events = refl; inputs = h.inputs };
+    alike = record { objects = h.objects; hosts = h.hosts; globals = h.globals; events = refl; spent = h.spent; inputs = h.inputs };
   })
 
   errors_alike : (es : List Error) (ds : List Denial) (ms : ModuleStates) (r : Renaming) (v w : RunWorld) → AreGood ms → IsCounted [] v → AlikeUpTo apart r v w → BothAlike apart (Some (after_errors es ds ms v)) (Some (after_errors es ds ms w))
@@ -97,7 +97,7 @@ module _ (apart : Type 0) where
     modules = refl;
     counted = p;
     good = good;
-    alike = record { objects = h.objects; hosts = h.hosts; globals = h.globals; events = refl; inputs = h.inputs };
+    alike = record { objects = h.objects; hosts = h.hosts; globals = h.globals; events = refl; spent = h.spent; inputs = h.inputs };
   })
 
   -- Modules and two worlds of runs beside them, which are alike and told these inputs.
@@ -158,7 +158,7 @@ module _ (apart : Type 0) where
     X = running U w.inputs
 
     begins : AlikeUpTo apart r V X
-    begins = record { objects = h.objects; hosts = h.hosts; globals = h.globals; events = refl; inputs = h.inputs }
+    begins = record { objects = h.objects; hosts = h.hosts; globals = h.globals; events = refl; spent = h.spent; inputs = h.inputs }
 
     -- ---- Discard
 
@@ -310,14 +310,14 @@ module _ (apart : Type 0) (R : RegistrationList) (values : TakesValues R) (few :
       let h = alike is js m.1 in
       let V = running before is in
       let X = running again js in
-      let begins : AlikeUpTo apart r V X = record { objects = h.objects; hosts = h.hosts; globals = h.globals; events = refl; inputs = h.inputs } in
+      let begins : AlikeUpTo apart r V X = record { objects = h.objects; hosts = h.hosts; globals = h.globals; events = refl; spent = h.spent; inputs = h.inputs } in
       built_alike apart ms good r (with_inputs is v) (with_inputs js w) counted h R values few i budget r (globals_ended i V) (globals_ended i X)
       (build_of (seen R (module_at before i).mask) (module_at before i).sections) refl (ended_none i V) (ended_counted i V counted) (ended_alike apart r i V X begins)
   build_alike i budget (Room false ∷ is) (Room false ∷ js) m =
       let h = alike is js m.1 in
       let V = running before is in
       let X = running again js in
-      let begins : AlikeUpTo apart r V X = record { objects = h.objects; hosts = h.hosts; globals = h.globals; events = refl; inputs = h.inputs } in
+      let begins : AlikeUpTo apart r V X = record { objects = h.objects; hosts = h.hosts; globals = h.globals; events = refl; spent = h.spent; inputs = h.inputs } in
       no_memory apart ms good r (with_inputs is v) (with_inputs js w) counted h R values few i r (globals_ended i V) (globals_ended i X) (ended_counted i V counted) (ended_alike apart r i V X begins)
 
   judged_alike : (c : Command) (is js : List Input) → Match apart is js → BothAlike apart (judged R before c is) (judged R again c js)

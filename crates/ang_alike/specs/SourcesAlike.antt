@@ -13,7 +13,7 @@ use Rattle.ang_meaning.specs.Alike.{Renaming, renamed, renamed_all, Alike}
 use Rattle.ang_core.specs.Sound.{LinksFit}
 use Rattle.ang_source.specs.Meaning.{Codes, called_with, initialized_all}
 use Rattle.ang_source.specs.Sound.{SoundProgram}
-use Rattle.ang_lower.specs.Hosts.{HasView}
+use Rattle.ang_source.specs.Hosts.{HasView}
 use Rattle.ang_lower.specs.Same.{HasProgram, AreCodes, TakeNothing}
 
 -- the same reply in another world, in which script objects have other numbers

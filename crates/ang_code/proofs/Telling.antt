@@ -129,7 +129,7 @@ module _ (z : Environment) (code : Texts) (u : World) where
   fetched_from None f pc room s fr t w p = tt
   fetched_from (Some i) f pc room s fr t w p = act_from i f pc room s fr t w p
 
-  step_from : (c : Config) → ComesFrom u c → ComesFrom u (step z code c)
+  pub step_from : (c : Config) → ComesFrom u c → ComesFrom u (step z code c)
   step_from (At f pc room s fr t w) p = fetched_from (slice_get (code.text f) pc) f pc room s fr t w p
   step_from (Over o) p = p
 

@@ -4,9 +4,10 @@ use Rattle.std.specs.Prelude.{Bool, true, false}
 use Rattle.std.specs.List.{AllByRecursion}
 use Rattle.ang_host.specs.declared.event.HostEvent.{HostEvent}
 use Rattle.ang_host.specs.declared.event.HostEvent.TheVariants.{Called, Ended}
+use Rattle.std.specs.FinMap as map
 use Rattle.ang_meaning.specs.declared.slot.Slot.{Slot}
 use Rattle.ang_meaning.specs.declared.slot.Slot.TheVariants.{Bits, Script, Host}
-use Rattle.ang_meaning.specs.World.{World, Input, Room, Said, Tallied, Fresh, Tried, Yes, No, if_told, memory_told, memory_step, one_more, tally_told, tally_step, hold, with_inputs, or_else}
+use Rattle.ang_meaning.specs.World.{World, Input, Room, Said, Tallied, Fresh, Tried, Yes, No, if_told, memory_told, memory_step, one_more, HoldLimit, Inside, AtEnd, OfDriver, hold_limit_of, refused_at, tally_told, tally_step, hold, with_inputs, or_else}
 use Rattle.ang_meaning.specs.Told.{answers_listed, Moves}
 use Rattle.ang_meaning.specs.Environment.{Environment}
 use Rattle.ang_code_laws.specs.Asked.{IsAskedBy, Asks}
@@ -59,20 +60,26 @@ module _ (z : Environment) where
   unfolding memory_step
   memory_asks w = memory_from w.inputs w
 
-  tally_from : (inputs : List Input) (w : World) → TriedAsks w (tally_told inputs w)
-  tally_from [] w = nothing w
-  tally_from (Tallied b ∷ rest) w = told_asks b rest w
-  tally_from (Said r ∷ rest) w = nothing w
-  tally_from (Room b ∷ rest) w = nothing w
-  tally_from (Fresh n ∷ rest) w = nothing w
+  refused_from : (x : HoldLimit) (rest : List Input) (w : World) → TriedAsks w (refused_at x rest w)
+  refused_from Inside rest w = nothing w
+  refused_from AtEnd rest w = quiet w _ refl
+  refused_from OfDriver rest w = quiet w _ refl
+
+  tally_from : (x : HoldLimit) (inputs : List Input) (w : World) → TriedAsks w (tally_told x inputs w)
+  tally_from x [] w = nothing w
+  tally_from x (Tallied true ∷ rest) w = quiet w _ refl
+  tally_from x (Tallied false ∷ rest) w = refused_from x rest w
+  tally_from x (Said r ∷ rest) w = nothing w
+  tally_from x (Room b ∷ rest) w = nothing w
+  tally_from x (Fresh n ∷ rest) w = nothing w
 
   tally_asks : (v : Slot) (w : World) → TriedAsks w (tally_step v w)
   unfolding tally_step
   tally_asks (Bits n) w = nothing w
   tally_asks (Script None) w = nothing w
-  tally_asks (Script (Some n)) w = tally_from w.inputs w
+  tally_asks (Script (Some n)) w = tally_from (hold_limit_of (map.get w.objects n)) w.inputs w
   tally_asks (Host d None) w = nothing w
-  tally_asks (Host d (Some k)) w = tally_from w.inputs w
+  tally_asks (Host d (Some k)) w = tally_from OfDriver w.inputs w
 
   pub more_asks : (v : Slot) (w : World) → Asks z w (one_more v w)
   unfolding one_more

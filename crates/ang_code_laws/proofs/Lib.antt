@@ -9,3 +9,4 @@ pub mod Determined
 pub mod Counting
 pub mod AlikeSteps
 pub mod AlikeRuns
+pub mod Causes

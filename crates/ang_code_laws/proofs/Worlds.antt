@@ -1,11 +1,12 @@
 -- Operations on a world that hold and give up leave its globals, and a store writes one.
 use Rattle.std.proofs.Common.{◌≡◌, ℕ, zero, suc, List, [], ◌∷◌, length, Some, None, refl, ap, ◌∙◌}
 use Rattle.std.specs.Prelude.{Bool, true, false, cond, slice_set, slice_index_or, map as list_map}
+use Rattle.std.specs.FinMap as map
 use Rattle.ang_meaning.specs.declared.slot.Slot.{Slot}
 use Rattle.ang_meaning.specs.declared.slot.Slot.TheVariants.{Bits, Script, Host}
 use Rattle.ang_meaning.specs.declared.routine.Passing.{Passing}
 use Rattle.ang_meaning.specs.declared.routine.Passing.TheVariants.{In, Out, Object}
-use Rattle.ang_meaning.specs.World.{World, Input, Room, Said, Tallied, Fresh, Tried, Yes, No, memory_told, memory_step, one_more, tally_told, tally_step, hold, give, give_all, or_else}
+use Rattle.ang_meaning.specs.World.{World, Input, Room, Said, Tallied, Fresh, Tried, Yes, No, memory_told, memory_step, one_more, HoldLimit, Inside, AtEnd, OfDriver, hold_limit_of, refused_at, tally_told, tally_step, hold, give, give_all, or_else}
 use Rattle.ang_meaning.specs.Perform.{global_put, field_put, may_take, member_put}
 use Rattle.ang_meaning.specs.Results.{give_some, give_back, give_others}
 use Rattle.ang_meaning.proofs.Counting.{more_globals, give_globals}
@@ -95,24 +96,26 @@ module _ (ns : List ℕ) where
   unfolding memory_step
   memory_has w p = memory_told_has w.inputs w p
 
-  room_has : (b : Bool) (rest : List Input) (w : World) → Has ns w → TriedHas (tally_told (Tallied b ∷ rest) w)
-  room_has true rest w p = p
-  room_has false rest w p = p
+  refused_has : (x : HoldLimit) (rest : List Input) (w : World) → Has ns w → TriedHas (refused_at x rest w)
+  refused_has Inside rest w p = p
+  refused_has AtEnd rest w p = p
+  refused_has OfDriver rest w p = p
 
-  tally_told_has : (is : List Input) (w : World) → Has ns w → TriedHas (tally_told is w)
-  tally_told_has [] w p = p
-  tally_told_has (Tallied b ∷ rest) w p = room_has b rest w p
-  tally_told_has (Said r ∷ rest) w p = p
-  tally_told_has (Room b ∷ rest) w p = p
-  tally_told_has (Fresh n ∷ rest) w p = p
+  tally_told_has : (x : HoldLimit) (is : List Input) (w : World) → Has ns w → TriedHas (tally_told x is w)
+  tally_told_has x [] w p = p
+  tally_told_has x (Tallied true ∷ rest) w p = p
+  tally_told_has x (Tallied false ∷ rest) w p = refused_has x rest w p
+  tally_told_has x (Said r ∷ rest) w p = p
+  tally_told_has x (Room b ∷ rest) w p = p
+  tally_told_has x (Fresh n ∷ rest) w p = p
 
   tally_has : (v : Slot) (w : World) → Has ns w → TriedHas (tally_step v w)
   unfolding tally_step
   tally_has (Bits n) w p = p
   tally_has (Script None) w p = p
-  tally_has (Script (Some n)) w p = tally_told_has w.inputs w p
+  tally_has (Script (Some n)) w p = tally_told_has (hold_limit_of (map.get w.objects n)) w.inputs w p
   tally_has (Host d None) w p = p
-  tally_has (Host d (Some k)) w p = tally_told_has w.inputs w p
+  tally_has (Host d (Some k)) w p = tally_told_has OfDriver w.inputs w p
 
   pub more_has : (v : Slot) (w : World) → Has ns w → Has ns (one_more v w)
   more_has v w p = ap (list_map length) (more_globals v w) ∙ p

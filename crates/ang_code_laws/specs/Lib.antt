@@ -3,3 +3,4 @@ pub mod Asked
 pub mod Determined
 pub mod Counting
 pub mod Alike
+pub mod Causes

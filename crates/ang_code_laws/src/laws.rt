@@ -3,6 +3,7 @@
 //! What each run of code keeps of the globals.
 ghost use Rattle.ang_code_laws.specs.Globals.{StepsKeep, CallRunsKeep, InitializerRunsKeep};
 ghost use Rattle.ang_code_laws.specs.Alike.{StepsAlike, CallRunsAlike, InitializerRunsAlike, GrantedCallsAlike, GrantedInitializersAlike};
+ghost use Rattle.ang_code_laws.specs.Causes.{CallTalliesHaveCause, InitializerTalliesHaveCause};
 ghost use Rattle.ang_code_laws.specs.Asked.{CallsAsk, InitializersAsk, CallRunsAsk, InitializerRunsAsk};
 ghost use Rattle.ang_code_laws.specs.Counting.{CallsCount, InitializersCount, StepsCount, CallRunsCount, InitializerRunsCount};
 ghost use Rattle.ang_code_laws.specs.Determined.{HasOneEnd};
@@ -71,4 +72,12 @@ pub fn runs_alike()
 pub fn granted_runs_alike()
     ensures calls { GrantedCallsAlike }
     ensures initializers { GrantedInitializersAlike }
+{}
+
+/// A run stops with `Tally` only where a driver refused a reference, which the world after it notes, or answered
+/// `Full` to one of the host calls that it listed, or where a script object's count stood at its end as the run
+/// stopped.
+pub fn tallies_have_cause()
+    ensures calls { CallTalliesHaveCause }
+    ensures initializers { InitializerTalliesHaveCause }
 {}

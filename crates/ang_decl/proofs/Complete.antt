@@ -11,7 +11,7 @@ use Rattle.ang_tree.specs.Declarations.{spelled_reference, FitsReference}
 use Rattle.ang_parse_read.specs.Read.{and_then, pure, ◌>>=◌, repeat}
 use Rattle.ang_parse_read.specs.References.{a_reference}
 use Rattle.ang_parse_read.specs.Tokens.{a_token, perhaps, is_name, is_left_paren, is_right_paren, is_const}
-use Rattle.ang_parse_read.proofs.Tokens.{begins, look_is, look_at, a_token_is, perhaps_is, perhaps_not}
+use Rattle.ang_parse_read.proofs.Tokens.{begins, look_is, look_at, a_token_is}
 use Rattle.ang_parse_read.proofs.Referred.{is_ampersand, perhaps_read, reference_read}
 use Rattle.ang_parse_read.proofs.Loops.{repeat_stops, repeat_goes_on}
 use Rattle.ang_decl.specs.declared.tree.HostType.{HostType}

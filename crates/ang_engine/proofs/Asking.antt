@@ -4,6 +4,8 @@ use Rattle.std.specs.Prelude.{All, Vec}
 use Rattle.std.specs.List.{AllByRecursion, AllZip}
 use Rattle.std.specs.declared.alloc.Global.{Global}
 use Rattle.std.proofs.lemmas.List.Elements.{All-nil}
+use Rattle.ang_host.specs.Logs.{listed_in, is_heard}
+use Rattle.ang_host.specs.declared.event_buffer.EventBuffer.{EventBuffer}
 use Rattle.ang_host.specs.declared.event.HostEvent.{HostEvent}
 use Rattle.ang_host.specs.declared.event.Role.{Role}
 use Rattle.ang_host.specs.Boxes.{members}
@@ -11,7 +13,7 @@ use Rattle.ang_host.specs.Meanings.{Meanings}
 use Rattle.ang_host.specs.Events.{DriversFollow}
 use Rattle.ang_host.proofs.Events.{AllFollow-none}
 use Rattle.ang_view.specs.Registration.{RegistrationList}
-use Rattle.ang_registry.specs.Roles.{roles_of}
+use Rattle.ang_engine.specs.Roles.{roles_of}
 use Rattle.ang_meaning.specs.World.{World as RunWorld}
 use Rattle.ang_meaning.specs.Counting.{IsCounted}
 use Rattle.ang_heap.specs.declared.store.Store.{Store}
@@ -32,6 +34,7 @@ use Rattle.ang_engine.specs.Applied.{Applied}
 use Rattle.ang_engine.specs.Outcomes.{IfRefusedAtOnce}
 use Rattle.ang_engine.proofs.Entries.{AreApart, roles_agree, all_entitled, ends_entitled, agrees_none}
 use Rattle.ang_engine.proofs.GlobalsEnd.{globals_ends, ends_all, ended_counted}
+use Rattle.ang_engine.proofs.Limiting.{within_none, within_moves}
 
 module _ {V : Type 0} {P : V → Type 0} (m : Meanings P) where
   -- ---- pieces of a command
@@ -56,38 +59,43 @@ module _ {V : Type 0} {P : V → Type 0} (m : Meanings P) where
   -- ---- a whole command
 
   -- what is kept does not look at the events
-  pub kept-same : (s : Store V P) (es : Vec HostEvent Global) → IsKept m (record s { events = es }) → IsKept m s
-  kept-same s es k = record { drivers = k.drivers; alive = k.alive; none = k.none }
+  pub kept-same : (s : Store V P) (es : EventBuffer) → IsKept m (record s { events = es }) → IsKept m s
+  kept-same s es k = record { drivers = k.drivers; alive = k.alive; none = k.none; due = k.due; tallied = k.tallied }
 
   -- nothing was asked
   pub asked-nothing : (R : RegistrationList) (after : World) (s : Store V P) → IsKept m s → IsCounted [] (world_of m s) → HasAsked m R after [] s s
-  asked-nothing R after s kept counted = record { entitled = All-nil (IsEntitled R after); follow = AllFollow-none _ _ _ (roles_of R) (members s.drivers); kept = kept; counted = counted }
+  asked-nothing R after s kept counted = record { entitled = All-nil (IsEntitled R after); follow = AllFollow-none _ _ _ (roles_of R) (members s.drivers); within = within_none m s; kept = kept; counted = counted }
 
-  module _ (R : RegistrationList) (s t : Store V P) (before after : Vec HostEvent Global) (first : before.items ≡ []) (ready : IsReady m (record s { events = before }))
+  module _ (R : RegistrationList) (s t : Store V P) (before after : EventBuffer) (first : listed_in before ≡ []) (ready : IsReady m (record s { events = before }))
       (counted : IsCounted [] (world_of m s)) where
     asked-by : (ms : List RunModule) (w : World) → HasRunOn m ms (record s { events = before }) (record t { events = after }) → AgreesWith (roles_of R) ms
-        → (AllByRecursion (IsAskedIn ms) after.items → All (IsEntitled R w) after.items) → HasAsked m R w after.items s t
+        → (AllByRecursion (IsAskedIn ms) (listed_in after) → All (IsEntitled R w) (listed_in after)) → HasAsked m R w (listed_in after) s t
     asked-by ms w h agrees entitled =
         let p = (h.moves (roles_of R) agrees).parts in
-        let more : after.items ≡ p.more = p.events ∙ ap (λ es. es ++ p.more) first in
+        let more : listed_in after ≡ p.more = p.events ∙ ap (λ es. es ++ p.more) first in
         record {
           entitled = entitled (h.asked (subst (λ es. AllByRecursion (IsAskedIn ms) es) (sym first) tt));
           follow = subst (λ es. DriversFollow m (roles_of R) (members s.drivers) es (members t.drivers)) (sym more) p.follow;
+          within = within_moves m (roles_of R) s t before after first ready (h.moves (roles_of R) agrees);
           kept = kept-same t after (h.ready ready).kept;
           counted = h.counted counted;
         }
 
-    -- modules have run, whatever is built of them now
+    -- modules have run, whatever is built of them now, and events are heard as before
     pub asked-run : (xs : List (Option Module)) (ls ks : List (Option LoadedModule)) (order : List ℕ) (r : RunWorld) → AllZip (IsSoundPlace R) xs ls → AreApart xs
         → HasRunOn m (modules_of ls) (record s { events = before }) (record t { events = after })
-        → HasAsked m R (left_to (record { places = places_of xs ks; order = order }) r) after.items s t
+        → HasAsked m R (left_to (record { places = places_of xs ks; order = order }) r) (listed_in after) s t
     asked-run xs ls ks order r zip apart h =
         asked-by (modules_of ls) (left_to (record { places = places_of xs ks; order = order }) r) h (roles_agree R xs ls zip)
-        (λ es. all_entitled R xs ls ks order r zip apart after.items es)
+        (λ es. all_entitled R xs ls ks order r zip apart (listed_in after) es)
+
+    pub heard-run : (xs : List (Option Module)) (ls : List (Option LoadedModule)) → AllZip (IsSoundPlace R) xs ls → HasRunOn m (modules_of ls) (record s { events = before }) (record t { events = after })
+        → is_heard after ≡ is_heard before
+    heard-run xs ls zip h = (h.moves (roles_of R) (roles_agree R xs ls zip)).heard
 
     -- none has run
-    pub asked-ends : (w : World) → HasRunOn m [] (record s { events = before }) (record t { events = after }) → HasAsked m R w after.items s t
-    asked-ends w h = asked-by [] w h (agrees_none (roles_of R)) (λ es. ends_entitled R w after.items es)
+    pub asked-ends : (w : World) → HasRunOn m [] (record s { events = before }) (record t { events = after }) → HasAsked m R w (listed_in after) s t
+    asked-ends w h = asked-by [] w h (agrees_none (roles_of R)) (λ es. ends_entitled R w (listed_in after) es)
 
   pub applied-asked : (R : RegistrationList) (w v : World) (c : Command) (reply : Reply) (s t : Store V P)
       → Takes R w c reply v → HasAsked m R v reply.events s t → IfRefusedAtOnce reply.outcome (members t.drivers ≡ members s.drivers)

@@ -1,5 +1,5 @@
 -- An engine that begins: nothing lives, and nothing is held.
-use Rattle.std.proofs.Common.{◌≡◌, ℕ, refl, sym, ap, ◌∙◌, subst, List, [], length, arith, Some}
+use Rattle.std.proofs.Common.{false, ◌≡◌, ℕ, refl, sym, ap, ◌∙◌, subst, List, [], length, arith, Some}
 use Rattle.std.specs.FinMap as map
 use Rattle.std.specs.FinMap.{get-empty}
 use Rattle.std.specs.Ordering.{nat_cmp}
@@ -25,12 +25,12 @@ use Rattle.ang_engine.proofs.States.{counts_fresh, ready_fresh}
 -- ---- a machine on fresh drivers, without script objects and globals
 
 pub fresh_world : (ss : List State) (os : ScriptObjects) (gs : List (List Slot)) (es : List HostEvent) → AreFresh ss → os ≡ map.empty → gs ≡ [] → es ≡ []
-    → world_by os (counts_by ss) gs es [] ≡ running no_modules []
+    → world_by os (counts_by ss) gs es false [] ≡ running no_modules []
 fresh_world ss os gs es fresh objects globals events =
-    ap (λ o. world_by o (counts_by ss) gs es []) objects
-    ∙ ap (λ h. world_by map.empty h gs es []) (counts_fresh ss fresh)
-    ∙ ap (λ g. world_by map.empty (λ d. map.empty) g es []) globals
-    ∙ ap (λ l. world_by map.empty (λ d. map.empty) [] l []) events
+    ap (λ o. world_by o (counts_by ss) gs es false []) objects
+    ∙ ap (λ h. world_by map.empty h gs es false []) (counts_fresh ss fresh)
+    ∙ ap (λ g. world_by map.empty (λ d. map.empty) g es false []) globals
+    ∙ ap (λ l. world_by map.empty (λ d. map.empty) [] l false []) events
 
 empty_counted : IsCounted [] (running no_modules [])
 empty_counted = nothing_counted (running no_modules []) refl (λ d k. ap count_of (get-empty nat_cmp k)) (λ x. refl)

@@ -14,12 +14,12 @@ use Rattle.ang_view.specs.declared.entry.Entry.{Entry}
 use Rattle.ang_view.specs.declared.entry.EntryKind.{EntryKind}
 use Rattle.ang_view.specs.declared.entry.EntryKind.TheVariants.{HostType, Factory, Method, Property, Function, Global, Enumeration, EnumValue}
 use Rattle.ang_view.specs.Registration.{RegistrationList, entry_at, is_seen, seen_entry, seen}
-use Rattle.ang_registry.specs.Roles.{roles_of, role_by}
-use Rattle.ang_registry.proofs.Roles.{role_at-entry}
+use Rattle.ang_engine.specs.Roles.{roles_of, role_by}
+use Rattle.ang_engine.proofs.Roles.{role_at-entry}
 use Rattle.ang_view.proofs.Seen.{entry_at-seen}
 use Rattle.ang_meaning.specs.declared.host.HostUse.{HostUse}
 use Rattle.ang_meaning.specs.World.{World as RunWorld}
-use Rattle.ang_lower.specs.Hosts.{is_asked, use_of, asked_as, use_in, role_in}
+use Rattle.ang_source.specs.Hosts.{is_asked, use_of, asked_as, use_in, role_in}
 use Rattle.ang_engine_modules.specs.declared.modules.LoadedModule.{LoadedModule}
 use Rattle.ang_engine_modules.specs.Loaded.{modules_of}
 use Rattle.ang_engine_modules.specs.Modules.{module_at, AreDriversThere, AgreesWith, IsAskedIn}

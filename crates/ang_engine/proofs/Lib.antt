@@ -1,3 +1,4 @@
+pub mod Roles
 pub mod States
 pub mod Beginning
 pub mod Entries
@@ -20,3 +21,4 @@ pub mod Kept
 pub mod Removing
 pub mod Discarding
 pub mod Backwards
+pub mod Limiting

@@ -5,6 +5,8 @@ use Rattle.std.specs.Prelude.{Result, Ok, Err, OnOk, OnErr, IfOk, Vec, if◌then
 use Rattle.std.specs.List.{AllZip}
 use Rattle.std.specs.declared.alloc.Global.{Global}
 use Rattle.ang_kinds.specs.declared.mask.Mask.{Mask}
+use Rattle.ang_host.specs.Logs.{listed_in, is_heard}
+use Rattle.ang_host.specs.declared.event_buffer.EventBuffer.{EventBuffer}
 use Rattle.ang_host.specs.declared.event.HostEvent.{HostEvent}
 use Rattle.ang_host.specs.declared.event.Role.{Role}
 use Rattle.ang_host.specs.Boxes.{members}
@@ -33,6 +35,7 @@ use Rattle.ang_engine_modules.specs.declared.reply.Refusal.TheVariants.{BadBudge
 use Rattle.ang_engine_modules.specs.Sound.{HasSameName}
 use Rattle.ang_engine_modules.specs.World.{Program, ModuleState, ModuleStates, World, module_named, module_in, module_at, built_in, placed, all_unbound_from, running, left_to, globals_ended}
 use Rattle.ang_engine_modules.specs.States.{program_in, place_of, places_of}
+use Rattle.ang_engine.specs.Roles.{roles_of}
 use Rattle.ang_engine.specs.Step.{Leads, emptied, with_program, build, build_within, is_budget}
 use Rattle.ang_engine_modules.specs.Commands.{refused}
 use Rattle.ang_engine.specs.Sound.{IsBuiltBy, IsSoundPlace, HaveDrivers}
@@ -42,7 +45,7 @@ use Rattle.ang_engine_modules.proofs.PlaceLists.{set_length}
 use Rattle.ang_engine_modules.proofs.Worlds.{places_at, zip_length}
 use Rattle.ang_engine_modules.proofs.Keeping.{was_there}
 use Rattle.ang_engine.proofs.Unloading.{unbound_twice, emptied_place}
-use Rattle.ang_engine.proofs.Entries.{AreApart, drivers_there}
+use Rattle.ang_engine.proofs.Entries.{AreApart, roles_agree, drivers_there}
 use Rattle.ang_engine_modules.proofs.Finding.{on_module-found}
 use Rattle.ang_engine.proofs.Asking.{run-join, run-ended, asked-run, asked-ends}
 use Rattle.ang_engine.proofs.Starting.{none_there, ended_silent, ended_lengths}
@@ -109,8 +112,8 @@ view_of_place R (Some m) d l k h e = h.view ∙ ap (λ p. seen R (module_in p).b
 
 -- The place `home` among these, d before and n after: its globals have ended, its code is gone, and no import leads to it.
 module _ {V : Type 0} {P : V → Type 0} (m : Meanings P) (R : RegistrationList) (ms : List (Option Module)) (ls cs : List (Option LoadedModule)) (order : List ℕ) (home budget : ℕ) (n d : Option Module)
-    (s t : Store V P) (es fs : Vec HostEvent Global) (zip : AllZip (IsSoundPlace R) ms ls) (lt : home < length ms) (at : slice_index_or ms home None ≡ d)
-    (cleared : cs ≡ unbound_in home (slice_set ls home None)) (first : es.items ≡ [])
+    (s t : Store V P) (es fs : EventBuffer) (zip : AllZip (IsSoundPlace R) ms ls) (lt : home < length ms) (at : slice_index_or ms home None ≡ d)
+    (cleared : cs ≡ unbound_in home (slice_set ls home None)) (first : listed_in es ≡ [])
     (ended : (is : List Input) → globals_ended home (with_inputs is (world_of m (record s { events = es }))) ≡ with_inputs is (world_of m (record t { events = fs })))
     (moves : (roles : List Role) → StoreMoves m roles (record s { events = es }) (record t { events = fs })) where
   -- the modules after it, with what is built of them
@@ -126,7 +129,7 @@ module _ {V : Type 0} {P : V → Type 0} (m : Meanings P) (R : RegistrationList)
 
   has_ended : (is : List Input) → globals_ended home (running old is) ≡ with_inputs is now
   has_ended is =
-      ap (λ l. globals_ended home (world_by (objects_of s.heap) (counts_of m (members s.drivers)) (values_in s.globals) l is)) (sym first) ∙ ended is
+      ap (λ l. globals_ended home (world_by (objects_of s.heap) (counts_of m (members s.drivers)) (values_in s.globals) l s.spent is)) (sym first) ∙ ended is
 
   silent : answers_listed now.events ≡ []
   silent = sym (ended_silent home (running old []) now (has_ended []))
@@ -183,20 +186,20 @@ module _ {V : Type 0} {P : V → Type 0} (m : Meanings P) (R : RegistrationList)
     pub refused-leads : (U : Type 0) (e : NoProgram) (x : BuildRefused) → x ≡ refused_by e
         → ((l : Option LoadedModule) → IsCompiled (Err e) (build_of (seen R (module_in (place_of d l)).mask) (module_in (place_of d l)).sections))
         → ((l : Option LoadedModule) → HasDenials {A = LoadedModule} (Err e) (denials_in R (module_in (place_of d l)).mask (module_in (place_of d l)).sections))
-        → Leads (build R old home (module_at old home) budget) (reply_to_build {U = U} (Err x) fs.items) (left_to (states_by cs) now)
+        → Leads (build R old home (module_at old home) budget) (reply_to_build {U = U} (Err x) (listed_in fs)) (left_to (states_by cs) now)
     refused-leads U e x is c denied =
         let l = slice_index_or ls home None in
-        subst (λ q. Leads (build R old home (module_at old home) budget) (reply_to_build {U = U} (Err q) fs.items) (left_to (states_by cs) now)) (sym is)
-        (subst (λ q. Leads (build R old home q budget) (reply_to_build {U = U} (Err (refused_by e)) fs.items) (left_to (states_by cs) now)) (sym it_stood)
-        (subst (λ ss. Leads (build R old home it budget) (reply_to_build {U = U} (Err (refused_by e)) fs.items) (left_to ss now)) (sym left_emptied)
+        subst (λ q. Leads (build R old home (module_at old home) budget) (reply_to_build {U = U} (Err q) (listed_in fs)) (left_to (states_by cs) now)) (sym is)
+        (subst (λ q. Leads (build R old home q budget) (reply_to_build {U = U} (Err (refused_by e)) (listed_in fs)) (left_to (states_by cs) now)) (sym it_stood)
+        (subst (λ ss. Leads (build R old home it budget) (reply_to_build {U = U} (Err (refused_by e)) (listed_in fs)) (left_to ss now)) (sym left_emptied)
         (build-refused R old home it budget now has_ended silent U e
         (subst (λ q. IsCompiled (Err e) (build_of (seen R (module_in (place_of q l)).mask) (module_in (place_of q l)).sections)) (sym at) (c l))
         (subst (λ q. HasDenials {A = LoadedModule} (Err e) (denials_in R (module_in (place_of q l)).mask (module_in (place_of q l)).sections)) (sym at) (denied l)))))
 
     pub refused-asked : (U : Type 0) (e : NoProgram) (x : BuildRefused) → x ≡ refused_by e → (w : World) → IsReady m (record s { events = es }) → IsCounted [] (world_of m s)
-        → HasAsked m R w (reply_to_build {U = U} (Err x) fs.items).events s t
+        → HasAsked m R w (reply_to_build {U = U} (Err x) (listed_in fs)).events s t
     refused-asked U e x is w ready counted =
-        subst (λ l. HasAsked m R w l s t) (sym (ap (λ q. (reply_to_build {U = U} (Err q) fs.items).events) is ∙ refused_events U e fs.items))
+        subst (λ l. HasAsked m R w l s t) (sym (ap (λ q. (reply_to_build {U = U} (Err q) (listed_in fs)).events) is ∙ refused_events U e (listed_in fs)))
         (asked-ends m R s t es fs first ready counted w (run-ended m [] home (record s { events = es }) (record t { events = fs }) (ended []) moves))
 
     pub refused-sound : AllZip (IsSoundPlace R) (slice_set ms home n) cs
@@ -227,13 +230,17 @@ module _ {V : Type 0} {P : V → Type 0} (m : Meanings P) (R : RegistrationList)
       begun-sound (Ok x) ks ok err = subst (λ q. AllZip (IsSoundPlace R) (slice_set ms home n) q) (sym ok) sound_with
       begun-sound (Err e) ks ok err = subst (λ q. AllZip (IsSoundPlace R) (slice_set ms home n) q) (sym err) left_sound
 
-      pub begun-asked : {U : Type 0} (r : Result U BuildRefused) (ks : List (Option LoadedModule)) (u : Store V P) (gs : Vec HostEvent Global) → AreApart (slice_set ms home n)
+      -- events are heard as before
+      pub begun-heard : (u : Store V P) (gs : EventBuffer) → HasRunOn m (modules_of with_it) (record t { events = fs }) (record u { events = gs }) → is_heard gs ≡ is_heard es
+      begun-heard u gs ran = (ran.moves (roles_of R) (roles_agree R (slice_set ms home n) with_it sound_with)).heard ∙ (moves []).heard
+
+      pub begun-asked : {U : Type 0} (r : Result U BuildRefused) (ks : List (Option LoadedModule)) (u : Store V P) (gs : EventBuffer) → AreApart (slice_set ms home n)
           → HasStarted (modules_of with_it) home budget (program_in l) now r (world_of m (record u { events = gs }))
           → HasRunOn m (modules_of with_it) (record t { events = fs }) (record u { events = gs }) → IsReady m (record s { events = es }) → IsCounted [] (world_of m s)
-          → HasAsked m R (left_to (states_by ks) (world_of m u)) (reply_to_build r gs.items).events s u
+          → HasAsked m R (left_to (states_by ks) (world_of m u)) (reply_to_build r (listed_in gs)).events s u
       begun-asked r ks u gs apart started ran ready counted =
           let w = left_to (states_by ks) (world_of m u) in
-          subst (λ q. HasAsked m R w q s u) (sym (started_events r (modules_of with_it) home budget (program_in l) now (world_of m (record u { events = gs })) gs.items started))
+          subst (λ q. HasAsked m R w q s u) (sym (started_events r (modules_of with_it) home budget (program_in l) now (world_of m (record u { events = gs })) (listed_in gs) started))
           (asked-run m R s u es gs first ready counted (slice_set ms home n) with_it ks order (world_of m u) sound_with apart
           (run-join m (modules_of with_it) (record s { events = es }) (record t { events = fs }) (record u { events = gs })
           (run-ended m (modules_of with_it) home (record s { events = es }) (record t { events = fs }) (ended []) moves) ran))
@@ -255,11 +262,11 @@ module _ {V : Type 0} {P : V → Type 0} (m : Meanings P) (R : RegistrationList)
         placed_by (Ok x) ks ok err = ap states_by ok ∙ states_with
         placed_by (Err e) ks ok err = ap states_by err ∙ left_emptied
 
-        pub begun-leads : {U : Type 0} (r : Result U BuildRefused) (ks : List (Option LoadedModule)) (u : Store V P) (gs : Vec HostEvent Global) → OnOk r (ks ≡ with_it)
+        pub begun-leads : {U : Type 0} (r : Result U BuildRefused) (ks : List (Option LoadedModule)) (u : Store V P) (gs : EventBuffer) → OnOk r (ks ≡ with_it)
             → OnErr r (ks ≡ cs) → HasStarted (modules_of with_it) home budget (program_in l) now r (world_of m (record u { events = gs }))
-            → Leads (build R old home (module_at old home) budget) (reply_to_build r gs.items) (left_to (states_by ks) (world_of m (record u { events = gs })))
+            → Leads (build R old home (module_at old home) budget) (reply_to_build r (listed_in gs)) (left_to (states_by ks) (world_of m (record u { events = gs })))
         begun-leads r ks u gs ok err started =
             let y = world_of m (record u { events = gs }) in
-            subst (λ x. Leads (build R old home x budget) (reply_to_build r gs.items) (left_to (states_by ks) y)) (sym it_stood)
+            subst (λ x. Leads (build R old home x budget) (reply_to_build r (listed_in gs)) (left_to (states_by ks) y)) (sym it_stood)
             (build-begun R old home it budget now has_ended silent l view_here unbound compiled_here r (modules_of with_it) y built_with started
             (λ end h. ended_silent home (with_inputs [] end) (with_inputs [] y) (h [])) (states_by ks) (placed_by r ks ok err))

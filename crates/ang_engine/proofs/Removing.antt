@@ -3,6 +3,8 @@ use Rattle.std.proofs.Common.{◌≡◌, inl, refl, ap, sym, ◌∙◌, ℕ, Lis
 use Rattle.std.specs.Prelude.{◌==◌, not, filter, Vec, slice_set}
 use Rattle.std.specs.List.{AllZip}
 use Rattle.std.specs.declared.alloc.Global.{Global}
+use Rattle.ang_host.specs.Logs.{listed_in}
+use Rattle.ang_host.specs.declared.event_buffer.EventBuffer.{EventBuffer}
 use Rattle.ang_host.specs.declared.event.HostEvent.{HostEvent}
 use Rattle.ang_host.specs.Boxes.{members}
 use Rattle.ang_host.specs.Meanings.{Meanings}
@@ -41,7 +43,7 @@ removed_places R x home zip =
     ∙ map_set (option_map (unbound_module home)) (places_of x.places.items x.code) home None
 
 -- Its globals have ended between the stores s and t, and it is taken out of the modules.
-module _ {V : Type 0} {P : V → Type 0} (m : Meanings P) (R : RegistrationList) (x y : ModuleList) (home : ℕ) (s t : Store V P) (es fs : Vec HostEvent Global) (first : es.items ≡ [])
+module _ {V : Type 0} {P : V → Type 0} (m : Meanings P) (R : RegistrationList) (x y : ModuleList) (home : ℕ) (s t : Store V P) (es fs : EventBuffer) (first : listed_in es ≡ [])
     (ended : StoreBecomes m (globals_ended home) (record s { events = es }) (record t { events = fs })) where
   -- the world before, and the one after the end of its globals
   abbrev before : World
@@ -51,7 +53,7 @@ module _ {V : Type 0} {P : V → Type 0} (m : Meanings P) (R : RegistrationList)
   now = world_of m (record t { events = fs })
 
   has_ended : (is : List Input) → globals_ended home (running before is) ≡ with_inputs is now
-  has_ended is = ap (λ l. globals_ended home (world_by (objects_of s.heap) (counts_of m (members s.drivers)) (values_in s.globals) l is)) (sym first) ∙ ended is
+  has_ended is = ap (λ l. globals_ended home (world_by (objects_of s.heap) (counts_of m (members s.drivers)) (values_in s.globals) l s.spent is)) (sym first) ∙ ended is
 
   silent : answers_listed now.events ≡ []
   silent = sym (ended_silent home (running before []) now (has_ended []))
@@ -69,7 +71,7 @@ module _ {V : Type 0} {P : V → Type 0} (m : Meanings P) (R : RegistrationList)
         ∙ ap (λ l. record { places = places_of l y.code; order = filter (λ j. not (j == home)) x.order.items }) (sym places)
         ∙ ap (λ l. record { places = places_of y.places.items y.code; order = l }) (sym order)
 
-    pub removed-leads : (name : List ℕ) → Some home ≡ module_named name before → Leads (discarding name before) (reply_of (Done None) fs.items []) (left_to (states_in y) now)
+    pub removed-leads : (name : List ℕ) → Some home ≡ module_named name before → Leads (discarding name before) (reply_of (Done None) (listed_in fs) []) (left_to (states_in y) now)
     removed-leads name found = record {
       used = [];
       tells = λ rest.
@@ -80,5 +82,5 @@ module _ {V : Type 0} {P : V → Type 0} (m : Meanings P) (R : RegistrationList)
       answers = sym silent;
     }
 
-  pub removed-asked : (w : World) → IsReady m (record s { events = es }) → IsCounted [] (world_of m s) → HasMoved m (record s { events = es }) (record t { events = fs }) → HasAsked m R w fs.items s t
+  pub removed-asked : (w : World) → IsReady m (record s { events = es }) → IsCounted [] (world_of m s) → HasMoved m (record s { events = es }) (record t { events = fs }) → HasAsked m R w (listed_in fs) s t
   removed-asked w ready counted moves = asked-ends m R s t es fs first ready counted w (run-ended m [] home (record s { events = es }) (record t { events = fs }) (ended []) moves)

@@ -4,6 +4,7 @@ use Rattle.std.specs.Prelude.{Result, IsSome, slice_get, slice_index_or, slice_s
 use Rattle.std.specs.List.{AllByRecursion}
 use Rattle.std.proofs.lemmas.List.{get_or-set_other, nil_from_length}
 use Rattle.ang_kinds.specs.declared.fault.Fault.{Fault}
+use Rattle.ang_host.specs.Logs.{listed_in}
 use Rattle.ang_host.specs.declared.event.Role.{Role}
 use Rattle.ang_host.specs.Boxes.{members}
 use Rattle.ang_host.specs.Meanings.{Meanings}
@@ -151,25 +152,31 @@ started-by r ls ks home budget p u v x code begun h =
 
 module _ {V : Type 0} {P : V → Type 0} (m : Meanings P) (ms : List RunModule) where
   ready_with : (s : Store V P) (gs : Globals) → IsReady m s → IsReady m (record s { globals = gs })
-  ready_with s gs r = record { kept = record { drivers = r.kept.drivers; alive = r.kept.alive; none = r.kept.none }; room = r.room }
+  ready_with s gs r = record { kept = record { drivers = r.kept.drivers; alive = r.kept.alive; none = r.kept.none; due = r.kept.due; tallied = r.kept.tallied }; room = r.room }
 
   -- a module's globals begin, which had none
   pub run-begun : (i : ℕ) (s : Store V P) (gs : Globals) (l : List Slot) → values_in gs ≡ slice_set (values_in s.globals) i l → ((x : Thing) → how_many x l ≡ 0)
       → slice_index_or (values_in s.globals) i [] ≡ [] → HasRunOn m ms s (record s { globals = gs })
   run-begun i s gs l e none empty = record {
     asked = λ h. h;
-    moves = λ roles h. record { parts = parts_none m roles (members s.drivers) s.events.items; ready = λ r. ready_with s gs r };
+    moves = λ roles h. record {
+      parts = parts_none m roles (members s.drivers) (listed_in s.events);
+      ready = λ r. ready_with s gs r;
+      heard = refl;
+      limits = refl;
+      within = λ r n k o a w. record { slots = w.slots; events = w.events; objects = w.objects };
+    };
     ready = λ r. ready_with s gs r;
     counted = λ h. subst (λ q. IsCounted [] (record (world_of m s) { globals = q })) (sym e) (begun_counted i l (world_of m s) none empty h);
   }
 
   -- a run has ended
-  pub run-done : (s t : Store V P) → (AllByRecursion (IsAskedIn ms) s.events.items → AllByRecursion (IsAskedIn ms) t.events.items)
+  pub run-done : (s t : Store V P) → (AllByRecursion (IsAskedIn ms) (listed_in s.events) → AllByRecursion (IsAskedIn ms) (listed_in t.events))
       → ((roles : List Role) → AgreesWith roles ms → StoreMoves m roles s t) → IsReady m t → IsCounted [] (world_of m t) → HasRunOn m ms s t
   run-done s t asked moves ready counted = record { asked = asked; moves = moves; ready = λ q. ready; counted = λ q. counted }
 
 -- the same of modules by other words
 pub run-loaded : {V : Type 0} {P : V → Type 0} (m : Meanings P) (ls ks : List (Option LoadedModule)) (s t : Store V P) → ls ≡ ks
-    → (AllByRecursion (IsAskedIn (modules_of ls)) s.events.items → AllByRecursion (IsAskedIn (modules_of ls)) t.events.items)
+    → (AllByRecursion (IsAskedIn (modules_of ls)) (listed_in s.events) → AllByRecursion (IsAskedIn (modules_of ls)) (listed_in t.events))
     → ((roles : List Role) → AgreesWith roles (modules_of ls) → StoreMoves m roles s t) → IsReady m t → IsCounted [] (world_of m t) → HasRunOn m (modules_of ks) s t
 run-loaded m ls ks s t code asked moves ready counted = subst (λ q. HasRunOn m (modules_of q) s t) code (run-done m (modules_of ls) s t asked moves ready counted)

@@ -11,7 +11,7 @@ use Rattle.ang_host.specs.Laws.{Fits}
 use Rattle.ang_host.specs.Meanings.{Meanings, state_in}
 use Rattle.ang_host.specs.Events.{AllFollow}
 use Rattle.ang_view.specs.Registration.{RegistrationList}
-use Rattle.ang_registry.specs.Roles.{roles_of}
+use Rattle.ang_engine.specs.Roles.{roles_of}
 use Rattle.ang_meaning.specs.Counting.{IsCounted}
 use Rattle.ang_heap.specs.declared.store.Store.{Store}
 use Rattle.ang_heap.specs.Globals.{values_in}

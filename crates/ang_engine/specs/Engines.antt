@@ -2,11 +2,14 @@
 use Rattle.std.specs.Prelude.{List, Vec}
 use Rattle.std.specs.declared.alloc.Global.{Global}
 use Rattle.std.specs.declared.dyn_box.DynBox.{DynBox}
+use Rattle.ang_host.specs.declared.event_buffer.EventBuffer.{EventBuffer}
 use Rattle.ang_host.specs.declared.event.HostEvent.{HostEvent}
 use Rattle.ang_host.specs.Boxes.{members}
 use Rattle.ang_host.specs.Meanings.{Meanings}
 use Rattle.ang_view.specs.Registration.{RegistrationList}
 use Rattle.ang_typed.specs.View.{view_typed}
+use Rattle.ang_heap.specs.declared.limits.Limits.{Limits}
+use Rattle.ang_heap.specs.declared.limits.Held.{Held}
 use Rattle.ang_heap.specs.Stores.{world_of}
 use Rattle.ang_vm.specs.declared.machines.Machine.{Machine}
 use Rattle.ang_vm.specs.Machines.{lent}
@@ -16,6 +19,7 @@ use Rattle.ang_engine.specs.declared.engine.Engine.{Engine}
 use Rattle.ang_engine_modules.specs.declared.module.ModuleList.{ModuleList}
 use Rattle.ang_engine_modules.specs.World.{World, left_to}
 use Rattle.ang_engine_modules.specs.States.{states_in}
+use Rattle.ang_engine.specs.Limited.{held_of}
 
 -- what a module is built to
 abbrev pub resolved_in : LoadedModule → Resolved
@@ -34,7 +38,15 @@ world_in m e = left_to (states_in e.modules) (world_of m e.machine.store)
 abbrev pub drivers_in : {V : Type 0} {P : V → Type 0} → Engine V P → List (DynBox V Global P)
 drivers_in e = members e.machine.store.drivers
 
+-- the limits that were set last
+abbrev pub limits_in : {V : Type 0} {P : V → Type 0} → Engine V P → Limits
+limits_in e = e.machine.store.limits
+
+-- how much scripts hold
+abbrev pub held_in : {V : Type 0} {P : V → Type 0} → Meanings P → Engine V P → Held
+held_in m e = held_of m e.machine.store
+
 -- the world in the midst of a command, which has listed these events
 abbrev pub world_during : {V : Type 0} {P : V → Type 0} → Meanings P → ModuleList → Machine V P
-    → Vec HostEvent Global → World
+    → EventBuffer → World
 world_during m list machine events = left_to (states_in list) (world_of m (lent machine events))

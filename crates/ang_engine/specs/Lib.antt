@@ -1,6 +1,9 @@
+pub mod Roles
 pub mod Step
 pub mod Outcomes
+pub mod Limited
 pub mod Engines
+pub mod Replies
 pub mod Sound
 pub mod Asked
 pub mod Applied

@@ -1,5 +1,6 @@
 //! Builds.
 ghost use Rattle.std.specs.Prelude.{ℕ, ◌≡◌, ◌<◌, ◌≤◌, ◌^◌, [], Option, Some, None, length, IfOk, IfErr, IsSome, OnOk, OnErr, slice_set, slice_index_or, map as list_map};
+ghost use Rattle.ang_host.specs.Logs.{listed_in, is_heard};
 ghost use Rattle.ang_host.specs.Boxes.{members};
 ghost use Rattle.ang_view.specs.Registration.{seen};
 ghost use Rattle.ang_source.specs.Sound.{SoundProgram};
@@ -28,7 +29,7 @@ use crate::budget::may_run;
 use crate::ending::end_globals;
 use ang_engine_build::{NoProgram, Program, build_sections};
 use ang_engine_modules::{LoadedModule, Module, ModuleList, Modules, Refusal, find, put_globals};
-use ang_host::{Driver, HostEvent};
+use ang_host::{Driver, EventBuffer};
 use ang_kinds::{Denial, Error, Fault, List, Mask};
 use ang_meaning::{Routine, Slot};
 use ang_registry::Registry;
@@ -197,7 +198,7 @@ fn start(
     alloc: Global,
     code: &mut Modules,
     machine: &mut Machine,
-    events: &mut Vec<HostEvent>,
+    events: &mut EventBuffer,
     home: u32,
     loaded: LoadedModule,
     budget: u64,
@@ -275,7 +276,7 @@ fn build_module(
     registry: &Registry,
     list: &mut ModuleList,
     machine: &mut Machine,
-    events: &mut Vec<HostEvent>,
+    events: &mut EventBuffer,
     home: u32,
     budget: u64,
 ) -> Result<(), BuildRefused>
@@ -288,18 +289,19 @@ fn build_module(
     requires ready { IsReady ⟦<dyn Driver as Driver>⟧ (lent machine.old events.old) }
     requires counted { IsCounted []
         (world_of ⟦<dyn Driver as Driver>⟧ (lent machine.old events.old)) }
-    requires first { events.old.items ≡ [] }
+    requires first { listed_in events.old ≡ [] }
     ensures done { Leads (build registry.now.entries
         (world_during ⟦<dyn Driver as Driver>⟧ list.old machine.old events.old) home
         (module_at (world_during ⟦<dyn Driver as Driver>⟧ list.old machine.old events.old) home)
         budget)
-        (reply_to_build result events.new.items)
+        (reply_to_build result (listed_in events.new))
         (world_during ⟦<dyn Driver as Driver>⟧ list.new machine.new events.new) }
     ensures asked { HasAsked ⟦<dyn Driver as Driver>⟧ registry.now.entries
         (left_to (states_in list.new) (world_of ⟦<dyn Driver as Driver>⟧ machine.new.store))
-        (reply_to_build result events.new.items).events machine.old.store machine.new.store }
+        (reply_to_build result (listed_in events.new)).events machine.old.store machine.new.store }
     ensures sound { AreSoundModules registry.now.entries list.new }
     ensures globals { HaveGlobals list.new (values_in machine.new.store.globals) }
+    ensures heard { is_heard events.new ≡ is_heard events.old }
     ensures begun { IfErr result IsBegun }
 {
     end_globals(alloc, machine, events, home as usize);
@@ -317,7 +319,7 @@ pub fn build(
     registry: &Registry,
     list: &mut ModuleList,
     machine: &mut Machine,
-    events: &mut Vec<HostEvent>,
+    events: &mut EventBuffer,
     name: &[u8],
     budget: u64,
 ) -> Result<(), BuildRefused>
@@ -328,18 +330,19 @@ pub fn build(
     requires ready { IsReady ⟦<dyn Driver as Driver>⟧ (lent machine.old events.old) }
     requires counted { IsCounted []
         (world_of ⟦<dyn Driver as Driver>⟧ (lent machine.old events.old)) }
-    requires first { events.old.items ≡ [] }
+    requires first { listed_in events.old ≡ [] }
     ensures done { Leads (building registry.now.entries name.now budget
         (world_during ⟦<dyn Driver as Driver>⟧ list.old machine.old events.old))
-        (reply_to_build result events.new.items)
+        (reply_to_build result (listed_in events.new))
         (world_during ⟦<dyn Driver as Driver>⟧ list.new machine.new events.new) }
     ensures asked { HasAsked ⟦<dyn Driver as Driver>⟧ registry.now.entries
         (left_to (states_in list.new) (world_of ⟦<dyn Driver as Driver>⟧ machine.new.store))
-        (reply_to_build result events.new.items).events machine.old.store machine.new.store }
+        (reply_to_build result (listed_in events.new)).events machine.old.store machine.new.store }
     ensures sound { AreSoundModules registry.now.entries list.new }
     ensures globals { HaveGlobals list.new (values_in machine.new.store.globals) }
-    ensures refused { IfRefusedAtOnce (reply_to_build result events.new.items).outcome
+    ensures refused { IfRefusedAtOnce (reply_to_build result (listed_in events.new)).outcome
         (members machine.new.store.drivers ≡ members machine.old.store.drivers) }
+    ensures heard { is_heard events.new ≡ is_heard events.old }
 {
     let Some(home) = find(&list.places, name) else {
         return Err(BuildRefused::Before(Refusal::NoModule));

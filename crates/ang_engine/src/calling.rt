@@ -15,7 +15,7 @@ ghost use Rattle.ang_engine.specs.Step.{choice_of, of_function};
 
 use ang_engine_call::{arguments, find_function, is_callable};
 use ang_engine_modules::{LoadedModule, Modules, Outcome, Refusal};
-use ang_host::{Driver, HostEvent};
+use ang_host::{Driver, EventBuffer};
 use ang_kinds::{Fault, Value};
 use ang_meaning::Slot;
 use ang_names_known::ScriptFunction;
@@ -86,7 +86,7 @@ fn call_outcome(answer: Result<Option<Value>, Fault>) -> Outcome
 pub fn run_chosen(
     code: &Modules,
     machine: &mut Machine,
-    events: &mut Vec<HostEvent>,
+    events: &mut EventBuffer,
     home: u32,
     chosen: &ChosenCall,
     budget: u64,

@@ -1,19 +1,20 @@
 //! Globals that end.
-ghost use Rattle.std.specs.Prelude.{◌≡◌, ◌+◌, ◌≤◌, List, [], slice_index_or, slice_set, vec_len, vec_capacity};
+ghost use Rattle.std.specs.Prelude.{Bool, ◌≡◌, ◌+◌, ◌≤◌, List, [], slice_index_or, slice_set};
+ghost use Rattle.ang_host.specs.Logs.{listed_in, is_heard, log_len, log_capacity};
 ghost use Rattle.ang_host.specs.declared.event.Role.{Role};
 ghost use Rattle.ang_host.specs.Boxes.{members};
 ghost use Rattle.ang_meaning.specs.World.{Input};
 ghost use Rattle.ang_meaning.specs.Results.{give_back as given_back};
 ghost use Rattle.ang_meaning.specs.Counting.{EnoughIn, CountedIn, IsCounted};
 ghost use Rattle.ang_heap.specs.Globals.{values_in};
-ghost use Rattle.ang_heap.specs.Heaps.{objects_of};
+ghost use Rattle.ang_heap.specs.Heaps.{IsTallied, IsLess, objects_of};
 ghost use Rattle.ang_heap.specs.Parts.{world_by, AreReady, PartsMove, states_among, counts_among, live_among};
 ghost use Rattle.ang_heap.specs.Stores.{world_of, IsReady, HasMoved, StoreBecomes};
 ghost use Rattle.ang_vm.specs.Machines.{lent};
 ghost use Rattle.ang_engine_modules.specs.World.{globals_ended, all_ended};
 
 use ang_heap::{Globals, Heap};
-use ang_host::{Driver, Drivers, HostEvent};
+use ang_host::{Driver, Drivers, EventBuffer};
 use ang_meaning::Slot;
 use ang_vm::Machine;
 use std::alloc::Global;
@@ -21,26 +22,29 @@ use std::mem;
 
 /// Values are given up, the last one first. The end of each host object that ends is listed, in the
 /// room that is kept for it.
-fn give_back(heap: &mut Heap, drivers: &mut Drivers, events: &mut Vec<HostEvent>, values: &[Slot])
+fn give_back(heap: &mut Heap, drivers: &mut Drivers, events: &mut EventBuffer, values: &[Slot])
     requires ready { AreReady (states_among ⟦<dyn Driver as Driver>⟧ drivers.old)
-        (vec_len events.old) (vec_capacity events.old) }
+        (log_len events.old) (log_capacity events.old) }
     requires enough { EnoughIn values.now (objects_of heap.old)
         (counts_among ⟦<dyn Driver as Driver>⟧ drivers.old) }
-    ensures gives { (gs : List (List Slot)) (is : List Input)
+    ensures gives { (gs : List (List Slot)) (sp : Bool) (is : List Input)
         → given_back values.now (world_by (objects_of heap.old)
-        (counts_among ⟦<dyn Driver as Driver>⟧ drivers.old) gs events.old.items is)
+        (counts_among ⟦<dyn Driver as Driver>⟧ drivers.old) gs (listed_in events.old) sp is)
         ≡ world_by (objects_of heap.new) (counts_among ⟦<dyn Driver as Driver>⟧ drivers.new) gs
-        events.new.items is }
+        (listed_in events.new) sp is }
     ensures ready { AreReady (states_among ⟦<dyn Driver as Driver>⟧ drivers.new)
-        (vec_len events.new) (vec_capacity events.new) }
-    ensures level { vec_len events.new + live_among ⟦<dyn Driver as Driver>⟧ drivers.new
-        ≡ vec_len events.old + live_among ⟦<dyn Driver as Driver>⟧ drivers.old }
+        (log_len events.new) (log_capacity events.new) }
+    ensures level { log_len events.new + live_among ⟦<dyn Driver as Driver>⟧ drivers.new
+        ≡ log_len events.old + live_among ⟦<dyn Driver as Driver>⟧ drivers.old }
     ensures fewer { live_among ⟦<dyn Driver as Driver>⟧ drivers.new
         ≤ live_among ⟦<dyn Driver as Driver>⟧ drivers.old }
-    ensures capacity { vec_capacity events.new ≡ vec_capacity events.old }
+    ensures capacity { log_capacity events.new ≡ log_capacity events.old }
+    ensures heard { is_heard events.new ≡ is_heard events.old }
     ensures moves { (roles : List Role)
-        → PartsMove ⟦<dyn Driver as Driver>⟧ roles (members drivers.old) events.old.items
-        (members drivers.new) events.new.items }
+        → PartsMove ⟦<dyn Driver as Driver>⟧ roles (members drivers.old) (listed_in events.old)
+        (members drivers.new) (listed_in events.new) }
+    ensures counted { IsTallied heap.old → IsTallied heap.new }
+    ensures less { IsLess heap.old heap.new }
 {
     let mut left = values.len();
     while left > 0 {
@@ -66,29 +70,32 @@ fn end_module(
     heap: &mut Heap,
     globals: &mut Globals,
     drivers: &mut Drivers,
-    events: &mut Vec<HostEvent>,
+    events: &mut EventBuffer,
     home: usize,
 )
     requires ready { AreReady (states_among ⟦<dyn Driver as Driver>⟧ drivers.old)
-        (vec_len events.old) (vec_capacity events.old) }
+        (log_len events.old) (log_capacity events.old) }
     requires counted { CountedIn [] (objects_of heap.old)
         (counts_among ⟦<dyn Driver as Driver>⟧ drivers.old) (values_in globals.old) }
-    ensures ended { (is : List Input)
+    ensures ended { (sp : Bool) (is : List Input)
         → globals_ended home (world_by (objects_of heap.old)
         (counts_among ⟦<dyn Driver as Driver>⟧ drivers.old) (values_in globals.old)
-        events.old.items is)
+        (listed_in events.old) sp is)
         ≡ world_by (objects_of heap.new) (counts_among ⟦<dyn Driver as Driver>⟧ drivers.new)
-        (values_in globals.new) events.new.items is }
+        (values_in globals.new) (listed_in events.new) sp is }
     ensures ready { AreReady (states_among ⟦<dyn Driver as Driver>⟧ drivers.new)
-        (vec_len events.new) (vec_capacity events.new) }
-    ensures level { vec_len events.new + live_among ⟦<dyn Driver as Driver>⟧ drivers.new
-        ≡ vec_len events.old + live_among ⟦<dyn Driver as Driver>⟧ drivers.old }
+        (log_len events.new) (log_capacity events.new) }
+    ensures level { log_len events.new + live_among ⟦<dyn Driver as Driver>⟧ drivers.new
+        ≡ log_len events.old + live_among ⟦<dyn Driver as Driver>⟧ drivers.old }
     ensures fewer { live_among ⟦<dyn Driver as Driver>⟧ drivers.new
         ≤ live_among ⟦<dyn Driver as Driver>⟧ drivers.old }
-    ensures capacity { vec_capacity events.new ≡ vec_capacity events.old }
+    ensures capacity { log_capacity events.new ≡ log_capacity events.old }
+    ensures heard { is_heard events.new ≡ is_heard events.old }
     ensures moves { (roles : List Role)
-        → PartsMove ⟦<dyn Driver as Driver>⟧ roles (members drivers.old) events.old.items
-        (members drivers.new) events.new.items }
+        → PartsMove ⟦<dyn Driver as Driver>⟧ roles (members drivers.old) (listed_in events.old)
+        (members drivers.new) (listed_in events.new) }
+    ensures counted { IsTallied heap.old → IsTallied heap.new }
+    ensures less { IsLess heap.old heap.new }
 {
     let values = take_globals(alloc, globals, home);
     give_back(heap, drivers, events, &values);
@@ -101,24 +108,24 @@ pub fn end_all(
     heap: &mut Heap,
     globals: &mut Globals,
     drivers: &mut Drivers,
-    ends: &mut Vec<HostEvent>,
+    ends: &mut EventBuffer,
     order: &[u32],
 )
-    requires ready { AreReady (states_among ⟦<dyn Driver as Driver>⟧ drivers.old) (vec_len ends.old)
-        (vec_capacity ends.old) }
+    requires ready { AreReady (states_among ⟦<dyn Driver as Driver>⟧ drivers.old) (log_len ends.old)
+        (log_capacity ends.old) }
     requires counted { CountedIn [] (objects_of heap.old)
         (counts_among ⟦<dyn Driver as Driver>⟧ drivers.old) (values_in globals.old) }
-    ensures ended { (is : List Input)
+    ensures ended { (sp : Bool) (is : List Input)
         → all_ended order.now (world_by (objects_of heap.old)
         (counts_among ⟦<dyn Driver as Driver>⟧ drivers.old) (values_in globals.old)
-        ends.old.items is)
+        (listed_in ends.old) sp is)
         ≡ world_by (objects_of heap.new) (counts_among ⟦<dyn Driver as Driver>⟧ drivers.new)
-        (values_in globals.new) ends.new.items is }
-    ensures ready { AreReady (states_among ⟦<dyn Driver as Driver>⟧ drivers.new) (vec_len ends.new)
-        (vec_capacity ends.new) }
+        (values_in globals.new) (listed_in ends.new) sp is }
+    ensures ready { AreReady (states_among ⟦<dyn Driver as Driver>⟧ drivers.new) (log_len ends.new)
+        (log_capacity ends.new) }
     ensures moves { (roles : List Role)
-        → PartsMove ⟦<dyn Driver as Driver>⟧ roles (members drivers.old) ends.old.items
-        (members drivers.new) ends.new.items }
+        → PartsMove ⟦<dyn Driver as Driver>⟧ roles (members drivers.old) (listed_in ends.old)
+        (members drivers.new) (listed_in ends.new) }
 {
     let mut left = order.len();
     while left > 0 {
@@ -128,7 +135,7 @@ pub fn end_all(
 }
 
 /// The globals of a module end in a command, which lists what ends.
-pub fn end_globals(alloc: Global, machine: &mut Machine, events: &mut Vec<HostEvent>, home: usize)
+pub fn end_globals(alloc: Global, machine: &mut Machine, events: &mut EventBuffer, home: usize)
     requires ready { IsReady ⟦<dyn Driver as Driver>⟧ (lent machine.old events.old) }
     requires counted { IsCounted []
         (world_of ⟦<dyn Driver as Driver>⟧ (lent machine.old events.old)) }

@@ -1,17 +1,20 @@
 //! The engine.
-ghost use Rattle.std.specs.Prelude.{◌≡◌, ◌↔◌, [], List, All, IsTrue, IfOk, IfErr, length, map as list_map};
+ghost use Rattle.std.specs.Prelude.{◌≡◌, ◌+◌, ◌≤◌, ◌↔◌, [], true, Bool, List, All, IsTrue, IfOk, IfErr, OnErr, length, max, map as list_map};
+ghost use Rattle.ang_host.specs.Logs.{listed_in, is_heard};
 ghost use Rattle.ang_host.specs.declared.event.Role.{Role};
 ghost use Rattle.ang_host.specs.Boxes.{members};
 ghost use Rattle.ang_host.specs.Members.{states_of, AreFresh};
 ghost use Rattle.ang_host.specs.Counts.{IsBalanced};
 ghost use Rattle.ang_host.specs.Events.{DriversFollow};
-ghost use Rattle.ang_registry.specs.Roles.{roles_of};
+ghost use Rattle.ang_engine.specs.Roles.{roles_of};
 ghost use Rattle.ang_meaning.specs.Counting.{IsCounted};
 ghost use Rattle.ang_heap.specs.Globals.{values_in};
+ghost use Rattle.ang_heap.specs.Parts.{SomeRanOut};
 ghost use Rattle.ang_heap.specs.Stores.{world_of, IsKept, IsReady};
 ghost use Rattle.ang_vm.specs.Machines.{lent};
 ghost use Rattle.ang_engine_modules.specs.declared.command.Command.TheVariants.{NewModule, SetMask, AddSection, Build, Bind, Unbind, Call, Discard};
 ghost use Rattle.ang_engine_modules.specs.World.{no_modules, running, engine_ended};
+ghost use Rattle.ang_engine.specs.Limited.{StaysWithin, no_limits};
 ghost use Rattle.ang_engine.specs.Step.{Takes, IsEntitled};
 ghost use Rattle.ang_engine.specs.Sound.{IsSound, HaveDrivers, has_driver};
 
@@ -21,13 +24,16 @@ use crate::building::build;
 use crate::calling::{choose, run_chosen};
 use crate::ending::{end_all, end_globals};
 use crate::refused::{NewError, NewRefused};
-use crate::replies::{answer, build_reply, call_reply, discard_reply, ended};
+use crate::replies::{
+    Finished, Unheard, answer, build_reply, call_reply, discard_reply, ended, heard_reply,
+    no_events, unheard_reply,
+};
 use ang_engine_modules::{
     Command, MOST_MODULES, ModuleList, Modules, Outcome, Refusal, Reply, add_module, add_section,
     find, remove_module, set_mask, unbind,
 };
-use ang_heap::{Globals, Heap, Store};
-use ang_host::{Driver, Drivers, HostEvent};
+use ang_heap::{Globals, Heap, Held, Limits, Store, held, set_limits};
+use ang_host::{Driver, Drivers, EventBuffer};
 use ang_kinds::{EntityNo, List, Mask, Value};
 use ang_registry::Registry;
 use ang_view::EntryKind;
@@ -75,49 +81,57 @@ fn have_drivers(registry: &Registry, count: usize) -> bool
     true
 }
 
-/// A machine without script objects and globals. It takes no memory.
+/// A machine without script objects, globals and limits. It takes no memory.
 fn machine_of(alloc: Global, drivers: Drivers) -> Machine
     requires fresh { AreFresh (states_of ⟦<dyn Driver as Driver>⟧ (members drivers)) }
     ensures drivers { members result.store.drivers ≡ members drivers }
     ensures world { world_of ⟦<dyn Driver as Driver>⟧ result.store ≡ running no_modules [] }
     ensures kept { IsKept ⟦<dyn Driver as Driver>⟧ result.store }
     ensures counted { IsCounted [] (world_of ⟦<dyn Driver as Driver>⟧ result.store) }
+    ensures limits { result.store.limits ≡ no_limits }
 {
     let heap = Heap::new(alloc);
     let modules = Vec::new(alloc);
-    let ends = Vec::new(alloc);
+    let ends = EventBuffer::unheard(alloc);
     Machine {
         store: Store {
             heap,
             globals: Globals { modules },
             drivers,
-            events: Vec::new(alloc),
+            events: EventBuffer::unheard(alloc),
             ends,
             live: 0,
+            spent: false,
+            limits: Limits::none(),
         },
     }
 }
 
-/// A list of events for a command, with room for the end of each live host object.
+/// The events of a command, none yet, with room for the end of each live host object.
 ///
 /// # Errors
 /// Want of memory.
-fn room_for_ends(alloc: Global, machine: &Machine) -> Result<Vec<HostEvent>, AllocError>
+fn room_for_ends(alloc: Global, heard: bool, machine: &Machine) -> Result<EventBuffer, AllocError>
     requires kept { IsKept ⟦<dyn Driver as Driver>⟧ machine.now.store }
-    ensures empty { IfOk result (λ events. events.items ≡ []) }
+    ensures empty { IfOk result (λ events. listed_in events ≡ []) }
+    ensures heard { IfOk result (λ events. is_heard events ≡ heard) }
     ensures ready { IfOk result
         (λ events. IsReady ⟦<dyn Driver as Driver>⟧ (lent machine.now events)) }
 {
-    Vec::with_capacity(alloc, machine.store.live)
+    let mut events = no_events(alloc, heard);
+    events.reserve(machine.store.live)?;
+    Ok(events)
 }
 
 impl Engine {
     ghost use Rattle.ang_engine.specs.Applied.{HasApplied};
     ghost use Rattle.ang_engine.specs.Asked.{HasAsked};
     ghost use Rattle.ang_engine.specs.Outcomes.{IfRefusedAtOnce, IsCalled, IsDiscarded, calling, discarding, reply_to_call, reply_to_discard};
-    ghost use Rattle.ang_engine.specs.Engines.{registrations, world_in, drivers_in};
+    ghost use Rattle.ang_engine.specs.Engines.{registrations, world_in, drivers_in, limits_in, held_in};
+    ghost use Rattle.ang_engine.specs.Replies.{reply_in, WasUnheard};
 
-    /// An engine without modules. Each driver has to be idle, as those of `Drivers::new` are.
+    /// An engine without modules, and without limits. Each driver has to be idle, as those of
+    /// `Drivers::new` are.
     ///
     /// # Errors
     /// Gives back the registry and the drivers as they were, with `NoDriver` where an entry names a
@@ -127,6 +141,7 @@ impl Engine {
         ensures registrations { IfOk result (λ e. registrations e ≡ registry.entries) }
         ensures world { IfOk result (λ e. world_in ⟦<dyn Driver as Driver>⟧ e ≡ no_modules) }
         ensures drivers { IfOk result (λ e. drivers_in e ≡ members drivers) }
+        ensures limits { IfOk result (λ e. limits_in e ≡ no_limits) }
         ensures sound { IfOk result (λ e. IsSound ⟦<dyn Driver as Driver>⟧ e) }
         ensures registry_back { IfErr result (λ r. r.registry ≡ registry) }
         ensures drivers_back { IfErr result (λ r. members r.drivers ≡ members drivers) }
@@ -170,7 +185,9 @@ impl Engine {
     /// saw when it was built. The drivers were asked what the events list, in that order, and each has moved
     /// by its `fits`. After a refusal other than `BuildMemory`, `BuildErrors` and `InitFailed` the drivers
     /// are unchanged. After one of these three the module's old globals have been given up, and so objects
-    /// may have ended.
+    /// may have ended. No more events are listed, and no more is held after it, than the limits allow
+    /// (`set_limits`), or than was held before. Where a driver refused one reference more, which the world
+    /// notes as `spent`, the tally of some driver has run out.
     pub fn apply(&mut self, command: Command) -> Reply
         requires sound { IsSound ⟦<dyn Driver as Driver>⟧ self.old }
         ensures takes { Takes (registrations self.old) (world_in ⟦<dyn Driver as Driver>⟧ self.old)
@@ -182,75 +199,176 @@ impl Engine {
             (drivers_in self.old) result.events (drivers_in self.new) }
         ensures refused { IfRefusedAtOnce result.outcome
             (drivers_in self.new ≡ drivers_in self.old) }
+        ensures few_events { length result.events
+            ≤ max (limits_in self.old).events (held_in ⟦<dyn Driver as Driver>⟧ self.old).objects }
+        ensures few_slots { (held_in ⟦<dyn Driver as Driver>⟧ self.new).slots
+            ≤ max (limits_in self.old).slots (held_in ⟦<dyn Driver as Driver>⟧ self.old).slots }
+        ensures few_objects { (held_in ⟦<dyn Driver as Driver>⟧ self.new).objects
+            ≤ max (limits_in self.old).objects (held_in ⟦<dyn Driver as Driver>⟧ self.old).objects }
+        ensures limits { limits_in self.new ≡ limits_in self.old }
+        ensures due { (world_in ⟦<dyn Driver as Driver>⟧ self.new).spent ≡ true
+            → SomeRanOut (states_of ⟦<dyn Driver as Driver>⟧ (drivers_in self.new)) }
+        ensures sound { IsSound ⟦<dyn Driver as Driver>⟧ self.new }
+        ensures registrations { registrations self.new ≡ registrations self.old }
+    {
+        heard_reply(self.finish(command, true))
+    }
+
+    /// Does one command as `apply` does, for a host that does not read what was asked: its events are
+    /// counted and not kept, so that they take no memory, and the answer says only how many there were.
+    ///
+    /// Of the events that a reply to the command would list, all holds that `apply` says: they exist, and
+    /// they are not handed out. They count for the limit of events.
+    pub fn apply_unheard(&mut self, command: Command) -> Unheard
+        requires sound { IsSound ⟦<dyn Driver as Driver>⟧ self.old }
+        ensures there_is { WasUnheard result
+            (λ reply. HasApplied ⟦<dyn Driver as Driver>⟧ self.old command reply self.new) }
+        ensures few_events { result.asked + result.ended
+            ≤ max (limits_in self.old).events (held_in ⟦<dyn Driver as Driver>⟧ self.old).objects }
+        ensures few_slots { (held_in ⟦<dyn Driver as Driver>⟧ self.new).slots
+            ≤ max (limits_in self.old).slots (held_in ⟦<dyn Driver as Driver>⟧ self.old).slots }
+        ensures few_objects { (held_in ⟦<dyn Driver as Driver>⟧ self.new).objects
+            ≤ max (limits_in self.old).objects (held_in ⟦<dyn Driver as Driver>⟧ self.old).objects }
+        ensures limits { limits_in self.new ≡ limits_in self.old }
+        ensures due { (world_in ⟦<dyn Driver as Driver>⟧ self.new).spent ≡ true
+            → SomeRanOut (states_of ⟦<dyn Driver as Driver>⟧ (drivers_in self.new)) }
+        ensures sound { IsSound ⟦<dyn Driver as Driver>⟧ self.new }
+        ensures registrations { registrations self.new ≡ registrations self.old }
+    {
+        unheard_reply(self.finish(command, false))
+    }
+
+    /// Sets how much scripts may hold, and how many events a command may list, from the next command on. It
+    /// takes no memory, and is never refused. An engine begins with `Limits::none()`.
+    ///
+    /// - `events`: how many events, host calls and ends of host objects together, a command may list, with
+    ///   the ends that live host objects still owe counted as if they were listed. A host whose live objects
+    ///   are as many as that can't be asked anything: set it higher than the objects that may live.
+    /// - `slots`: how many slots the script objects of all modules may take. An object takes one, and one
+    ///   for each of its fields.
+    /// - `objects`: how many objects that factories made may live, of all drivers together.
+    ///
+    /// What would go beyond a limit is refused as where there is no memory: the run ends with the fault
+    /// `Memory`, and the driver is not asked. What ends is never refused. A limit below what is held already
+    /// is taken: nothing ends by it, and nothing is added until enough was given up. Events and objects of a
+    /// build's initializers count as those of a call; what a build takes before them is not limited.
+    pub fn set_limits(&mut self, limits: Limits)
+        requires sound { IsSound ⟦<dyn Driver as Driver>⟧ self.old }
+        ensures set { limits_in self.new ≡ limits }
+        ensures same { world_in ⟦<dyn Driver as Driver>⟧ self.new
+            ≡ world_in ⟦<dyn Driver as Driver>⟧ self.old }
+        ensures drivers { drivers_in self.new ≡ drivers_in self.old }
+        ensures sound { IsSound ⟦<dyn Driver as Driver>⟧ self.new }
+        ensures registrations { registrations self.new ≡ registrations self.old }
+    {
+        set_limits(&mut self.machine.store, limits);
+    }
+
+    /// The limits that were set last.
+    pub fn limits(&self) -> Limits
+        requires sound { IsSound ⟦<dyn Driver as Driver>⟧ self.now }
+        ensures exact { result ≡ limits_in self.now }
+    {
+        self.machine.store.limits
+    }
+
+    /// How much scripts hold: the slots of their objects, and the host objects that live.
+    pub fn held(&self) -> Held
+        requires sound { IsSound ⟦<dyn Driver as Driver>⟧ self.now }
+        ensures exact { result ≡ held_in ⟦<dyn Driver as Driver>⟧ self.now }
+    {
+        held(&self.machine.store)
+    }
+
+    /// Does one command, with events that can be read afterwards or are counted alone.
+    fn finish(&mut self, command: Command, heard: bool) -> Finished
+        requires sound { IsSound ⟦<dyn Driver as Driver>⟧ self.old }
+        ensures applied { HasApplied ⟦<dyn Driver as Driver>⟧ self.old command (reply_in result)
+            self.new }
+        ensures heard { is_heard result.events ≡ heard }
+        ensures within { StaysWithin ⟦<dyn Driver as Driver>⟧ self.old.machine.store
+            (reply_in result).events self.new.machine.store }
         ensures sound { IsSound ⟦<dyn Driver as Driver>⟧ self.new }
         ensures registrations { registrations self.new ≡ registrations self.old }
     {
         match command {
-            Command::NewModule { name, mask } => self.new_module(name, mask),
-            Command::SetMask { name, mask } => self.set_mask(name, mask),
-            Command::AddSection { name, text } => self.add_section(name, text),
-            Command::Build { name, budget } => self.build(name, budget),
+            Command::NewModule { name, mask } => self.new_module(heard, name, mask),
+            Command::SetMask { name, mask } => self.set_mask(heard, name, mask),
+            Command::AddSection { name, text } => self.add_section(heard, name, text),
+            Command::Build { name, budget } => self.build(heard, name, budget),
             Command::Bind {
                 name,
                 index,
                 exporter,
                 decl,
-            } => self.bind(name, index, exporter, decl),
-            Command::Unbind { name, index } => self.unbind(name, index),
+            } => self.bind(heard, name, index, exporter, decl),
+            Command::Unbind { name, index } => self.unbind(heard, name, index),
             Command::Call {
                 name,
                 decl,
                 args,
                 budget,
-            } => self.call(name, decl, args, budget),
-            Command::Discard { name } => self.discard_module(name),
+            } => self.call(heard, name, decl, args, budget),
+            Command::Discard { name } => self.discard_module(heard, name),
         }
     }
 
-    fn new_module(&mut self, name: List<u8>, mask: Mask) -> Reply
+    fn new_module(&mut self, heard: bool, name: List<u8>, mask: Mask) -> Finished
         requires sound { IsSound ⟦<dyn Driver as Driver>⟧ self.old }
-        ensures applied { HasApplied ⟦<dyn Driver as Driver>⟧ self.old (NewModule name mask) result
-            self.new }
+        ensures applied { HasApplied ⟦<dyn Driver as Driver>⟧ self.old (NewModule name mask)
+            (reply_in result) self.new }
+        ensures heard { is_heard result.events ≡ heard }
+        ensures within { StaysWithin ⟦<dyn Driver as Driver>⟧ self.old.machine.store
+            (reply_in result).events self.new.machine.store }
         ensures sound { IsSound ⟦<dyn Driver as Driver>⟧ self.new }
         ensures registrations { registrations self.new ≡ registrations self.old }
     {
         let alloc = self.alloc;
         let globals = &mut self.machine.store.globals;
         let done = add_module(alloc, &mut self.modules, globals, name, mask);
-        answer(alloc, ended(done))
+        answer(alloc, heard, ended(done))
     }
 
-    fn set_mask(&mut self, name: List<u8>, mask: Mask) -> Reply
+    fn set_mask(&mut self, heard: bool, name: List<u8>, mask: Mask) -> Finished
         requires sound { IsSound ⟦<dyn Driver as Driver>⟧ self.old }
-        ensures applied { HasApplied ⟦<dyn Driver as Driver>⟧ self.old (SetMask name mask) result
-            self.new }
+        ensures applied { HasApplied ⟦<dyn Driver as Driver>⟧ self.old (SetMask name mask)
+            (reply_in result) self.new }
+        ensures heard { is_heard result.events ≡ heard }
+        ensures within { StaysWithin ⟦<dyn Driver as Driver>⟧ self.old.machine.store
+            (reply_in result).events self.new.machine.store }
         ensures sound { IsSound ⟦<dyn Driver as Driver>⟧ self.new }
         ensures registrations { registrations self.new ≡ registrations self.old }
     {
         let done = set_mask(&mut self.modules, name, mask);
-        answer(self.alloc, ended(done))
+        answer(self.alloc, heard, ended(done))
     }
 
-    fn add_section(&mut self, name: List<u8>, text: List<u8>) -> Reply
+    fn add_section(&mut self, heard: bool, name: List<u8>, text: List<u8>) -> Finished
         requires sound { IsSound ⟦<dyn Driver as Driver>⟧ self.old }
-        ensures applied { HasApplied ⟦<dyn Driver as Driver>⟧ self.old (AddSection name text) result
-            self.new }
+        ensures applied { HasApplied ⟦<dyn Driver as Driver>⟧ self.old (AddSection name text)
+            (reply_in result) self.new }
+        ensures heard { is_heard result.events ≡ heard }
+        ensures within { StaysWithin ⟦<dyn Driver as Driver>⟧ self.old.machine.store
+            (reply_in result).events self.new.machine.store }
         ensures sound { IsSound ⟦<dyn Driver as Driver>⟧ self.new }
         ensures registrations { registrations self.new ≡ registrations self.old }
     {
         let done = add_section(&mut self.modules, name, text);
-        answer(self.alloc, ended(done))
+        answer(self.alloc, heard, ended(done))
     }
 
-    fn build(&mut self, name: List<u8>, budget: u64) -> Reply
+    fn build(&mut self, heard: bool, name: List<u8>, budget: u64) -> Finished
         requires sound { IsSound ⟦<dyn Driver as Driver>⟧ self.old }
-        ensures applied { HasApplied ⟦<dyn Driver as Driver>⟧ self.old (Build name budget) result
-            self.new }
+        ensures applied { HasApplied ⟦<dyn Driver as Driver>⟧ self.old (Build name budget)
+            (reply_in result) self.new }
+        ensures heard { is_heard result.events ≡ heard }
+        ensures within { StaysWithin ⟦<dyn Driver as Driver>⟧ self.old.machine.store
+            (reply_in result).events self.new.machine.store }
         ensures sound { IsSound ⟦<dyn Driver as Driver>⟧ self.new }
         ensures registrations { registrations self.new ≡ registrations self.old }
     {
-        let Ok(mut events) = room_for_ends(self.alloc, &self.machine) else {
-            return answer(self.alloc, Outcome::Refused(Refusal::Memory));
+        let Ok(mut events) = room_for_ends(self.alloc, heard, &self.machine) else {
+            return answer(self.alloc, heard, Outcome::Refused(Refusal::Memory));
         };
         let done = build(
             self.alloc,
@@ -261,13 +379,23 @@ impl Engine {
             name.as_slice(),
             budget,
         );
-        build_reply(self.alloc, done, events)
+        build_reply(self.alloc, heard, done, events)
     }
 
-    fn bind(&mut self, name: List<u8>, index: u32, exporter: List<u8>, decl: List<u8>) -> Reply
+    fn bind(
+        &mut self,
+        heard: bool,
+        name: List<u8>,
+        index: u32,
+        exporter: List<u8>,
+        decl: List<u8>,
+    ) -> Finished
         requires sound { IsSound ⟦<dyn Driver as Driver>⟧ self.old }
         ensures applied { HasApplied ⟦<dyn Driver as Driver>⟧ self.old
-            (Bind name index exporter decl) result self.new }
+            (Bind name index exporter decl) (reply_in result) self.new }
+        ensures heard { is_heard result.events ≡ heard }
+        ensures within { StaysWithin ⟦<dyn Driver as Driver>⟧ self.old.machine.store
+            (reply_in result).events self.new.machine.store }
         ensures sound { IsSound ⟦<dyn Driver as Driver>⟧ self.new }
         ensures registrations { registrations self.new ≡ registrations self.old }
     {
@@ -279,24 +407,27 @@ impl Engine {
             exporter.as_slice(),
             decl.as_slice(),
         );
-        answer(self.alloc, ended(done))
+        answer(self.alloc, heard, ended(done))
     }
 
-    fn unbind(&mut self, name: List<u8>, index: u32) -> Reply
+    fn unbind(&mut self, heard: bool, name: List<u8>, index: u32) -> Finished
         requires sound { IsSound ⟦<dyn Driver as Driver>⟧ self.old }
-        ensures applied { HasApplied ⟦<dyn Driver as Driver>⟧ self.old (Unbind name index) result
-            self.new }
+        ensures applied { HasApplied ⟦<dyn Driver as Driver>⟧ self.old (Unbind name index)
+            (reply_in result) self.new }
+        ensures heard { is_heard result.events ≡ heard }
+        ensures within { StaysWithin ⟦<dyn Driver as Driver>⟧ self.old.machine.store
+            (reply_in result).events self.new.machine.store }
         ensures sound { IsSound ⟦<dyn Driver as Driver>⟧ self.new }
         ensures registrations { registrations self.new ≡ registrations self.old }
     {
         let done = unbind(self.alloc, &mut self.modules, name.as_slice(), index);
-        answer(self.alloc, ended(done))
+        answer(self.alloc, heard, ended(done))
     }
 
     /// Calls a function of the module of that name.
     fn call_named(
         &mut self,
-        events: &mut Vec<HostEvent>,
+        events: &mut EventBuffer,
         name: &[u8],
         decl: &[u8],
         args: &[Value],
@@ -304,17 +435,18 @@ impl Engine {
     ) -> Result<Outcome, Refusal>
         requires sound { IsSound ⟦<dyn Driver as Driver>⟧ self.old }
         requires ready { IsReady ⟦<dyn Driver as Driver>⟧ (lent self.old.machine events.old) }
-        requires first { events.old.items ≡ [] }
-        ensures done { IsCalled result events.new.items
+        requires first { listed_in events.old ≡ [] }
+        ensures done { IsCalled result (listed_in events.new)
             (calling name.now decl.now args.now budget (world_in ⟦<dyn Driver as Driver>⟧ self.old))
             (world_in ⟦<dyn Driver as Driver>⟧ self.old)
             (world_in ⟦<dyn Driver as Driver>⟧ self.new) }
         ensures asked { HasAsked ⟦<dyn Driver as Driver>⟧ (registrations self.old)
             (world_in ⟦<dyn Driver as Driver>⟧ self.new)
-            (reply_to_call result events.new.items).events self.old.machine.store
+            (reply_to_call result (listed_in events.new)).events self.old.machine.store
             self.new.machine.store }
-        ensures refused { IfRefusedAtOnce (reply_to_call result events.new.items).outcome
+        ensures refused { IfRefusedAtOnce (reply_to_call result (listed_in events.new)).outcome
             (drivers_in self.new ≡ drivers_in self.old) }
+        ensures heard { is_heard events.new ≡ is_heard events.old }
         ensures modules { self.new.modules ≡ self.old.modules }
         ensures globals { list_map length (values_in self.new.machine.store.globals)
             ≡ list_map length (values_in self.old.machine.store.globals) }
@@ -342,16 +474,26 @@ impl Engine {
         }
     }
 
-    fn call(&mut self, name: List<u8>, decl: List<u8>, args: List<Value>, budget: u64) -> Reply
+    fn call(
+        &mut self,
+        heard: bool,
+        name: List<u8>,
+        decl: List<u8>,
+        args: List<Value>,
+        budget: u64,
+    ) -> Finished
         requires sound { IsSound ⟦<dyn Driver as Driver>⟧ self.old }
         ensures applied { HasApplied ⟦<dyn Driver as Driver>⟧ self.old (Call name decl args budget)
-            result self.new }
+            (reply_in result) self.new }
+        ensures heard { is_heard result.events ≡ heard }
+        ensures within { StaysWithin ⟦<dyn Driver as Driver>⟧ self.old.machine.store
+            (reply_in result).events self.new.machine.store }
         ensures sound { IsSound ⟦<dyn Driver as Driver>⟧ self.new }
         ensures registrations { registrations self.new ≡ registrations self.old }
     {
         let alloc = self.alloc;
-        let Ok(mut events) = room_for_ends(alloc, &self.machine) else {
-            return answer(alloc, Outcome::Refused(Refusal::Memory));
+        let Ok(mut events) = room_for_ends(alloc, heard, &self.machine) else {
+            return answer(alloc, heard, Outcome::Refused(Refusal::Memory));
         };
         let done = self.call_named(
             &mut events,
@@ -360,24 +502,25 @@ impl Engine {
             args.as_slice(),
             budget,
         );
-        call_reply(alloc, done, events)
+        call_reply(alloc, heard, done, events)
     }
 
     /// Ends the module of that name. The events need room for the end of each live host object.
-    fn discard_named(&mut self, events: &mut Vec<HostEvent>, name: &[u8]) -> Result<(), Refusal>
+    fn discard_named(&mut self, events: &mut EventBuffer, name: &[u8]) -> Result<(), Refusal>
         requires sound { IsSound ⟦<dyn Driver as Driver>⟧ self.old }
         requires ready { IsReady ⟦<dyn Driver as Driver>⟧ (lent self.old.machine events.old) }
-        requires first { events.old.items ≡ [] }
-        ensures done { IsDiscarded result events.new.items
+        requires first { listed_in events.old ≡ [] }
+        ensures done { IsDiscarded result (listed_in events.new)
             (discarding name.now (world_in ⟦<dyn Driver as Driver>⟧ self.old))
             (world_in ⟦<dyn Driver as Driver>⟧ self.old)
             (world_in ⟦<dyn Driver as Driver>⟧ self.new) }
         ensures asked { HasAsked ⟦<dyn Driver as Driver>⟧ (registrations self.old)
             (world_in ⟦<dyn Driver as Driver>⟧ self.new)
-            (reply_to_discard result events.new.items).events self.old.machine.store
+            (reply_to_discard result (listed_in events.new)).events self.old.machine.store
             self.new.machine.store }
-        ensures refused { IfRefusedAtOnce (reply_to_discard result events.new.items).outcome
+        ensures refused { IfRefusedAtOnce (reply_to_discard result (listed_in events.new)).outcome
             (drivers_in self.new ≡ drivers_in self.old) }
+        ensures heard { is_heard events.new ≡ is_heard events.old }
         ensures sound { IsSound ⟦<dyn Driver as Driver>⟧ self.new }
         ensures registrations { registrations self.new ≡ registrations self.old }
     {
@@ -389,18 +532,21 @@ impl Engine {
         Ok(())
     }
 
-    fn discard_module(&mut self, name: List<u8>) -> Reply
+    fn discard_module(&mut self, heard: bool, name: List<u8>) -> Finished
         requires sound { IsSound ⟦<dyn Driver as Driver>⟧ self.old }
-        ensures applied { HasApplied ⟦<dyn Driver as Driver>⟧ self.old (Discard name) result
-            self.new }
+        ensures applied { HasApplied ⟦<dyn Driver as Driver>⟧ self.old (Discard name)
+            (reply_in result) self.new }
+        ensures heard { is_heard result.events ≡ heard }
+        ensures within { StaysWithin ⟦<dyn Driver as Driver>⟧ self.old.machine.store
+            (reply_in result).events self.new.machine.store }
         ensures sound { IsSound ⟦<dyn Driver as Driver>⟧ self.new }
         ensures registrations { registrations self.new ≡ registrations self.old }
     {
-        let Ok(mut events) = room_for_ends(self.alloc, &self.machine) else {
-            return answer(self.alloc, Outcome::Refused(Refusal::Memory));
+        let Ok(mut events) = room_for_ends(self.alloc, heard, &self.machine) else {
+            return answer(self.alloc, heard, Outcome::Refused(Refusal::Memory));
         };
         let done = self.discard_named(&mut events, name.as_slice());
-        discard_reply(self.alloc, done, events)
+        discard_reply(self.alloc, heard, done, events)
     }
 
     /// Ends the engine, and gives its drivers back in their order, with no object of theirs alive:
@@ -434,6 +580,8 @@ impl Engine {
             events: _,
             mut ends,
             live: _,
+            spent: _,
+            limits: _,
         } = store;
         end_all(
             alloc,

@@ -12,8 +12,10 @@ mod refused;
 mod replies;
 
 pub use ang_engine_modules::{Command, Outcome, Refusal, Reply};
-pub use ang_host::{HostEvent, HostReply};
+pub use ang_heap::{Held, Limits};
+pub use ang_host::{EventLog, EventRef, HostEvent, HostReply};
 pub use ang_kinds::{Denial, Error, ErrorKind};
 pub use ang_registry::Registry;
 pub use engine::Engine;
 pub use refused::{NewError, NewRefused};
+pub use replies::Unheard;

@@ -11,7 +11,7 @@ use Rattle.ang_meaning.specs.Told.{answers_listed}
 use Rattle.ang_meaning.specs.Environment.{may_call, may_access}
 use Rattle.ang_meaning.proofs.Moving.{give_moves}
 use Rattle.ang_code_laws.specs.Asked.{IsAskedBy, Asks}
-use Rattle.ang_lower.specs.Hosts.{asked_as}
+use Rattle.ang_source.specs.Hosts.{asked_as}
 use Rattle.ang_engine_modules.specs.Modules.{Module, entry_in, IsAskedIn}
 use Rattle.ang_engine_modules.specs.Executed.{setting_for}
 

@@ -6,7 +6,7 @@ use Rattle.ang_view.specs.Registration.{RegistrationList, entry_at}
 use Rattle.ang_typed.specs.declared.program.Heading.{Heading}
 use Rattle.ang_meaning.specs.declared.routine.Routine.{Routine}
 use Rattle.ang_source.specs.Meaning.{passings_in, heading_among}
-use Rattle.ang_lower.specs.Hosts.{asked_as, use_in}
+use Rattle.ang_source.specs.Hosts.{asked_as, use_in}
 use Rattle.ang_vm_stack.specs.declared.table.Table.{Table}
 use Rattle.ang_vm_stack.specs.Tables.{module_at as code_at, list_in, body_of, import_of, linked_of, entity_of, slot_of, setting_of}
 use Rattle.ang_engine_modules.specs.Modules.{Module, module_at}

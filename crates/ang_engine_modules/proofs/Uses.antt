@@ -6,7 +6,7 @@ use Rattle.ang_view.specs.Registration.{RegistrationList}
 use Rattle.ang_meaning.specs.declared.host.HostUse.{HostUse}
 use Rattle.ang_typed.specs.declared.program.Global.{Global}
 use Rattle.ang_typed.specs.View.{view_global}
-use Rattle.ang_lower.specs.Hosts.{asked_as}
+use Rattle.ang_source.specs.Hosts.{asked_as}
 use Rattle.ang_source.specs.Meaning.{default_in}
 use Rattle.ang_engine_modules.specs.declared.modules.LoadedModule.{LoadedModule}
 use Rattle.ang_engine_modules.specs.Modules.{module_at}

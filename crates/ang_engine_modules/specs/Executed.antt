@@ -9,7 +9,7 @@ use Rattle.ang_meaning.specs.World.{World}
 use Rattle.ang_meaning.specs.Environment.{Environment}
 use Rattle.ang_meaning.specs.Results.{Reply}
 use Rattle.ang_source.specs.Meaning.{Code, default_in, codes_in, called_with, initialized_all, initializers_from, passings_in, routine, heading_among, class_among, method_among}
-use Rattle.ang_lower.specs.Hosts.{use_in}
+use Rattle.ang_source.specs.Hosts.{use_in}
 use Rattle.ang_engine_modules.specs.Modules.{Module, module_at, trees_of}
 
 -- ---- what stays the same while they run

@@ -8,7 +8,7 @@ use Rattle.ang_meaning.specs.declared.routine.Routine.{Routine}
 use Rattle.ang_code.specs.declared.instruction.RoutineCode.{RoutineCode}
 use Rattle.ang_source.specs.Meaning.{passings_in, results_in}
 use Rattle.ang_source.specs.Sound.{SoundProgram}
-use Rattle.ang_lower.specs.Hosts.{asked_as}
+use Rattle.ang_source.specs.Hosts.{asked_as}
 use Rattle.ang_gen.specs.Compiled.{IsCompiled}
 use Rattle.ang_vm_stack.specs.declared.table.ClassCode.{ClassCode}
 use Rattle.ang_vm_stack.specs.declared.table.ModuleCode.{ModuleCode}

@@ -14,7 +14,7 @@ use Rattle.ang_source.specs.Meaning.{nothing, primitive_of, heading_among, passi
 use Rattle.ang_meaning.specs.declared.host.HostUse.{HostUse}
 use Rattle.ang_meaning.specs.declared.routine.Passing.{Passing}
 use Rattle.ang_meaning.specs.declared.routine.Routine.{Routine}
-use Rattle.ang_lower.specs.Hosts.{use_in}
+use Rattle.ang_source.specs.Hosts.{use_in}
 
 -- a built module: its name, as events list it, what its built mask shows of the host
 -- (docs/MEANING.md, "Masks and views"), its resolved tree, and by the number of an import the

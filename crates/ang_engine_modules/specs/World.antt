@@ -42,6 +42,8 @@ pub record World : Type 0 where
   pub objects : ScriptObjects
   pub hosts : HostCounts
   pub globals : List (List Slot)
+  -- whether a reference was refused since a driver's tally has run out
+  pub spent : Bool
 
 -- an engine begins without modules, and with nothing alive
 abbrev pub no_modules : World
@@ -50,6 +52,7 @@ no_modules = record {
   objects = map.empty;
   hosts = λ d. map.empty;
   globals = [];
+  spent = false;
 }
 
 -- ---- the module of a name
@@ -116,13 +119,20 @@ running w inputs = record {
   hosts = w.hosts;
   globals = w.globals;
   events = [];
+  spent = w.spent;
   inputs = inputs;
 }
 
 -- what a run leaves, beside these modules
 abbrev pub left_to : ModuleStates → RunWorld → World
 left_to modules r =
-    record { modules = modules; objects = r.objects; hosts = r.hosts; globals = r.globals }
+    record {
+      modules = modules;
+      objects = r.objects;
+      hosts = r.hosts;
+      globals = r.globals;
+      spent = r.spent;
+    }
 
 -- ---- globals that end
 

@@ -1,6 +1,6 @@
 //! What a module sees of the host, as its code asks it.
 ghost use Rattle.std.specs.Prelude.{◌≡◌, IfOk, Some};
-ghost use Rattle.ang_lower.specs.Hosts.{use_in, asked_as};
+ghost use Rattle.ang_source.specs.Hosts.{use_in, asked_as};
 ghost use Rattle.ang_engine_modules.specs.Loaded.{uses_of};
 
 use ang_kinds::EntityNo;

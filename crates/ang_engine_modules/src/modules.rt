@@ -2,6 +2,7 @@
 ghost use Rattle.std.specs.Prelude.{◌≡◌, ◌<◌, ◌++◌, ◌∷◌, List as ListOf, [], None, Some, IfOk, OnOk, OnErr, length, reverse, slice_set, map as list_map};
 ghost use Rattle.std.specs.List.{AllByRecursion};
 ghost use Rattle.std.specs.Option.{option_copied};
+ghost use Rattle.ang_host.specs.Logs.{listed_in};
 ghost use Rattle.ang_host.specs.Boxes.{members};
 ghost use Rattle.ang_host.specs.declared.event.Role.{Role};
 ghost use Rattle.ang_meaning.specs.Counting.{IsCounted};
@@ -20,7 +21,7 @@ use crate::links::{bind_import, unbind_codes, unbind_places};
 use crate::runs::{body_count, run_initializers};
 use crate::tables::{code_of, no_code};
 use ang_gen::generate;
-use ang_host::{Driver, HostEvent};
+use ang_host::{Driver, EventBuffer};
 use ang_kinds::{Fault, List, Value};
 use ang_meaning::{Routine, Slot};
 use ang_names_known::Names;
@@ -243,7 +244,7 @@ impl Modules {
         machine: &mut Machine,
         home: u32,
         budget: u64,
-        events: &mut Vec<HostEvent>,
+        events: &mut EventBuffer,
     ) -> Result<(), Fault>
         requires drivers { AreDriversThere (modules_of self.now)
             (length (members machine.old.store.drivers)) }
@@ -253,8 +254,8 @@ impl Modules {
         ensures means { Ends (initialization_of (modules_of self.now) budget home)
             (world_of ⟦<dyn Driver as Driver>⟧ (lent machine.old events.old)) (completed result)
             (world_of ⟦<dyn Driver as Driver>⟧ (lent machine.new events.new)) }
-        ensures asked { AllByRecursion (IsAskedIn (modules_of self.now)) events.old.items
-            → AllByRecursion (IsAskedIn (modules_of self.now)) events.new.items }
+        ensures asked { AllByRecursion (IsAskedIn (modules_of self.now)) (listed_in events.old)
+            → AllByRecursion (IsAskedIn (modules_of self.now)) (listed_in events.new) }
         ensures counted { IsCounted []
             (world_of ⟦<dyn Driver as Driver>⟧ (lent machine.new events.new)) }
         ensures globals { list_map length (values_in machine.new.store.globals)
@@ -285,7 +286,7 @@ impl Modules {
         number: usize,
         args: &[Slot],
         budget: u64,
-        events: &mut Vec<HostEvent>,
+        events: &mut EventBuffer,
     ) -> Result<Option<Value>, Fault>
         requires drivers { AreDriversThere (modules_of self.now)
             (length (members machine.old.store.drivers)) }
@@ -297,8 +298,8 @@ impl Modules {
             (call_of (modules_of self.now) budget home number args.now)
             (world_of ⟦<dyn Driver as Driver>⟧ (lent machine.old events.old)) result
             (world_of ⟦<dyn Driver as Driver>⟧ (lent machine.new events.new)) }
-        ensures asked { AllByRecursion (IsAskedIn (modules_of self.now)) events.old.items
-            → AllByRecursion (IsAskedIn (modules_of self.now)) events.new.items }
+        ensures asked { AllByRecursion (IsAskedIn (modules_of self.now)) (listed_in events.old)
+            → AllByRecursion (IsAskedIn (modules_of self.now)) (listed_in events.new) }
         ensures counted { IsCounted []
             (world_of ⟦<dyn Driver as Driver>⟧ (lent machine.new events.new)) }
         ensures globals { list_map length (values_in machine.new.store.globals)

@@ -1,5 +1,5 @@
 //! What the engine answers.
-use ang_host::HostEvent;
+use ang_host::EventLog;
 use ang_kinds::{Denial, Error, Fault, List, Value};
 
 /// The answer to one command: what the host was asked meanwhile, what a build refused, and how the
@@ -9,7 +9,7 @@ pub struct Reply {
     /// How the command ended.
     pub outcome: Outcome,
     /// What the drivers were asked, and which of their objects ended, in order.
-    pub events: List<HostEvent>,
+    pub events: EventLog,
     /// The errors of a refused build, in order; empty elsewhere.
     pub errors: List<Error>,
     /// The hidden entities by which refused uses of a build would have resolved, in the order of

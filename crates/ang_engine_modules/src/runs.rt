@@ -11,7 +11,7 @@ ghost use Rattle.ang_engine_modules.specs.Ends.{completed};
 ghost use Rattle.ang_engine_modules.specs.Loaded.{codes_of};
 ghost use Rattle.ang_engine_modules.specs.Started.{HasBegun};
 
-use ang_host::{Driver, HostEvent};
+use ang_host::{Driver, EventBuffer};
 use ang_kinds::Fault;
 use ang_meaning::Routine;
 use ang_vm::{Machine, Table, run_initializer};
@@ -37,7 +37,7 @@ pub fn run_initializers(
     first: usize,
     end: usize,
     budget: u64,
-    events: &mut Vec<HostEvent>,
+    events: &mut EventBuffer,
 ) -> Result<(), Fault>
     requires drivers { DriversThere table.now (length (members machine.old.store.drivers)) }
     requires ready { IsReady ⟦<dyn Driver as Driver>⟧ (lent machine.old events.old) }

@@ -13,7 +13,7 @@ use Rattle.ang_code.specs.Machine.{Texts, Over, Stuck, steps, call_begins, initi
 use Rattle.ang_gen.specs.BodyBehaves.{outcome_of}
 use Rattle.ang_source.specs.Meaning.{Codes, codes_of, code_or, routine, called_with, initialized}
 use Rattle.ang_source.specs.Sound.{SoundProgram}
-use Rattle.ang_lower.specs.Hosts.{HasView}
+use Rattle.ang_source.specs.Hosts.{HasView}
 use Rattle.ang_lower.specs.Same.{HasProgram}
 use Rattle.ang_gen.specs.Compiled.{IsCompiled, IsWellFormed}
 

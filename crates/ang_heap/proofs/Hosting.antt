@@ -115,11 +115,11 @@ ends_length d k true = refl
 ends_length d k false = refl
 
 module _ {B V : Type 0} (st : B → State) (kind : B → V) (rule : V → Fits) (xs ys : List B) (d k : ℕ) (b : Bool) (one : OneMoved st kind rule xs d (λ f s t. WasReleased f s k b t) ys) where
-  pub release_gives : (os : ScriptObjects) (gs : List (List Slot)) (es : List HostEvent) (is : List Input)
-      → give (Host d (Some k)) (world_by os (counts_by (list_map st xs)) gs es is) ≡ world_by os (counts_by (list_map st ys)) gs (es ++ ends d k b) is
-  release_gives os gs es is =
-      world_released (rule_at (list_map rule (list_map kind xs)) d) (list_map st xs) (list_map st ys) d k b (world_by os (counts_by (list_map st xs)) gs es is) refl one.others one.moved.moved
-      ∙ ap (λ l. world_by os (counts_by (list_map st ys)) gs l is) (ends_listed es d k b)
+  pub release_gives : (os : ScriptObjects) (gs : List (List Slot)) (es : List HostEvent) (sp : Bool) (is : List Input)
+      → give (Host d (Some k)) (world_by os (counts_by (list_map st xs)) gs es sp is) ≡ world_by os (counts_by (list_map st ys)) gs (es ++ ends d k b) sp is
+  release_gives os gs es sp is =
+      world_released (rule_at (list_map rule (list_map kind xs)) d) (list_map st xs) (list_map st ys) d k b (world_by os (counts_by (list_map st xs)) gs es sp is) refl one.others one.moved.moved
+      ∙ ap (λ l. world_by os (counts_by (list_map st ys)) gs l sp is) (ends_listed es d k b)
 
   gone : map.len (state_at (list_map st ys) d).counts + one_if b ≡ map.len (state_at (list_map st xs) d).counts
   gone = released_len (rule_at (list_map rule (list_map kind xs)) d) (state_at (list_map st xs) d) (state_at (list_map st ys) d) k b one.moved.moved

@@ -1,6 +1,8 @@
 pub mod Hosting
 pub mod Heaping
 pub mod Giving
+pub mod Slots
 pub mod Storing
 pub mod Puts
 pub mod Numbering
+pub mod Spending

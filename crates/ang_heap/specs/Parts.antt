@@ -1,5 +1,5 @@
 -- The parts of a store, as contracts see them.
-use Rattle.std.specs.Prelude.{ℕ, ◌+◌, ◌-◌, ◌^◌, ◌≡◌, ◌<◌, ◌≤◌, List, [], ◌∷◌, ◌++◌, Some, None, length}
+use Rattle.std.specs.Prelude.{ℕ, ◌+◌, ◌-◌, ◌^◌, ◌≡◌, ◌<◌, ◌≤◌, Bool, true, false, List, [], ◌∷◌, ◌++◌, Some, None, length}
 use Rattle.std.specs.FinMap as map
 use Rattle.std.specs.declared.alloc.Global.{Global}
 use Rattle.std.specs.declared.dyn_box.DynBox.{DynBox}
@@ -11,7 +11,7 @@ use Rattle.ang_host.specs.Meanings.{Meanings}
 use Rattle.ang_host.specs.Members.{state_at, states_of}
 use Rattle.ang_host.specs.declared.drivers.Drivers.{Drivers}
 use Rattle.ang_host.specs.Boxes.{members}
-use Rattle.ang_host.specs.Events.{DriversFollow}
+use Rattle.ang_host.specs.Events.{DriversFollow, HasRunOut}
 use Rattle.ang_meaning.specs.declared.slot.Slot.{Slot}
 use Rattle.ang_meaning.specs.declared.slot.Slot.TheVariants.{Bits, Script, Host}
 use Rattle.ang_meaning.specs.World.{World, ScriptObjects, HostCounts, Input}
@@ -23,9 +23,9 @@ abbrev pub counts_of : {V : Type 0} {P : V → Type 0} → Meanings P → List (
 counts_of m bs = counts_by (states_of m bs)
 
 abbrev pub world_by :
-    ScriptObjects → HostCounts → List (List Slot) → List HostEvent → List Input → World
-world_by os hs gs es is =
-    record { objects = os; hosts = hs; globals = gs; events = es; inputs = is }
+    ScriptObjects → HostCounts → List (List Slot) → List HostEvent → Bool → List Input → World
+world_by os hs gs es sp is =
+    record { objects = os; hosts = hs; globals = gs; events = es; spent = sp; inputs = is }
 
 -- how many host objects live
 abbrev pub live_in : List State → ℕ
@@ -59,6 +59,18 @@ IsTallyFull (Script None) os ss = ⊥
 IsTallyFull (Script (Some n)) os ss = 2 ^ 64 - 1 ≤ count_of_object (map.get os n)
 IsTallyFull (Host d None) os ss = ⊥
 IsTallyFull (Host d (Some k)) os ss = IsFull (state_at ss d)
+
+-- what is noted where one place more is granted or refused: that a driver refused it
+abbrev pub noted : Slot → Bool → Bool → Bool
+noted (Bits n) b sp = sp
+noted (Script k) b sp = sp
+noted (Host d None) b sp = sp
+noted (Host d (Some k)) true sp = sp
+noted (Host d (Some k)) false sp = true
+
+-- a tally of some driver has run out
+abbrev pub SomeRanOut : List State → Type 0
+SomeRanOut ss = (i : ℕ) × (i < length ss) × HasRunOut (state_at ss i).tally
 
 -- the drivers follow what was listed
 pub record PartsMove {V : Type 0} {P : V → Type 0} (m : Meanings P) (roles : List Role)

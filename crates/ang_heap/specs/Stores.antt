@@ -1,40 +1,65 @@
 -- The world of a store, and what a piece of a run leaves of it.
-use Rattle.std.specs.Prelude.{◌≡◌, ◌≤◌, ◌+◌, List, [], vec_len, vec_capacity}
+use Rattle.std.specs.Prelude.{◌≡◌, ◌≤◌, ◌+◌, true, List, [], ℕ}
+use Rattle.ang_host.specs.Logs.{listed_in, is_heard, log_len, log_capacity}
 use Rattle.ang_host.specs.declared.event.Role.{Role}
 use Rattle.ang_host.specs.Meanings.{Meanings}
 use Rattle.ang_host.specs.Members.{states_of}
 use Rattle.ang_host.specs.Boxes.{members}
 use Rattle.ang_meaning.specs.World.{World, Input, with_inputs}
 use Rattle.ang_meaning.specs.Told.{Told}
+use Rattle.ang_heap.specs.declared.limits.Limits.{Limits}
 use Rattle.ang_heap.specs.declared.store.Store.{Store}
 use Rattle.ang_heap.specs.Globals.{values_in}
-use Rattle.ang_heap.specs.Parts.{counts_of, live_of, world_by, AreReady, PartsMove}
-use Rattle.ang_heap.specs.Heaps.{objects_of}
+use Rattle.ang_heap.specs.Parts.{counts_of, live_of, world_by, AreReady, PartsMove, SomeRanOut}
+use Rattle.ang_heap.specs.Heaps.{objects_of, IsTallied}
 
 -- the world that a store is, told nothing yet
 abbrev pub world_of : {V : Type 0} {P : V → Type 0} → Meanings P → Store V P → World
 world_of m s =
     world_by (objects_of s.heap) (counts_of m (members s.drivers)) (values_in s.globals)
-    s.events.items []
+    (listed_in s.events) s.spent []
 
--- What holds between commands too: the drivers are sound, `live` is how many host objects live, and
--- `ends` is empty, with room for the end of each.
+-- What holds between commands too: the drivers are sound, `live` is how many host objects live,
+-- `ends` is empty, with room for the end of each, and where a reference was refused some driver's
+-- tally has run out.
 pub record IsKept {V : Type 0} {P : V → Type 0} (m : Meanings P) (s : Store V P) : Type 0 where
-  pub drivers : AreReady (states_of m (members s.drivers)) (vec_len s.ends) (vec_capacity s.ends)
+  pub drivers : AreReady (states_of m (members s.drivers)) (log_len s.ends) (log_capacity s.ends)
   pub alive : s.live ≡ live_of m (members s.drivers)
-  pub none : s.ends.items ≡ []
+  pub none : listed_in s.ends ≡ []
+  pub due : s.spent ≡ true → SomeRanOut (states_of m (members s.drivers))
+  pub tallied : IsTallied s.heap
 
 -- in a run `events` has room for the end of each live host object too
 pub record IsReady {V : Type 0} {P : V → Type 0} (m : Meanings P) (s : Store V P) : Type 0 where
   pub kept : IsKept m s
-  pub room : vec_len s.events + s.live ≤ vec_capacity s.events
+  pub room : log_len s.events + s.live ≤ log_capacity s.events
 
--- a piece of a run: the drivers follow what it listed and keep their places, and all is ready again
+-- the limits allow no more than n slots of script objects, k events and o host objects
+pub record AllowAtMost (n k o : ℕ) (l : Limits) : Type 0 where
+  pub slots : l.slots ≤ n
+  pub events : l.events ≤ k
+  pub objects : l.objects ≤ o
+
+-- Script objects take no more than n slots, the events and the ends that are owed are no more than
+-- k, and no more than o host objects live.
+pub record IsWithin {V : Type 0} {P : V → Type 0} (n k o : ℕ) (s : Store V P) : Type 0 where
+  pub slots : s.heap.slots ≤ n
+  pub events : log_len s.events + s.live ≤ k
+  pub objects : s.live ≤ o
+
+-- A piece of a run: the drivers follow what it listed and keep their places, and all is ready again.
+-- Whether its events can be read stays, and the limits stay, and so does each bound that is no lower
+-- than these.
 pub record StoreMoves {V : Type 0} {P : V → Type 0} (m : Meanings P) (roles : List Role)
     (s t : Store V P) : Type 0 where
   pub parts :
-      PartsMove m roles (members s.drivers) s.events.items (members t.drivers) t.events.items
+      PartsMove m roles (members s.drivers) (listed_in s.events) (members t.drivers)
+      (listed_in t.events)
   pub ready : IsReady m s → IsReady m t
+  pub heard : is_heard t.events ≡ is_heard s.events
+  pub limits : t.limits ≡ s.limits
+  pub within : IsReady m s → (n k o : ℕ) → AllowAtMost n k o s.limits → IsWithin n k o s
+      → IsWithin n k o t
 
 -- the same, whatever roles entities have
 abbrev pub HasMoved : {V : Type 0} {P : V → Type 0} → Meanings P → Store V P → Store V P → Type 0

@@ -1,6 +1,7 @@
 //! Script objects, and how they are given up.
-ghost use Rattle.std.specs.Prelude.{ℕ, ◌+◌, ◌-◌, ◌^◌, ◌≡◌, ◌<◌, ◌≤◌, ◌↔◌, false, IsTrue, List, [], ◌∷◌, Some, IfSome, IfNone, is_ok, OnErr, vec_len, vec_capacity, if◌then◌else◌};
+ghost use Rattle.std.specs.Prelude.{ℕ, ◌+◌, ◌-◌, ◌^◌, ◌≡◌, ◌<◌, ◌≤◌, ◌↔◌, Bool, false, IsTrue, List, [], ◌∷◌, Some, IfSome, IfNone, is_ok, OnErr, if◌then◌else◌};
 ghost use Rattle.std.specs.FinMap as map;
+ghost use Rattle.ang_host.specs.Logs.{listed_in, is_heard, log_len, log_capacity};
 ghost use Rattle.ang_host.specs.declared.event.Role.{Role};
 ghost use Rattle.ang_host.specs.Events.{DriversFollow};
 ghost use Rattle.ang_host.specs.Boxes.{members};
@@ -8,11 +9,12 @@ ghost use Rattle.ang_meaning.specs.World.{Input, Gone, Kept, script_raised, scri
 ghost use Rattle.ang_meaning.specs.Told.{Told};
 ghost use Rattle.ang_meaning.specs.Counting.{EnoughIn, HasKey, count_of_object};
 ghost use Rattle.slab.specs.Slab.{get as slab_get, slab_len, with_value};
-ghost use Rattle.ang_heap.specs.Parts.{world_by, AreReady, IsTallyFull, PartsMove, states_among, counts_among, live_among};
-ghost use Rattle.ang_heap.specs.Heaps.{objects_in, objects_of};
+ghost use Rattle.ang_heap.specs.Parts.{world_by, noted, AreReady, IsTallyFull, PartsMove, states_among, counts_among, live_among};
+ghost use Rattle.ang_heap.specs.Heaps.{objects_in, objects_of, IsTallied, IsLess};
+ghost use Rattle.ang_heap.specs.Slots.{slots_of};
 
 use crate::hosts::{add, release};
-use ang_host::{Driver, Drivers, HostEvent};
+use ang_host::{Driver, Drivers, EventBuffer, HostEvent};
 use ang_meaning::Slot;
 use slab::Slab;
 use std::alloc::Global;
@@ -35,6 +37,8 @@ pub struct ScriptObject {
 pub struct Heap {
     pub(crate) alloc: Global,
     pub(crate) records: Slab<ScriptObject>,
+    /// How many slots the objects take.
+    pub(crate) slots: usize,
 }
 
 /// There is no room for one place more: the driver's tallies, or the script object's count, have run out.
@@ -48,11 +52,12 @@ impl Heap {
     /// The driver's tallies, or the script object's count, have run out, and then nothing changes.
     pub fn hold(&mut self, drivers: &mut Drivers, value: Slot) -> Result<(), Tally>
         requires there { HasKey value (counts_among ⟦<dyn Driver as Driver>⟧ drivers.old) }
-        ensures holds { (gs : List (List Slot)) (es : List HostEvent)
+        ensures holds { (gs : List (List Slot)) (es : List HostEvent) (sp : Bool)
             → Told (λ is. hold_in value (world_by (objects_of self.old)
-            (counts_among ⟦<dyn Driver as Driver>⟧ drivers.old) gs es is))
+            (counts_among ⟦<dyn Driver as Driver>⟧ drivers.old) gs es sp is))
             (λ is. if_told (is_ok result) (world_by (objects_of self.new)
-            (counts_among ⟦<dyn Driver as Driver>⟧ drivers.new) gs es is)) }
+            (counts_among ⟦<dyn Driver as Driver>⟧ drivers.new) gs es
+            (noted value (is_ok result) sp) is)) }
         ensures full { OnErr result (IsTallyFull value (objects_of self.old)
             (states_among ⟦<dyn Driver as Driver>⟧ drivers.old)) }
         ensures same_objects { OnErr result (objects_of self.new ≡ objects_of self.old) }
@@ -66,6 +71,8 @@ impl Heap {
         ensures follow { (roles : List Role)
             → DriversFollow ⟦<dyn Driver as Driver>⟧ roles (members drivers.old) []
             (members drivers.new) }
+        ensures counted { IsTallied self.old → IsTallied self.new }
+        ensures less { IsLess self.old self.new }
     {
         if hold(&mut self.records, drivers, value) {
             return Ok(());
@@ -82,26 +89,29 @@ impl Heap {
 
     /// One place gives up its value, and each object that ends gives up its fields. It takes no memory and
     /// always succeeds: the end of each host object has its room in `events`.
-    pub fn give_up(&mut self, drivers: &mut Drivers, events: &mut Vec<HostEvent>, value: Slot)
+    pub fn give_up(&mut self, drivers: &mut Drivers, events: &mut EventBuffer, value: Slot)
         requires ready { AreReady (states_among ⟦<dyn Driver as Driver>⟧ drivers.old)
-            (vec_len events.old) (vec_capacity events.old) }
+            (log_len events.old) (log_capacity events.old) }
         requires enough { EnoughIn (value ∷ []) (objects_of self.old)
             (counts_among ⟦<dyn Driver as Driver>⟧ drivers.old) }
-        ensures gives { (gs : List (List Slot)) (is : List Input)
+        ensures gives { (gs : List (List Slot)) (sp : Bool) (is : List Input)
             → give_in value (world_by (objects_of self.old)
-            (counts_among ⟦<dyn Driver as Driver>⟧ drivers.old) gs events.old.items is)
+            (counts_among ⟦<dyn Driver as Driver>⟧ drivers.old) gs (listed_in events.old) sp is)
             ≡ world_by (objects_of self.new) (counts_among ⟦<dyn Driver as Driver>⟧ drivers.new) gs
-            events.new.items is }
+            (listed_in events.new) sp is }
         ensures ready { AreReady (states_among ⟦<dyn Driver as Driver>⟧ drivers.new)
-            (vec_len events.new) (vec_capacity events.new) }
-        ensures level { vec_len events.new + live_among ⟦<dyn Driver as Driver>⟧ drivers.new
-            ≡ vec_len events.old + live_among ⟦<dyn Driver as Driver>⟧ drivers.old }
+            (log_len events.new) (log_capacity events.new) }
+        ensures level { log_len events.new + live_among ⟦<dyn Driver as Driver>⟧ drivers.new
+            ≡ log_len events.old + live_among ⟦<dyn Driver as Driver>⟧ drivers.old }
         ensures fewer { live_among ⟦<dyn Driver as Driver>⟧ drivers.new
             ≤ live_among ⟦<dyn Driver as Driver>⟧ drivers.old }
-        ensures capacity { vec_capacity events.new ≡ vec_capacity events.old }
+        ensures capacity { log_capacity events.new ≡ log_capacity events.old }
+        ensures heard { is_heard events.new ≡ is_heard events.old }
         ensures moves { (roles : List Role)
-            → PartsMove ⟦<dyn Driver as Driver>⟧ roles (members drivers.old) events.old.items
-            (members drivers.new) events.new.items }
+            → PartsMove ⟦<dyn Driver as Driver>⟧ roles (members drivers.old) (listed_in events.old)
+            (members drivers.new) (listed_in events.new) }
+        ensures counted { IsTallied self.old → IsTallied self.new }
+        ensures less { IsLess self.old self.new }
     {
         match value {
             Slot::Host(driver, named) => match named {
@@ -110,7 +120,7 @@ impl Heap {
                 }
                 None => {}
             },
-            _ => give_up(&mut self.records, drivers, events, value),
+            _ => give_up(&mut self.records, &mut self.slots, drivers, events, value),
         }
     }
 }
@@ -133,6 +143,7 @@ pub(crate) fn raise(records: &mut Slab<ScriptObject>, key: usize) -> bool
     ensures full { result ≡ false
         → 2 ^ 64 - 1 ≤ count_of_object (map.get (objects_in records.old) key) }
     ensures kept { result ≡ false → records.new ≡ records.old }
+    ensures slots { slots_of (objects_in records.new) ≡ slots_of (objects_in records.old) }
 {
     let count = match records.get(key) {
         Some(o) => o.count,
@@ -148,11 +159,11 @@ pub(crate) fn raise(records: &mut Slab<ScriptObject>, key: usize) -> bool
 /// One more place holds the value. False where a tally or a count has run out, and then nothing is done.
 fn hold(records: &mut Slab<ScriptObject>, drivers: &mut Drivers, value: Slot) -> bool
     requires there { HasKey value (counts_among ⟦<dyn Driver as Driver>⟧ drivers.old) }
-    ensures holds { (gs : List (List Slot)) (es : List HostEvent)
+    ensures holds { (gs : List (List Slot)) (es : List HostEvent) (sp : Bool)
         → Told (λ is. hold_in value (world_by (objects_in records.old)
-        (counts_among ⟦<dyn Driver as Driver>⟧ drivers.old) gs es is))
+        (counts_among ⟦<dyn Driver as Driver>⟧ drivers.old) gs es sp is))
         (λ is. if_told result (world_by (objects_in records.new)
-        (counts_among ⟦<dyn Driver as Driver>⟧ drivers.new) gs es is)) }
+        (counts_among ⟦<dyn Driver as Driver>⟧ drivers.new) gs es (noted value result sp) is)) }
     ensures full { result ≡ false
         → IsTallyFull value (objects_in records.old)
         (states_among ⟦<dyn Driver as Driver>⟧ drivers.old) }
@@ -168,6 +179,7 @@ fn hold(records: &mut Slab<ScriptObject>, drivers: &mut Drivers, value: Slot) ->
     ensures follow { (roles : List Role)
         → DriversFollow ⟦<dyn Driver as Driver>⟧ roles (members drivers.old) []
         (members drivers.new) }
+    ensures slots { slots_of (objects_in records.new) ≡ slots_of (objects_in records.old) }
 {
     match value {
         Slot::Bits(_) => true,
@@ -191,6 +203,7 @@ pub(crate) fn lower_shared(records: &mut Slab<ScriptObject>, key: usize) -> bool
     ensures last { result ≡ false
         → count_of_object (map.get (objects_in records.old) key) ≤ 1 }
     ensures same { result ≡ false → records.new ≡ records.old }
+    ensures slots { slots_of (objects_in records.new) ≡ slots_of (objects_in records.old) }
 {
     if let Some(o) = records.get_mut(key) {
         if o.count > 1 {
@@ -225,30 +238,35 @@ fn lower(records: &mut Slab<ScriptObject>, key: usize) -> Option<ScriptObject>
 /// object that ended is no record any more.
 fn give_up(
     records: &mut Slab<ScriptObject>,
+    slots: &mut usize,
     drivers: &mut Drivers,
-    events: &mut Vec<HostEvent>,
+    events: &mut EventBuffer,
     value: Slot,
 )
     requires ready { AreReady (states_among ⟦<dyn Driver as Driver>⟧ drivers.old)
-        (vec_len events.old) (vec_capacity events.old) }
+        (log_len events.old) (log_capacity events.old) }
     requires enough { EnoughIn (value ∷ []) (objects_in records.old)
         (counts_among ⟦<dyn Driver as Driver>⟧ drivers.old) }
-    ensures gives { (gs : List (List Slot)) (is : List Input)
+    ensures gives { (gs : List (List Slot)) (sp : Bool) (is : List Input)
         → give_in value (world_by (objects_in records.old)
-        (counts_among ⟦<dyn Driver as Driver>⟧ drivers.old) gs events.old.items is)
+        (counts_among ⟦<dyn Driver as Driver>⟧ drivers.old) gs (listed_in events.old) sp is)
         ≡ world_by (objects_in records.new) (counts_among ⟦<dyn Driver as Driver>⟧ drivers.new) gs
-        events.new.items is }
+        (listed_in events.new) sp is }
     ensures ready { AreReady (states_among ⟦<dyn Driver as Driver>⟧ drivers.new)
-        (vec_len events.new) (vec_capacity events.new) }
-    ensures level { vec_len events.new + live_among ⟦<dyn Driver as Driver>⟧ drivers.new
-        ≡ vec_len events.old + live_among ⟦<dyn Driver as Driver>⟧ drivers.old }
+        (log_len events.new) (log_capacity events.new) }
+    ensures level { log_len events.new + live_among ⟦<dyn Driver as Driver>⟧ drivers.new
+        ≡ log_len events.old + live_among ⟦<dyn Driver as Driver>⟧ drivers.old }
     ensures fewer { live_among ⟦<dyn Driver as Driver>⟧ drivers.new
         ≤ live_among ⟦<dyn Driver as Driver>⟧ drivers.old }
-    ensures capacity { vec_capacity events.new ≡ vec_capacity events.old }
+    ensures capacity { log_capacity events.new ≡ log_capacity events.old }
+    ensures heard { is_heard events.new ≡ is_heard events.old }
     ensures shorter { slab_len records.new ≤ slab_len records.old }
     ensures moves { (roles : List Role)
-        → PartsMove ⟦<dyn Driver as Driver>⟧ roles (members drivers.old) events.old.items
-        (members drivers.new) events.new.items }
+        → PartsMove ⟦<dyn Driver as Driver>⟧ roles (members drivers.old) (listed_in events.old)
+        (members drivers.new) (listed_in events.new) }
+    ensures counted { slots.old ≡ slots_of (objects_in records.old)
+        → slots.new ≡ slots_of (objects_in records.new) }
+    ensures less { slots.new ≤ slots.old }
 {
     match value {
         Slot::Bits(_) => {}
@@ -261,8 +279,9 @@ fn give_up(
         Slot::Script(handle) => match handle {
             Some(number) => {
                 if let Some(object) = lower(records, number) {
+                    *slots = slots.saturating_sub(1).saturating_sub(object.fields.len());
                     for i in 0..object.fields.len() {
-                        give_up(records, drivers, events, object.fields[i]);
+                        give_up(records, slots, drivers, events, object.fields[i]);
                     }
                 }
             }

@@ -1,5 +1,6 @@
 //! Places that hold a host object.
-ghost use Rattle.std.specs.Prelude.{ℕ, ◌+◌, ◌≡◌, ◌<◌, ◌≤◌, false, List, [], Some, length, vec_len, vec_capacity, if◌then◌else◌};
+ghost use Rattle.std.specs.Prelude.{ℕ, Bool, ◌+◌, ◌≡◌, ◌<◌, ◌≤◌, false, List, [], Some, if◌then◌else◌};
+ghost use Rattle.ang_host.specs.Logs.{listed_in, is_heard, log_len, log_capacity};
 ghost use Rattle.ang_host.specs.declared.event.Role.{Role};
 ghost use Rattle.ang_host.specs.State.{count_at};
 ghost use Rattle.ang_host.specs.Laws.{IsFull};
@@ -10,30 +11,33 @@ ghost use Rattle.ang_meaning.specs.declared.slot.Slot.TheVariants.{Host};
 ghost use Rattle.ang_meaning.specs.World.{ScriptObjects, Input, give, host_raised};
 ghost use Rattle.ang_heap.specs.Parts.{world_by, AreReady, PartsMove, states_among, counts_among, live_among};
 
-use ang_host::{Driver, Drivers, HostEvent, release_listed};
+use ang_host::{Driver, Drivers, EventBuffer, release_listed};
 use ang_meaning::Slot;
 
 /// One place gives up a host object, and whether it was the last. Then the object's end is listed, in the room that
 /// is kept for it.
-pub fn release(drivers: &mut Drivers, events: &mut Vec<HostEvent>, driver: u32, key: u64) -> bool
+pub fn release(drivers: &mut Drivers, events: &mut EventBuffer, driver: u32, key: u64) -> bool
     requires ready { AreReady (states_among ⟦<dyn Driver as Driver>⟧ drivers.old)
-        (vec_len events.old) (vec_capacity events.old) }
+        (log_len events.old) (log_capacity events.old) }
     requires held { 0 < count_at (counts_among ⟦<dyn Driver as Driver>⟧ drivers.old driver) key }
-    ensures gives { (os : ScriptObjects) (gs : List (List Slot)) (is : List Input)
+    ensures gives { (os : ScriptObjects) (gs : List (List Slot)) (sp : Bool) (is : List Input)
         → give (Host driver (Some key))
-        (world_by os (counts_among ⟦<dyn Driver as Driver>⟧ drivers.old) gs events.old.items is)
-        ≡ world_by os (counts_among ⟦<dyn Driver as Driver>⟧ drivers.new) gs events.new.items is }
+        (world_by os (counts_among ⟦<dyn Driver as Driver>⟧ drivers.old) gs
+        (listed_in events.old) sp is)
+        ≡ world_by os (counts_among ⟦<dyn Driver as Driver>⟧ drivers.new) gs
+        (listed_in events.new) sp is }
     ensures ready { AreReady (states_among ⟦<dyn Driver as Driver>⟧ drivers.new)
-        (vec_len events.new) (vec_capacity events.new) }
-    ensures level { vec_len events.new + live_among ⟦<dyn Driver as Driver>⟧ drivers.new
-        ≡ vec_len events.old + live_among ⟦<dyn Driver as Driver>⟧ drivers.old }
-    ensures ended { vec_len events.new ≡ vec_len events.old + (if result then 1 else 0) }
+        (log_len events.new) (log_capacity events.new) }
+    ensures level { log_len events.new + live_among ⟦<dyn Driver as Driver>⟧ drivers.new
+        ≡ log_len events.old + live_among ⟦<dyn Driver as Driver>⟧ drivers.old }
+    ensures ended { log_len events.new ≡ log_len events.old + (if result then 1 else 0) }
     ensures fewer { live_among ⟦<dyn Driver as Driver>⟧ drivers.new
         ≤ live_among ⟦<dyn Driver as Driver>⟧ drivers.old }
-    ensures capacity { vec_capacity events.new ≡ vec_capacity events.old }
+    ensures capacity { log_capacity events.new ≡ log_capacity events.old }
+    ensures heard { is_heard events.new ≡ is_heard events.old }
     ensures moves { (roles : List Role)
-        → PartsMove ⟦<dyn Driver as Driver>⟧ roles (members drivers.old) events.old.items
-        (members drivers.new) events.new.items }
+        → PartsMove ⟦<dyn Driver as Driver>⟧ roles (members drivers.old) (listed_in events.old)
+        (members drivers.new) (listed_in events.new) }
 {
     release_listed(drivers, events, driver, key)
 }

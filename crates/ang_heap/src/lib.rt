@@ -6,6 +6,7 @@
 mod globals;
 mod heap;
 mod hosts;
+mod limits;
 mod numbers;
 mod objects;
 mod store;
@@ -13,4 +14,5 @@ mod store;
 pub use ang_meaning::Slot;
 pub use globals::Globals;
 pub use heap::{Heap, Tally};
-pub use store::{Store, give, hold};
+pub use limits::{Held, Limits};
+pub use store::{Store, give, held, hold, set_limits};

@@ -5,7 +5,7 @@ ghost use Rattle.std.specs.FinMap as map;
 ghost use Rattle.ang_meaning.specs.declared.slot.Slot.TheVariants.{Bits, Script};
 ghost use Rattle.ang_meaning.specs.Perform.{field_of, with_field};
 ghost use Rattle.ang_heap.specs.Globals.{values_in};
-ghost use Rattle.ang_heap.specs.Heaps.{record_of, objects_in, objects_of};
+ghost use Rattle.ang_heap.specs.Heaps.{IsTallied, IsLess, record_of, objects_in, objects_of};
 ghost use Rattle.ang_heap.specs.Numbers.{number_in, HasNumber};
 
 use crate::globals::{Globals, values_of};
@@ -40,6 +40,8 @@ impl Heap {
             ≡ with_field number (map.get (objects_of self.old) number) index (Bits value)
             (objects_of self.old) }
         ensures kept { result ≡ false → self.new ≡ self.old }
+        ensures counted { IsTallied self.old → IsTallied self.new }
+        ensures less { IsLess self.old self.new }
     {
         put_number_of(&mut self.records, number, index, value)
     }

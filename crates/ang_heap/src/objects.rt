@@ -1,10 +1,11 @@
 //! Script objects made, read and changed.
-ghost use Rattle.std.specs.Prelude.{◌≡◌, Some, None, IfOk, OnErr, map as list_map, slice_index_or, slice_set};
+ghost use Rattle.std.specs.Prelude.{◌≡◌, ◌+◌, ◌≤◌, ◌↔◌, IsTrue, Some, None, IfOk, OnErr, length, map as list_map, slice_index_or, slice_set};
 ghost use Rattle.std.specs.FinMap as map;
 ghost use Rattle.ang_meaning.specs.Perform.{field_of, with_field, new_object};
 ghost use Rattle.ang_meaning.specs.Environment.{default_of};
 ghost use Rattle.slab.specs.Slab.{get as slab_get, with_value};
-ghost use Rattle.ang_heap.specs.Heaps.{record_of, objects_in, objects_of, class_of_record, rank_of_record};
+ghost use Rattle.ang_heap.specs.Slots.{slots_of};
+ghost use Rattle.ang_heap.specs.Heaps.{IsTallied, IsLess, record_of, objects_in, objects_of, class_of_record, rank_of_record};
 
 use crate::heap::{Heap, ScriptObject};
 use ang_meaning::{Class, Slot, ValueKind};
@@ -15,11 +16,28 @@ impl Heap {
     /// A heap without objects.
     pub fn new(alloc: Global) -> Heap
         ensures empty { objects_of result ≡ map.empty }
+        ensures counted { IsTallied result }
     {
         Heap {
             alloc,
             records: Slab::new(alloc),
+            slots: 0,
         }
+    }
+
+    /// How many slots the objects take.
+    pub fn slots(&self) -> usize
+        ensures exact { IsTallied self.now → result ≡ slots_of (objects_of self.now) }
+    {
+        self.slots
+    }
+
+    /// Whether the objects take no more than `most` slots with one object more, of so many fields.
+    #[inline(always)]
+    pub fn has_slots(&self, fields: usize, most: usize) -> bool
+        ensures exact { IsTrue result ↔ (self.now.slots + (1 + fields) ≤ most) }
+    {
+        self.slots < most && fields < most - self.slots
     }
 
     /// Makes an object of a class, whose fields name nothing and which has its first place, and answers its
@@ -32,9 +50,17 @@ impl Heap {
         ensures made { IfOk result
             (λ n. objects_of self.new ≡ map.insert (objects_of self.old) n (new_object class.now)) }
         ensures unchanged { OnErr result (objects_of self.new ≡ objects_of self.old) }
+        ensures counted { IsTallied self.old → IsTallied self.new }
+        ensures grown { self.new.slots ≤ self.old.slots + (1 + length class.now.fields) }
     {
-        let fields = defaults(self.alloc, class.fields.as_slice())?;
-        insert(&mut self.records, new_record(class, fields))
+        let kinds = class.fields.as_slice();
+        if !self.has_slots(kinds.len(), usize::MAX) {
+            return Err(AllocError);
+        }
+        let fields = defaults(self.alloc, kinds)?;
+        let number = insert(&mut self.records, new_record(class, fields))?;
+        self.slots += 1 + kinds.len();
+        Ok(number)
     }
 
     /// The class of an object, where there is one of that number.
@@ -78,6 +104,8 @@ impl Heap {
         ensures put { objects_of self.new
             ≡ with_field number (map.get (objects_of self.old) number) index value
             (objects_of self.old) }
+        ensures counted { IsTallied self.old → IsTallied self.new }
+        ensures less { IsLess self.old self.new }
     {
         let old = self.field(number, index, value);
         store(&mut self.records, number, index, value);

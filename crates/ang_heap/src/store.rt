@@ -1,17 +1,21 @@
 //! What lies outside the stack of a run, as one thing.
-ghost use Rattle.std.specs.Prelude.{◌≡◌, ◌<◌, ℕ, ◌∷◌, false, List, [], Option, Some};
+ghost use Rattle.std.specs.Prelude.{◌≡◌, ◌<◌, ℕ, ◌∷◌, false, [], Option, Some};
 ghost use Rattle.ang_host.specs.State.{count_at};
+ghost use Rattle.ang_host.specs.Laws.{IsFull};
+ghost use Rattle.ang_host.specs.Members.{state_at};
 ghost use Rattle.ang_meaning.specs.declared.slot.Slot.TheVariants.{Script as Handle, Host};
 ghost use Rattle.ang_meaning.specs.World.{hold as hold_in, give as give_in, if_told};
 ghost use Rattle.ang_meaning.specs.Counting.{CanGive, HasKey};
 ghost use Rattle.ang_heap.specs.Heaps.{objects_of};
-ghost use Rattle.ang_heap.specs.Parts.{IsTallyFull, states_among, counts_among};
-ghost use Rattle.ang_heap.specs.Stores.{world_of, IsReady, StoreTold, HasMoved, StoreBecomes};
+ghost use Rattle.ang_heap.specs.Slots.{slots_of};
+ghost use Rattle.ang_heap.specs.Parts.{IsTallyFull, states_among, counts_among, live_among};
+ghost use Rattle.ang_heap.specs.Stores.{world_of, IsKept, IsReady, StoreTold, HasMoved, StoreBecomes};
 
 use crate::globals::Globals;
 use crate::heap::{Heap, lower_shared, raise};
-use crate::hosts::release;
-use ang_host::{Driver, Drivers, HostEvent};
+use crate::hosts::{add, release};
+use crate::limits::{Held, Limits};
+use ang_host::{Driver, Drivers, EventBuffer};
 use ang_meaning::Slot;
 
 /// What lies outside the stack of a run. A run puts its caller's list in the place of `events`, and takes it
@@ -25,12 +29,40 @@ pub struct Store {
     pub drivers: Drivers,
     /// What the drivers were asked and which host objects ended, in order. It has room for the end of each
     /// live host object.
-    pub events: Vec<HostEvent>,
+    pub events: EventBuffer,
     /// Empty, with room for the end of each live host object: the ends go here when the engine itself is
     /// given up.
-    pub ends: Vec<HostEvent>,
+    pub ends: EventBuffer,
     /// How many host objects live.
     pub live: usize,
+    /// Whether a driver refused one more reference to an object. Then some driver's tally has run out.
+    pub spent: bool,
+    /// How much scripts may hold. Where less is allowed than is held already, that stays, and nothing is added.
+    pub limits: Limits,
+}
+
+/// From now on these are the limits. Whatever is held already stays.
+pub fn set_limits(store: &mut Store, limits: Limits)
+    requires kept { IsKept ⟦<dyn Driver as Driver>⟧ store.old }
+    ensures kept { IsKept ⟦<dyn Driver as Driver>⟧ store.new }
+    ensures world { world_of ⟦<dyn Driver as Driver>⟧ store.new
+        ≡ world_of ⟦<dyn Driver as Driver>⟧ store.old }
+    ensures set { store.new ≡ record store.old { limits = limits } }
+{
+    store.limits = limits;
+}
+
+/// How much scripts hold.
+pub fn held(store: &Store) -> Held
+    requires kept { IsKept ⟦<dyn Driver as Driver>⟧ store.now }
+    ensures slots { result.slots ≡ slots_of (objects_of store.now.heap) }
+    ensures objects { result.objects
+        ≡ live_among ⟦<dyn Driver as Driver>⟧ store.now.drivers }
+{
+    Held {
+        slots: store.heap.slots(),
+        objects: store.live,
+    }
 }
 
 /// One more place holds the value. False where a tally is full, and then nothing is done.
@@ -55,24 +87,32 @@ pub fn hold(store: &mut Store, value: Slot) -> bool
             Some(number) => raise(&mut store.heap.records, number),
             None => true,
         },
-        Slot::Host(_, _) => hold_object(store, value),
+        Slot::Host(driver, named) => match named {
+            Some(key) => hold_host(store, driver, key),
+            None => true,
+        },
     }
 }
 
+/// One more place holds a host object. It stays apart as `give_script` does.
 #[inline(never)]
-fn hold_object(store: &mut Store, value: Slot) -> bool
-    requires there { HasKey value (counts_among ⟦<dyn Driver as Driver>⟧ store.old.drivers) }
-    ensures told { StoreTold ⟦<dyn Driver as Driver>⟧ (hold_in value) store.old (if_told result)
-        store.new }
+fn hold_host(store: &mut Store, driver: u32, key: u64) -> bool
+    requires held { 0 < count_at
+        (counts_among ⟦<dyn Driver as Driver>⟧ store.old.drivers driver) key }
+    ensures told { StoreTold ⟦<dyn Driver as Driver>⟧ (hold_in (Host driver (Some key))) store.old
+        (if_told result) store.new }
     ensures full { result ≡ false
-        → IsTallyFull value (objects_of store.old.heap)
-        (states_among ⟦<dyn Driver as Driver>⟧ store.old.drivers) }
+        → IsFull (state_at (states_among ⟦<dyn Driver as Driver>⟧ store.old.drivers) driver) }
     ensures unchanged { result ≡ false
         → states_among ⟦<dyn Driver as Driver>⟧ store.new.drivers
         ≡ states_among ⟦<dyn Driver as Driver>⟧ store.old.drivers }
     ensures moves { HasMoved ⟦<dyn Driver as Driver>⟧ store.old store.new }
 {
-    store.heap.hold(&mut store.drivers, value).is_ok()
+    if add(&mut store.drivers, driver, key) {
+        return true;
+    }
+    store.spent = true;
+    false
 }
 
 /// One place gives up the value. It takes no memory and always succeeds.

@@ -118,6 +118,12 @@ abbrev pub ends : ℕ → ℕ → Bool → List HostEvent
 ends d k true = Ended d k ∷ []
 ends d k false = []
 
+-- how many of the events are ends
+abbrev pub ends_listed : List HostEvent → ℕ
+ends_listed [] = 0
+ends_listed (Called caller entity driver object args reply ∷ es) = ends_listed es
+ends_listed (Ended driver key ∷ es) = 1 + ends_listed es
+
 -- the driver of an event, and the events of the i-th driver
 abbrev pub driver_of : HostEvent → ℕ
 driver_of (Called caller entity driver object args reply) = driver

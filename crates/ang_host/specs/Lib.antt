@@ -6,3 +6,7 @@ pub mod Boxes
 pub mod Refusal
 pub mod Events
 pub mod Counts
+pub mod Heads
+pub mod Kept
+pub mod Lent
+pub mod Logs

@@ -15,7 +15,7 @@ use Rattle.ang_source.specs.Sound.{Module, module_of, SoundOption, SoundStatemen
 use Rattle.ang_lower.specs.Tree as stmt
 use Rattle.ang_lower.specs.Plain.{plain_stmt, plain_body}
 use Rattle.ang_lower.specs.Lowered.{lowered_code, lowered_function, lowered_initializer, lowered_globals, lowered_module}
-use Rattle.ang_lower.specs.Hosts.{HasView}
+use Rattle.ang_source.specs.Hosts.{HasView}
 use Rattle.ang_lower.specs.Same.{SoundCode, AreLowered, AreSoundIn, HasProgram, AreBodies, AreCodes, LowersProgram, KeepsSound}
 use Rattle.ang_lower.proofs.PlainSound.{IsSoundStmt, statement_is}
 use Rattle.ang_lower.proofs.Headings.{has_callees}

@@ -37,7 +37,7 @@ use Rattle.ang_lower.specs.ExprTree as c
 use Rattle.ang_lower.specs.Tree as stmt
 use Rattle.ang_lower.specs.LoweredExpr as low
 use Rattle.ang_lower.specs.Lowered.{lowered_all, lowered_code, lowered_each, lowered_locals, lowered_loop, lowered_simple, lowered_steps, lowered_stmt}
-use Rattle.ang_lower.specs.Hosts.{host_type_of, is_asked, is_member, role_in, is_constant, use_of, asked_as, HasView}
+use Rattle.ang_source.specs.Hosts.{host_type_of, is_asked, is_member, role_in, is_constant, use_of, asked_as, HasView}
 use Rattle.ang_lower.specs.Same.{SoundCode, HasCallees}
 use Rattle.ang_lower.proofs.PlainSound.{operand_count, IsSound, AreSoundArgs, leaves, leaves_all, IsSoundStmt, AreSoundStmts}
 use Rattle.ang_lower.proofs.Values.{EachSound, each_argument, each_value, as_many}

@@ -5,7 +5,7 @@ use Rattle.ang_view.specs.declared.entry.Entry.{Entry}
 use Rattle.ang_view.specs.Registration.{RegistrationList, entry_at}
 use Rattle.ang_meaning.specs.declared.host.HostUse.{HostUse}
 use Rattle.ang_meaning.specs.Environment.{Environment}
-use Rattle.ang_lower.specs.Hosts.{is_asked, use_of, asked_as, HasView, IsOfView}
+use Rattle.ang_source.specs.Hosts.{is_asked, use_of, asked_as, HasView, IsOfView}
 
 of_kind : (V : RegistrationList) (e : ℕ) (u : HostUse) (x : Entry) (b : Bool) → is_asked x.kind ≡ b → entry_at V e ≡ Some x
     → (if b then Some (use_of x) else None) ≡ Some u → IsOfView V e u

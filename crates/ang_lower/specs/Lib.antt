@@ -6,5 +6,4 @@ pub mod Tree
 pub mod Plain
 pub mod Lowered
 pub mod Kinds
-pub mod Hosts
 pub mod Same

@@ -16,7 +16,7 @@ use Rattle.ang_source.specs.Meaning.{Code, of_function, of_global, Codes, codes_
 use Rattle.ang_source.specs.Meaning as source
 use Rattle.ang_source.specs.Sound.{Module, module_of, Sound, SoundStatements, SoundProgram}
 use Rattle.ang_lower.specs.Lowered.{IsLowered}
-use Rattle.ang_lower.specs.Hosts.{HasView}
+use Rattle.ang_source.specs.Hosts.{HasView}
 
 -- a body of a module with n parameters
 abbrev pub SoundCode : Module → ℕ → Code → Type 0

@@ -8,13 +8,14 @@ ghost use Rattle.ang_lower.specs.LoweredExpr as spec;
 
 use crate::build_expr::{CoreOperands, add_operand, apply, binary, call, choice, nullary, unary};
 use crate::folding::{complement, conversion, denial, negation};
-use crate::operators::{arithmetic, compound, is_signed, step, test};
+use crate::operators::{arithmetic, compound, step, test};
 use crate::variables::{altering, change, read, reading, store, targets, writing};
 use ang_core::CoreExpression;
 use ang_meaning::{Callee, Operation, Update};
 use ang_typed as typed;
 use ang_typed::{Local, TypedArgument, TypedSite};
 use ang_types::ArgType;
+use ang_vm_numbers::is_signed;
 use std::alloc::{AllocError, Global};
 
 /// The core tree of an expression, where `alive` locals are alive.

@@ -1,6 +1,6 @@
 //! Registered entities as code asks them.
 ghost use Rattle.std.specs.Prelude.{◌≡◌, IfOk, map as list_map};
-ghost use Rattle.ang_lower.specs.Hosts as spec;
+ghost use Rattle.ang_source.specs.Hosts as spec;
 
 use ang_host::Role;
 use ang_kinds::{List, Param, Prim, TypeRef};

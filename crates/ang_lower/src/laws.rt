@@ -12,7 +12,7 @@ ghost use Rattle.ang_source.specs.Meaning as source;
 ghost use Rattle.ang_source.specs.Sound.{Module, SoundProgram};
 ghost use Rattle.ang_view.specs.Registration.{RegistrationList};
 ghost use Rattle.ang_meaning.specs.declared.host.HostUse.{HostUse};
-ghost use Rattle.ang_lower.specs.Hosts.{HasView, IsOfView};
+ghost use Rattle.ang_source.specs.Hosts.{HasView, IsOfView};
 ghost use Rattle.ang_lower.specs.Same.{AreLowered, AreSoundIn, AreCodes, HasProgram, MeansSame, AllMeanSame, TakeNothing};
 
 /// A build's initializers in turn end as their sources say, if each of them does.

@@ -1,6 +1,5 @@
 //! Operators of the resolved tree as operations on values.
 ghost use Rattle.std.specs.Prelude.{◌≡◌};
-ghost use Rattle.ang_meaning.specs.Numbers as numbers;
 ghost use Rattle.ang_source.specs.Meaning as spec;
 
 use ang_kinds::Prim;
@@ -39,16 +38,6 @@ pub fn test(comparison: Comparison) -> meaning::Comparison
         Comparison::LessEqual => meaning::Comparison::LessEqual,
         Comparison::Greater => meaning::Comparison::Greater,
         Comparison::GreaterEqual => meaning::Comparison::GreaterEqual,
-    }
-}
-
-/// Whether numbers of the type have a sign.
-pub fn is_signed(ty: Prim) -> bool
-    ensures same { result ≡ numbers.is_signed ty }
-{
-    match ty {
-        Prim::I8 | Prim::I16 | Prim::I32 | Prim::I64 => true,
-        Prim::U8 | Prim::U16 | Prim::U32 | Prim::U64 | Prim::Bool => false,
     }
 }
 

@@ -207,6 +207,7 @@ module _ (apart : Type 0) (r : Renaming) where
             hosts = x.0.hosts;
             globals = x.0.globals;
             events = x.0.events;
+            spent = x.0.spent;
             inputs = m;
           },
         );
@@ -289,6 +290,7 @@ module _ (apart : Type 0) (r : Renaming) where
       hosts = h.hosts;
       globals = h.globals;
       events = ap (λ es. es ++ Called (z.name m) e (use_at z m e).driver object args reply ∷ []) h.events;
+      spent = h.spent;
       inputs = mt;
     }
 

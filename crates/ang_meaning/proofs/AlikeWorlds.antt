@@ -6,7 +6,7 @@ use Rattle.ang_kinds.specs.declared.fault.Fault.TheVariants.{Tally}
 use Rattle.ang_host.specs.declared.event.HostEvent.TheVariants.{Ended}
 use Rattle.ang_meaning.specs.declared.slot.Slot.{Slot}
 use Rattle.ang_meaning.specs.declared.slot.Slot.TheVariants.{Bits, Script, Host}
-use Rattle.ang_meaning.specs.World.{World, ScriptRecord, ScriptObjects, Input, Room, Said, Tallied, Fresh, with_inputs, Tried, Yes, No, if_told, memory_told, memory_step, raised_at, script_raised, host_raised, one_more, tally_told, tally_step, hold, Lowered, Gone, Kept, one_less, lowered_at, script_lowered, host_lowered, each_given, script_given, given, give, give_all, or_else}
+use Rattle.ang_meaning.specs.World.{World, ScriptRecord, ScriptObjects, Input, Room, Said, Tallied, Fresh, with_inputs, Tried, Yes, No, if_told, memory_told, memory_step, HoldLimit, Inside, AtEnd, OfDriver, hold_limit_of, refused_at, raised_at, script_raised, host_raised, one_more, tally_told, tally_step, hold, Lowered, Gone, Kept, one_less, lowered_at, script_lowered, host_lowered, each_given, script_given, given, give, give_all, or_else}
 use Rattle.ang_meaning.specs.Hosts.{Done, Fine, Fails, holding}
 use Rattle.ang_meaning.specs.Perform.{global_or, global_put, field_of, field_or, with_field, field_put, is_lower, may_take, member_or, member_put}
 use Rattle.ang_meaning.specs.Alike.{Renaming, renamed, renamed_all, renamed_lists, renamed_record, Tables}
@@ -55,10 +55,10 @@ DoneAlike apart r o p = DoneSame apart r o p ⊎ (DoneLeaves apart o ⊎ DoneLea
 
 module _ (apart : Type 0) (r : Renaming) where
   pub told_alike : (is js : List Input) (v w : World) → Match apart is js → AlikeUpTo apart r v w → AlikeUpTo apart r (with_inputs is v) (with_inputs js w)
-  told_alike is js v w m p = record { objects = p.objects; hosts = p.hosts; globals = p.globals; events = p.events; inputs = m }
+  told_alike is js v w m p = record { objects = p.objects; hosts = p.hosts; globals = p.globals; events = p.events; spent = p.spent; inputs = m }
 
   pub objects_alike : (os ps : ScriptObjects) (v w : World) → Tables r os ps → AlikeUpTo apart r v w → AlikeUpTo apart r (record v { objects = os }) (record w { objects = ps })
-  objects_alike os ps v w t p = record { objects = t; hosts = p.hosts; globals = p.globals; events = p.events; inputs = p.inputs }
+  objects_alike os ps v w t p = record { objects = t; hosts = p.hosts; globals = p.globals; events = p.events; spent = p.spent; inputs = p.inputs }
 
   -- ---- inputs
 
@@ -93,34 +93,51 @@ module _ (apart : Type 0) (r : Renaming) where
   unfolding memory_step
   memory_alike v w h = memory_from v.inputs w.inputs v w refl refl h.inputs h
 
-  tally_from : (is js : List Input) (v w : World) → v.inputs ≡ is → w.inputs ≡ js → Match apart is js → AlikeUpTo apart r v w → TriedAlike apart r (tally_told is v) (tally_told js w)
-  tally_from [] [] v w e f mt h = inl h
-  tally_from [] (j ∷ js) v w e f mt h = absurd mt
-  tally_from (i ∷ is) [] v w e f mt h = absurd mt
-  tally_from (Room a ∷ is) (Room b ∷ js) v w e f mt h = inl h
-  tally_from (Room a ∷ is) (Said u ∷ js) v w e f mt h = inl h
-  tally_from (Room a ∷ is) (Tallied b ∷ js) v w e f mt h = inr (inl (mt, record { first = Room a; rest = is; inputs = e }))
-  tally_from (Room a ∷ is) (Fresh k ∷ js) v w e f mt h = inl h
-  tally_from (Said q ∷ is) (Room b ∷ js) v w e f mt h = inl h
-  tally_from (Said q ∷ is) (Said u ∷ js) v w e f mt h = inl h
-  tally_from (Said q ∷ is) (Tallied b ∷ js) v w e f mt h = inr (inl (mt, record { first = Said q; rest = is; inputs = e }))
-  tally_from (Said q ∷ is) (Fresh k ∷ js) v w e f mt h = inl h
-  tally_from (Tallied a ∷ is) (Room b ∷ js) v w e f mt h = inr (inr (mt, record { first = Room b; rest = js; inputs = f }))
-  tally_from (Tallied a ∷ is) (Said u ∷ js) v w e f mt h = inr (inr (mt, record { first = Said u; rest = js; inputs = f }))
-  tally_from (Tallied a ∷ is) (Tallied b ∷ js) v w e f mt h = if_alike a b is js v w mt.0 mt.1 h
-  tally_from (Tallied a ∷ is) (Fresh k ∷ js) v w e f mt h = inr (inr (mt, record { first = Fresh k; rest = js; inputs = f }))
-  tally_from (Fresh n ∷ is) (Room b ∷ js) v w e f mt h = inl h
-  tally_from (Fresh n ∷ is) (Said u ∷ js) v w e f mt h = inl h
-  tally_from (Fresh n ∷ is) (Tallied b ∷ js) v w e f mt h = inr (inl (mt, record { first = Fresh n; rest = is; inputs = e }))
-  tally_from (Fresh n ∷ is) (Fresh k ∷ js) v w e f mt h = inl h
+  refused_from : (x : HoldLimit) (is js : List Input) (v w : World) → Match apart is js → AlikeUpTo apart r v w → TriedAlike apart r (refused_at x is v) (refused_at x js w)
+  refused_from Inside is js v w mt h = inl h
+  refused_from AtEnd is js v w mt h = inl (told_alike is js v w mt h)
+  refused_from OfDriver is js v w mt h = inl (record { objects = h.objects; hosts = h.hosts; globals = h.globals; events = h.events; spent = refl; inputs = mt })
+
+  tally_from : (x : HoldLimit) (is js : List Input) (v w : World) → v.inputs ≡ is → w.inputs ≡ js → Match apart is js → AlikeUpTo apart r v w → TriedAlike apart r (tally_told x is v) (tally_told x js w)
+  tally_from x [] [] v w e f mt h = inl h
+  tally_from x [] (j ∷ js) v w e f mt h = absurd mt
+  tally_from x (i ∷ is) [] v w e f mt h = absurd mt
+  tally_from x (Room a ∷ is) (Room b ∷ js) v w e f mt h = inl h
+  tally_from x (Room a ∷ is) (Said u ∷ js) v w e f mt h = inl h
+  tally_from x (Room a ∷ is) (Tallied b ∷ js) v w e f mt h = inr (inl (mt, record { first = Room a; rest = is; inputs = e }))
+  tally_from x (Room a ∷ is) (Fresh k ∷ js) v w e f mt h = inl h
+  tally_from x (Said q ∷ is) (Room b ∷ js) v w e f mt h = inl h
+  tally_from x (Said q ∷ is) (Said u ∷ js) v w e f mt h = inl h
+  tally_from x (Said q ∷ is) (Tallied b ∷ js) v w e f mt h = inr (inl (mt, record { first = Said q; rest = is; inputs = e }))
+  tally_from x (Said q ∷ is) (Fresh k ∷ js) v w e f mt h = inl h
+  tally_from x (Tallied a ∷ is) (Room b ∷ js) v w e f mt h = inr (inr (mt, record { first = Room b; rest = js; inputs = f }))
+  tally_from x (Tallied a ∷ is) (Said u ∷ js) v w e f mt h = inr (inr (mt, record { first = Said u; rest = js; inputs = f }))
+  tally_from x (Tallied true ∷ is) (Tallied true ∷ js) v w e f mt h = inl (told_alike is js v w mt.1 h)
+  tally_from x (Tallied true ∷ is) (Tallied false ∷ js) v w e f mt h = absurd (let y : true ≡ false = mt.0 in let z : ⊥ = cc in z)
+  tally_from x (Tallied false ∷ is) (Tallied true ∷ js) v w e f mt h = absurd (let y : false ≡ true = mt.0 in let z : ⊥ = cc in z)
+  tally_from x (Tallied false ∷ is) (Tallied false ∷ js) v w e f mt h = refused_from x is js v w mt.1 h
+  tally_from x (Tallied a ∷ is) (Fresh k ∷ js) v w e f mt h = inr (inr (mt, record { first = Fresh k; rest = js; inputs = f }))
+  tally_from x (Fresh n ∷ is) (Room b ∷ js) v w e f mt h = inl h
+  tally_from x (Fresh n ∷ is) (Said u ∷ js) v w e f mt h = inl h
+  tally_from x (Fresh n ∷ is) (Tallied b ∷ js) v w e f mt h = inr (inl (mt, record { first = Fresh n; rest = is; inputs = e }))
+  tally_from x (Fresh n ∷ is) (Fresh k ∷ js) v w e f mt h = inl h
+
+  same_limit : (o : Option ScriptRecord) → hold_limit_of (renamed_record r o) ≡ hold_limit_of o
+  same_limit None = refl
+  same_limit (Some o) = refl
+
+  limit_alike : (n : ℕ) (v w : World) → AlikeUpTo apart r v w → hold_limit_of (map.get w.objects (r.to n)) ≡ hold_limit_of (map.get v.objects n)
+  limit_alike n v w h = ap hold_limit_of (h.objects.has n) ∙ same_limit (map.get v.objects n)
 
   tally_alike : (x : Slot) (v w : World) → AlikeUpTo apart r v w → TriedAlike apart r (tally_step x v) (tally_step (renamed r x) w)
   unfolding tally_step
   tally_alike (Bits n) v w h = inl h
   tally_alike (Script None) v w h = inl h
-  tally_alike (Script (Some n)) v w h = tally_from v.inputs w.inputs v w refl refl h.inputs h
+  tally_alike (Script (Some n)) v w h =
+      subst (λ e. TriedAlike apart r (tally_told (hold_limit_of (map.get v.objects n)) v.inputs v) (tally_told e w.inputs w)) (sym (limit_alike n v w h))
+      (tally_from (hold_limit_of (map.get v.objects n)) v.inputs w.inputs v w refl refl h.inputs h)
   tally_alike (Host d None) v w h = inl h
-  tally_alike (Host d (Some k)) v w h = tally_from v.inputs w.inputs v w refl refl h.inputs h
+  tally_alike (Host d (Some k)) v w h = tally_from OfDriver v.inputs w.inputs v w refl refl h.inputs h
 
   -- ---- one place more
 
@@ -138,7 +155,7 @@ module _ (apart : Type 0) (r : Renaming) where
   more_alike (Script None) v w h = h
   more_alike (Script (Some n)) v w h = objects_alike _ _ v w (script_raised_alike n v.objects w.objects h.objects) h
   more_alike (Host d None) v w h = h
-  more_alike (Host d (Some k)) v w h = record { objects = h.objects; hosts = ap (λ hs. host_raised d k hs) h.hosts; globals = h.globals; events = h.events; inputs = h.inputs }
+  more_alike (Host d (Some k)) v w h = record { objects = h.objects; hosts = ap (λ hs. host_raised d k hs) h.hosts; globals = h.globals; events = h.events; spent = h.spent; inputs = h.inputs }
 
   held_same : (x : Slot) (o p : Tried) → TriedSame apart r o p → TriedSame apart r (or_else o No (λ u. Yes (one_more x u))) (or_else p No (λ u. Yes (one_more (renamed r x) u)))
   held_same x (Yes v) (Yes w) h = more_alike x v w h
@@ -203,6 +220,7 @@ module _ (apart : Type 0) (r : Renaming) where
     globals = h.globals;
     events = ap (λ hs. cond (host_lowered d k hs).ended (w.events ++ Ended d k ∷ []) w.events) h.hosts
         ∙ ap (λ es. cond (host_lowered d k v.hosts).ended (es ++ Ended d k ∷ []) es) h.events;
+    spent = h.spent;
     inputs = h.inputs;
   }
   given_alike zero (Script (Some k)) v w h = h
@@ -257,6 +275,7 @@ module _ (apart : Type 0) (r : Renaming) where
         ∙ ap (λ l. slice_set (renamed_lists r v.globals) m l) (set_renamed (slice_index_or v.globals m []) g x)
         ∙ lists_set v.globals m (slice_set (slice_index_or v.globals m []) g x);
     events = h.events;
+    spent = h.spent;
     inputs = h.inputs;
   }
 

@@ -5,7 +5,7 @@ use Rattle.std.specs.FinMap as map
 use Rattle.std.proofs.lemmas.Bool.{eqb-true, ltb-true, eq-eqb}
 use Rattle.ang_meaning.specs.declared.slot.Slot.{Slot}
 use Rattle.ang_meaning.specs.declared.slot.Slot.TheVariants.{Bits, Script, Host}
-use Rattle.ang_meaning.specs.World.{World, ScriptRecord, ScriptObjects, Input, Room, Said, Tallied, Fresh, with_inputs, if_told, Tried, Yes, No, memory_told, memory_step, tally_told, tally_step, one_more, hold, give, give_all, or_else}
+use Rattle.ang_meaning.specs.World.{World, ScriptRecord, ScriptObjects, Input, Room, Said, Tallied, Fresh, with_inputs, if_told, Tried, Yes, No, memory_told, memory_step, HoldLimit, Inside, AtEnd, OfDriver, hold_limit_of, refused_at, tally_told, tally_step, one_more, hold, give, give_all, or_else}
 use Rattle.ang_meaning.specs.declared.class.Class.{Class}
 use Rattle.ang_meaning.specs.declared.class.ValueKind.{ValueKind}
 use Rattle.ang_meaning.specs.declared.class.ValueKind.TheVariants.{Number as NumberField, Handle as HandleField}
@@ -124,24 +124,26 @@ abbrev TriedKnown : Slot → List Slot → Tried → Type 0
 TriedKnown v s (Yes w) = IsCounted s w × HasObject v w.objects
 TriedKnown v s (No w) = IsCounted s w
 
-tally_if : (b : Bool) (v : Slot) (s : List Slot) (is : List Input) (w : World) → HasObject v w.objects → IsCounted s w → TriedKnown v s (if_told b (with_inputs is w))
-tally_if true v s is w k p = (p, k)
-tally_if false v s is w k p = p
+refused_from : (x : HoldLimit) (v : Slot) (s : List Slot) (is : List Input) (w : World) → IsCounted s w → TriedKnown v s (refused_at x is w)
+refused_from Inside v s is w p = p
+refused_from AtEnd v s is w p = p
+refused_from OfDriver v s is w p = p
 
-tally_from : (inputs : List Input) (v : Slot) (s : List Slot) (w : World) → HasObject v w.objects → IsCounted s w → TriedKnown v s (tally_told inputs w)
-tally_from [] v s w k p = p
-tally_from (Tallied b ∷ rest) v s w k p = tally_if b v s rest w k p
-tally_from (Room b ∷ rest) v s w k p = p
-tally_from (Said r ∷ rest) v s w k p = p
-tally_from (Fresh n ∷ rest) v s w k p = p
+tally_from : (x : HoldLimit) (inputs : List Input) (v : Slot) (s : List Slot) (w : World) → HasObject v w.objects → IsCounted s w → TriedKnown v s (tally_told x inputs w)
+tally_from x [] v s w k p = p
+tally_from x (Tallied true ∷ rest) v s w k p = (p, k)
+tally_from x (Tallied false ∷ rest) v s w k p = refused_from x v s rest w p
+tally_from x (Room b ∷ rest) v s w k p = p
+tally_from x (Said r ∷ rest) v s w k p = p
+tally_from x (Fresh n ∷ rest) v s w k p = p
 
 tally_counted : (v : Slot) (s : List Slot) (w : World) → HasObject v w.objects → IsCounted s w → TriedKnown v s (tally_step v w)
 unfolding tally_step
 tally_counted (Bits n) s w k p = (p, tt)
 tally_counted (Script None) s w k p = (p, tt)
-tally_counted (Script (Some n)) s w k p = tally_from w.inputs (Script (Some n)) s w k p
+tally_counted (Script (Some n)) s w k p = tally_from (hold_limit_of (map.get w.objects n)) w.inputs (Script (Some n)) s w k p
 tally_counted (Host d None) s w k p = (p, tt)
-tally_counted (Host d (Some j)) s w k p = tally_from w.inputs (Host d (Some j)) s w k p
+tally_counted (Host d (Some j)) s w k p = tally_from OfDriver w.inputs (Host d (Some j)) s w k p
 
 held_counted : (v : Slot) (s : List Slot) (o : Tried) → TriedKnown v s o → TriedCounted (v ∷ s) s (or_else o No (λ u. Yes (one_more v u)))
 held_counted v s (No w) p = p

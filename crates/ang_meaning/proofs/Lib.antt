@@ -20,3 +20,6 @@ pub mod Matching
 pub mod Renaming
 pub mod AlikeWorlds
 pub mod AlikeOperations
+pub mod Typed
+pub mod Refused
+pub mod Causes

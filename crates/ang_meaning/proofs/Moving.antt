@@ -22,7 +22,7 @@ use Rattle.ang_meaning.specs.declared.operation.Operation.TheVariants.{Binary, C
 use Rattle.ang_meaning.specs.declared.routine.Passing.{Passing}
 use Rattle.ang_meaning.specs.declared.routine.Passing.TheVariants.{In, Out, Object}
 use Rattle.ang_meaning.specs.Numbers.{Worked, Is, Cannot, Changed, Into, Never, binary_result}
-use Rattle.ang_meaning.specs.World.{World, HostCounts, Input, Room, Said, Tallied, Fresh, Tried, Yes, No, memory_told, memory_step, one_more, tally_told, tally_step, hold, Lowered, Gone, Kept, host_lowered, each_given, script_given, script_lowered, given, give, give_all, or_else}
+use Rattle.ang_meaning.specs.World.{World, HostCounts, Input, Room, Said, Tallied, Fresh, Tried, Yes, No, memory_told, memory_step, one_more, HoldLimit, Inside, AtEnd, OfDriver, hold_limit_of, refused_at, tally_told, tally_step, hold, Lowered, Gone, Kept, host_lowered, each_given, script_given, script_lowered, given, give, give_all, or_else}
 use Rattle.ang_meaning.specs.Told.{has_room, stopped_by, answers_told, answers_listed, Moves, GoesOn, Faults}
 use Rattle.ang_meaning.specs.declared.class.Class.{Class}
 use Rattle.ang_meaning.specs.Environment.{Environment, class_at, use_at}
@@ -42,7 +42,7 @@ listed_append [] b = refl
 listed_append (Called c e d o args r ∷ a) b = ap (λ l. r ∷ l) (listed_append a b)
 listed_append (Ended d k ∷ a) b = listed_append a b
 
-room_append : (a b : List Input) → has_room a ≡ true → has_room (a ++ b) ≡ has_room b
+pub room_append : (a b : List Input) → has_room a ≡ true → has_room (a ++ b) ≡ has_room b
 room_append [] b h = refl
 room_append (Said r ∷ a) b h = room_append a b h
 room_append (Room true ∷ a) b h = room_append a b h
@@ -179,21 +179,30 @@ pub memory_goes : (w : World) → TriedFrom Memory w (memory_step w)
 unfolding memory_step
 memory_goes w = memory_from w.inputs w refl
 
-tally_from : (inputs : List Input) (w : World) → w.inputs ≡ inputs → TriedFrom Tally w (tally_told inputs w)
-tally_from [] w e = faulted Tally w w (nothing w)
-tally_from (Tallied true ∷ rest) w e = record { used = Tallied true ∷ []; moves = told_one w (Tallied true) rest e refl; room = refl }
-tally_from (Tallied false ∷ rest) w e = record { used = Tallied false ∷ []; moves = told_one w (Tallied false) rest e refl; told = inr refl }
-tally_from (Said r ∷ rest) w e = faulted Tally w w (nothing w)
-tally_from (Room b ∷ rest) w e = faulted Tally w w (nothing w)
-tally_from (Fresh n ∷ rest) w e = faulted Tally w w (nothing w)
+refused_from : (x : HoldLimit) (rest : List Input) (w : World) → w.inputs ≡ Tallied false ∷ rest → TriedFrom Tally w (refused_at x rest w)
+refused_from Inside rest w e = faulted Tally w w (nothing w)
+refused_from AtEnd rest w e = record { used = Tallied false ∷ []; moves = told_one w (Tallied false) rest e refl; told = inr refl }
+refused_from OfDriver rest w e = record {
+  used = Tallied false ∷ [];
+  moves = record { more = []; inputs = e; events = sym (append-nil w.events); answers = refl };
+  told = inr refl;
+}
+
+tally_from : (x : HoldLimit) (inputs : List Input) (w : World) → w.inputs ≡ inputs → TriedFrom Tally w (tally_told x inputs w)
+tally_from x [] w e = faulted Tally w w (nothing w)
+tally_from x (Tallied true ∷ rest) w e = record { used = Tallied true ∷ []; moves = told_one w (Tallied true) rest e refl; room = refl }
+tally_from x (Tallied false ∷ rest) w e = refused_from x rest w e
+tally_from x (Said r ∷ rest) w e = faulted Tally w w (nothing w)
+tally_from x (Room b ∷ rest) w e = faulted Tally w w (nothing w)
+tally_from x (Fresh n ∷ rest) w e = faulted Tally w w (nothing w)
 
 tally_goes : (v : Slot) (w : World) → TriedFrom Tally w (tally_step v w)
 unfolding tally_step
 tally_goes (Bits n) w = nothing w
 tally_goes (Script None) w = nothing w
-tally_goes (Script (Some n)) w = tally_from w.inputs w refl
+tally_goes (Script (Some n)) w = tally_from (hold_limit_of (map.get w.objects n)) w.inputs w refl
 tally_goes (Host d None) w = nothing w
-tally_goes (Host d (Some k)) w = tally_from w.inputs w refl
+tally_goes (Host d (Some k)) w = tally_from OfDriver w.inputs w refl
 
 more_moves : (v : Slot) (w : World) → Moves w [] (one_more v w)
 unfolding one_more
@@ -276,7 +285,7 @@ module _ (z : Environment) (m : ℕ) (e : EntityNo) where
   called_goes (Of k) args w = asked_goes (Some k) (values_of (use_at z m e).driver (use_at z m e).params args) (use_at z m e).result w
   called_goes NullReceiver args w = faulted Null w w (nothing w)
 
-  read_goes : (r : Receiver) (w : World) → DoneFrom w (read_of z m e r w)
+  pub read_goes : (r : Receiver) (w : World) → DoneFrom w (read_of z m e r w)
   read_goes NoReceiver w = asked_goes None [] (use_at z m e).result w
   read_goes (Of k) w = asked_goes (Some k) [] (use_at z m e).result w
   read_goes NullReceiver w = faulted Null w w (nothing w)

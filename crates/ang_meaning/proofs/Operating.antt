@@ -24,7 +24,7 @@ use Rattle.ang_meaning.specs.declared.operation.Update.{Update}
 use Rattle.ang_meaning.specs.declared.operation.Operation.{Operation}
 use Rattle.ang_meaning.specs.declared.operation.Operation.TheVariants.{Binary, Compare, Convert, Negate, Complement, Not, Same, GlobalGet, GlobalSet, GlobalChange, Ask, Read, Write, Alter, Make, FieldGet, FieldSet, FieldChange, Cast}
 use Rattle.ang_meaning.specs.Numbers.{Worked, Is, Cannot, Changed, Into, Never, binary_result}
-use Rattle.ang_meaning.specs.World.{World, ScriptRecord, Input, Room, Said, Tallied, Fresh, with_inputs, if_told, Tried, Yes, No, memory_step, tally_told, tally_step, one_more, hold, give, or_else}
+use Rattle.ang_meaning.specs.World.{World, ScriptRecord, Input, Room, Said, Tallied, Fresh, with_inputs, if_told, Tried, Yes, No, memory_step, HoldLimit, Inside, AtEnd, OfDriver, hold_limit_of, refused_at, tally_told, tally_step, one_more, hold, give, or_else}
 use Rattle.ang_meaning.specs.declared.class.Class.{Class}
 use Rattle.ang_meaning.specs.Environment.{Environment, class_at, use_at, host_in, is_property, may_write, is_fit}
 use Rattle.ang_meaning.specs.Hosts.{Done, Fine, Fails, accepted, is_void, if_within, slot_of, replied_by, is_reply_to, asked_from, asked, value_of, values_of}
@@ -73,7 +73,7 @@ holding_counted v s (Yes w) p = p
 
 -- ---- what a driver answers
 
-abbrev KnownOption : World → Option Slot → Type 0
+abbrev pub KnownOption : World → Option Slot → Type 0
 KnownOption w None = Unit {0}
 KnownOption w (Some v) = HasObject v w.objects
 
@@ -81,7 +81,7 @@ within_known : (w : World) (b : Bool) (n : ℕ) → KnownOption w (if_within b n
 within_known w true n = tt
 within_known w false n = tt
 
-slot_known : (w : World) (d : ℕ) (ty : HostValueType) (v : Value) → KnownOption w (slot_of d ty v)
+pub slot_known : (w : World) (d : ℕ) (ty : HostValueType) (v : Value) → KnownOption w (slot_of d ty v)
 unfolding slot_of
 slot_known w d Nothing (Int z) = tt
 slot_known w d Nothing (Uint n) = tt
@@ -318,26 +318,27 @@ below_more n v w h b r g =
     let q = ranked n r g in
     subst (λ k. IsBelow (one_more v w).objects k v) q.2 (still_below w.objects (one_more v w).objects q.0.rank v ranked (b q.0 q.1))
 
-below_if : (b : Bool) (n : ℕ) (v : Slot) (is : List Input) (w : World) → AreSoundObjects w.objects → ((r : ScriptRecord) → map.get w.objects n ≡ Some r → IsBelow w.objects r.rank v)
-    → TriedBelow n v (or_else (if_told b (with_inputs is w)) No (λ u. Yes (one_more v u)))
-below_if true n v is w h b = below_more n v (with_inputs is w) h b
-below_if false n v is w h b = tt
+below_refused : (e : HoldLimit) (n : ℕ) (v : Slot) (is : List Input) (w : World) → TriedBelow n v (or_else (refused_at e is w) No (λ u. Yes (one_more v u)))
+below_refused Inside n v is w = tt
+below_refused AtEnd n v is w = tt
+below_refused OfDriver n v is w = tt
 
-below_from : (inputs : List Input) (n : ℕ) (v : Slot) (w : World) → AreSoundObjects w.objects → ((r : ScriptRecord) → map.get w.objects n ≡ Some r → IsBelow w.objects r.rank v)
-    → TriedBelow n v (or_else (tally_told inputs w) No (λ u. Yes (one_more v u)))
-below_from [] n v w h b = tt
-below_from (Tallied x ∷ rest) n v w h b = below_if x n v rest w h b
-below_from (Room x ∷ rest) n v w h b = tt
-below_from (Said r ∷ rest) n v w h b = tt
-below_from (Fresh k ∷ rest) n v w h b = tt
+below_from : (e : HoldLimit) (inputs : List Input) (n : ℕ) (v : Slot) (w : World) → AreSoundObjects w.objects → ((r : ScriptRecord) → map.get w.objects n ≡ Some r → IsBelow w.objects r.rank v)
+    → TriedBelow n v (or_else (tally_told e inputs w) No (λ u. Yes (one_more v u)))
+below_from e [] n v w h b = tt
+below_from e (Tallied true ∷ rest) n v w h b = below_more n v (with_inputs rest w) h b
+below_from e (Tallied false ∷ rest) n v w h b = below_refused e n v rest w
+below_from e (Room x ∷ rest) n v w h b = tt
+below_from e (Said r ∷ rest) n v w h b = tt
+below_from e (Fresh k ∷ rest) n v w h b = tt
 
 pub hold_below : (n : ℕ) (v : Slot) (w : World) → AreSoundObjects w.objects → ((r : ScriptRecord) → map.get w.objects n ≡ Some r → IsBelow w.objects r.rank v) → TriedBelow n v (hold v w)
 unfolding hold tally_step
 hold_below n (Bits x) w h b = below_more n (Bits x) w h b
 hold_below n (Script None) w h b = below_more n (Script None) w h b
-hold_below n (Script (Some k)) w h b = below_from w.inputs n (Script (Some k)) w h b
+hold_below n (Script (Some k)) w h b = below_from (hold_limit_of (map.get w.objects k)) w.inputs n (Script (Some k)) w h b
 hold_below n (Host d None) w h b = below_more n (Host d None) w h b
-hold_below n (Host d (Some k)) w h b = below_from w.inputs n (Host d (Some k)) w h b
+hold_below n (Host d (Some k)) w h b = below_from OfDriver w.inputs n (Host d (Some k)) w h b
 
 field_stored : (n i : ℕ) (v : Slot) (s : List Slot) (o : Tried) → TriedBelow n v o → TriedCounted (v ∷ Script (Some n) ∷ v ∷ s) (Script (Some n) ∷ v ∷ s) o
     → DoneCounted (Script (Some n) ∷ v ∷ []) s (gives_up (Script (Some n) ∷ []) (or_else o (Fails Tally) (stored_field n i v)))

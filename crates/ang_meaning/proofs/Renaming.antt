@@ -135,6 +135,7 @@ swapped_alike apart r a b s v w g h c p =
         hosts = p.hosts;
         globals = p.globals ∙ sym (globals_same r q s v agrees c);
         events = p.events;
+        spent = p.spent;
         inputs = p.inputs;
       },
       stack_same r q s v agrees c,

@@ -57,4 +57,5 @@ pub record Alike (r : Renaming) (v w : World) : Type 0 where
   pub hosts : w.hosts ≡ v.hosts
   pub globals : w.globals ≡ renamed_lists r v.globals
   pub events : w.events ≡ v.events
+  pub spent : w.spent ≡ v.spent
   pub inputs : SameButNumbers v.inputs w.inputs

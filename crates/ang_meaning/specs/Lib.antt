@@ -7,4 +7,5 @@ pub mod Results
 pub mod Told
 pub mod Counting
 pub mod Giving
+pub mod Causes
 pub mod Alike

@@ -1,6 +1,6 @@
 -- The world outside the locals of a run: objects with the counts of the places that hold them, globals, events, and what the run is told from
 -- outside (docs/MEANING.md, "The world of a run"; the AngelScript manual, "Memory management").
-use Rattle.std.specs.Prelude.{ℕ, zero, suc, Bool, true, false, cond, nat_eq, List, [], ◌∷◌, ◌++◌, Option, Some, None, if◌then◌else◌}
+use Rattle.std.specs.Prelude.{ℕ, zero, suc, ◌-◌, ◌^◌, Bool, true, false, cond, nat_eq, ltb, List, [], ◌∷◌, ◌++◌, Option, Some, None, if◌then◌else◌}
 use Rattle.std.specs.Ordering.{nat_cmp}
 use Rattle.std.specs.FinMap as map
 use Rattle.ang_host.specs.declared.answer.HostReply.{HostReply}
@@ -38,6 +38,8 @@ pub record World : Type 0 where
   pub hosts : HostCounts
   pub globals : List (List Slot)
   pub events : List HostEvent
+  -- whether a reference was refused since a driver's tally has run out
+  pub spent : Bool
   pub inputs : List Input
 
 abbrev pub with_inputs : List Input → World → World
@@ -88,17 +90,35 @@ one_more (Script (Some n)) w = record w { objects = script_raised n w.objects }
 one_more (Host d None) w = w
 one_more (Host d (Some k)) w = record w { hosts = host_raised d k w.hosts }
 
+-- Which limit a hold can meet: a script object's count stands at its end or inside it; of a host object the driver decides, whose
+-- tallies no world has.
+pub data HoldLimit : Type 0 where
+  Inside : HoldLimit
+  AtEnd : HoldLimit
+  OfDriver : HoldLimit
+
+abbrev pub hold_limit_of : Option ScriptRecord → HoldLimit
+hold_limit_of None = Inside
+hold_limit_of (Some o) = if ltb o.count (2 ^ 64 - 1) then Inside else AtEnd
+
+-- a refusal that can't be is left, as an input of another sort is; that of a driver is noted
+abbrev pub refused_at : HoldLimit → List Input → World → Tried
+refused_at Inside rest w = No w
+refused_at AtEnd rest w = No (with_inputs rest w)
+refused_at OfDriver rest w = No (record w { inputs = rest; spent = true })
+
 -- a tally is asked for room where an object is held once more
-abbrev pub tally_told : List Input → World → Tried
-tally_told (Tallied b ∷ rest) w = if_told b (with_inputs rest w)
-tally_told _ w = No w
+abbrev pub tally_told : HoldLimit → List Input → World → Tried
+tally_told e (Tallied true ∷ rest) w = Yes (with_inputs rest w)
+tally_told e (Tallied false ∷ rest) w = refused_at e rest w
+tally_told e _ w = No w
 
 unfoldable pub tally_step : Slot → World → Tried
 tally_step (Bits n) w = Yes w
 tally_step (Script None) w = Yes w
-tally_step (Script (Some n)) w = tally_told w.inputs w
+tally_step (Script (Some n)) w = tally_told (hold_limit_of (map.get w.objects n)) w.inputs w
 tally_step (Host d None) w = Yes w
-tally_step (Host d (Some k)) w = tally_told w.inputs w
+tally_step (Host d (Some k)) w = tally_told OfDriver w.inputs w
 
 -- one more place holds the value, unless a tally is full
 unfoldable pub hold : Slot → World → Tried

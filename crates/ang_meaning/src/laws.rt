@@ -1,4 +1,5 @@
 //! What holds of every world.
+ghost use Rattle.ang_meaning.specs.Causes.{BadAnswersAreBad, NoObjectIsMade, RefusedHoldsAreDue};
 ghost use Rattle.ang_meaning.specs.Counting.{NoRoots};
 ghost use Rattle.ang_meaning.specs.Giving.{GivesObjects, LeavesWorld};
 
@@ -16,4 +17,19 @@ pub fn giving_up()
 #[tactic(auto, using(crate::proofs::Roots::no_roots))]
 pub fn nothing_without_roots()
     ensures empty { NoRoots }
+{}
+
+/// What a host call faults for: with `BadAnswer` only where the driver's answer is not of the declared type or
+/// not in its range, and with `NoObject` only where a factory made none.
+#[tactic(auto, using(crate::proofs::Refused::bad_answer, crate::proofs::Refused::no_object))]
+pub fn answers_refused()
+    ensures bad_answer { BadAnswersAreBad }
+    ensures no_object { NoObjectIsMade }
+{}
+
+/// One place more of a value is refused only where that is due: of a script object where its count stands at
+/// its end, and of a host object where its driver refused a reference, which the world then notes.
+#[tactic(auto, using(crate::proofs::Refused::told_due))]
+pub fn holds_refused()
+    ensures due { RefusedHoldsAreDue }
 {}

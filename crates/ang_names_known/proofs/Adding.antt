@@ -14,7 +14,7 @@ use Rattle.ang_view.specs.Registration.{RegistrationList, entry_at, is_host_type
 use Rattle.ang_view.specs.Types.{enumeration_named, is_enumeration, is_enumeration_named, is_type_named, type_named}
 use Rattle.ang_view.proofs.Lists.{and_gives}
 use Rattle.ang_view.proofs.Seen.{length-seen, entry_at-seen}
-use Rattle.ang_view.proofs.ViewTypes.{has_mask-named, shown}
+use Rattle.ang_view.proofs.ViewTypes.{enumeration_is_type, has_mask-named, host_type_is_type, shown}
 use Rattle.ang_view.specs.Hidden.{names_entry, is_with, shown_from, seen_entry_with, seen_with}
 use Rattle.ang_types.specs.declared.arg_type.ArgType.TheVariants as type
 use Rattle.ang_names_known.specs.declared.host.SeenFunction.{SeenFunction}
@@ -66,26 +66,6 @@ position-at p xs ys e h = rw (prefix_len-at (λ x. not (p x)) xs ys e (λ k. ap 
 
 -- ---- types by name
 
-host_type_is : (k : EntryKind) → is_host_type k ≡ true → is_type k ≡ true
-host_type_is entry.HostType e = refl
-host_type_is entry.Factory e = cc
-host_type_is entry.Method e = cc
-host_type_is entry.Property e = cc
-host_type_is entry.Function e = cc
-host_type_is entry.Global e = cc
-host_type_is entry.Enumeration e = cc
-host_type_is (entry.EnumValue v) e = cc
-
-enumeration_is : (k : EntryKind) → is_enumeration k ≡ true → is_type k ≡ true
-enumeration_is entry.HostType e = cc
-enumeration_is entry.Factory e = cc
-enumeration_is entry.Method e = cc
-enumeration_is entry.Property e = cc
-enumeration_is entry.Function e = cc
-enumeration_is entry.Global e = cc
-enumeration_is entry.Enumeration e = refl
-enumeration_is (entry.EnumValue v) e = cc
-
 -- a test that types of one name alone pass
 pub record IsTypeTest (own : List ℕ) (p : Option Entry → Bool) : Type 0 where
   pub of_none : p None ≡ false
@@ -94,13 +74,13 @@ pub record IsTypeTest (own : List ℕ) (p : Option Entry → Bool) : Type 0 wher
 host_type_test : (name : List ℕ) → IsTypeTest name (is_type_named name)
 host_type_test name = record {
   of_none = refl;
-  of_some = λ t e. let both = and_gives (is_host_type t.kind) (bytes_eq t.signature.name name) e in (host_type_is t.kind both.0, (bytes_eq-Decides t.signature.name name).0 both.1);
+  of_some = λ t e. let both = and_gives (is_host_type t.kind) (bytes_eq t.signature.name name) e in (host_type_is_type t.kind both.0, (bytes_eq-Decides t.signature.name name).0 both.1);
 }
 
 enumeration_test : (name : List ℕ) → IsTypeTest name (is_enumeration_named name)
 enumeration_test name = record {
   of_none = refl;
-  of_some = λ t e. let both = and_gives (is_enumeration t.kind) (bytes_eq t.signature.name name) e in (enumeration_is t.kind both.0, (bytes_eq-Decides t.signature.name name).0 both.1);
+  of_some = λ t e. let both = and_gives (is_enumeration t.kind) (bytes_eq t.signature.name name) e in (enumeration_is_type t.kind both.0, (bytes_eq-Decides t.signature.name name).0 both.1);
 }
 
 or_right : (b c : Bool) → c ≡ true → (b || c) ≡ true

@@ -16,7 +16,7 @@ use Rattle.ang_names_known.specs.declared.host.Wanted.{Wanted}
 use Rattle.ang_names_known.specs.declared.host.Wanted.TheVariants as wanted
 use Rattle.ang_names_known.specs.declared.host.WantedProperty.{WantedProperty}
 use Rattle.ang_names_known.specs.declared.host.WantedProperty.TheVariants as property
-use Rattle.ang_names_known.specs.Host.{found, function_of_entry, host_type, host_where, is_global, is_method, is_property, is_wanted, is_wanted_property, property_found, property_where, property_with, wants_in}
+use Rattle.ang_names_known.specs.Host.{found, function_of_entry, host_type, host_where, is_global, is_method, is_property, is_wanted_property, property_found, property_where, property_with, wants_in}
 use Rattle.ang_names_known.specs.Among.{found_among, property_among}
 use Rattle.ang_names_known.proofs.Adding.{host_where-is, scan_n}
 use Rattle.ang_names_known.proofs.AddingProperties.{first_n, property_where-is}

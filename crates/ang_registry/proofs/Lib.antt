@@ -1,4 +1,3 @@
-pub mod Roles
 pub mod FirstRow
 pub mod Declared
 pub mod Tables

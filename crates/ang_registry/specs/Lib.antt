@@ -1,5 +1,4 @@
 pub mod Registrations
-pub mod Roles
 pub mod Declarations
 pub mod Overloads
 pub mod Types

@@ -107,7 +107,7 @@ module _ (name : List ℕ) (test : Option Entry → Bool) (asks : AsksType name 
       position-map test (seen_entry list m) list
       ∙ position-same (λ y. test (seen_entry list m y)) test list None (λ k l. same_test list m x k s f h (entry_at list k) refl (test (entry_at list k)) refl)
 
-host_type_is_type : (k : EntryKind) → is_host_type k ≡ true → is_type k ≡ true
+pub host_type_is_type : (k : EntryKind) → is_host_type k ≡ true → is_type k ≡ true
 host_type_is_type entry.HostType e = refl
 host_type_is_type entry.Factory e = cc
 host_type_is_type entry.Method e = cc
@@ -117,7 +117,7 @@ host_type_is_type entry.Global e = cc
 host_type_is_type entry.Enumeration e = cc
 host_type_is_type (entry.EnumValue v) e = cc
 
-enumeration_is_type : (k : EntryKind) → is_enumeration k ≡ true → is_type k ≡ true
+pub enumeration_is_type : (k : EntryKind) → is_enumeration k ≡ true → is_type k ≡ true
 enumeration_is_type entry.HostType e = cc
 enumeration_is_type entry.Factory e = cc
 enumeration_is_type entry.Method e = cc

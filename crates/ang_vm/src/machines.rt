@@ -21,7 +21,7 @@ use crate::bodies::run_from;
 use crate::lookups::result_type;
 use crate::start::{start_call, start_initializer};
 use ang_heap::{Store, give};
-use ang_host::{Driver, HostEvent};
+use ang_host::{Driver, EventBuffer};
 use ang_kinds::{Fault, Value};
 use ang_meaning::{Routine, Slot};
 use ang_vm_stack::place::RunResult;
@@ -206,14 +206,14 @@ fn initializer_told(
 }
 
 /// Puts a command's events into the machine's store.
-fn lend(machine: &mut Machine, events: &mut Vec<HostEvent>)
+fn lend(machine: &mut Machine, events: &mut EventBuffer)
     ensures lent { machine.new.store ≡ lent machine.old events.old }
 {
     mem::swap(&mut machine.store.events, events);
 }
 
 /// Takes them out again.
-fn take_back(machine: &mut Machine, events: &mut Vec<HostEvent>)
+fn take_back(machine: &mut Machine, events: &mut EventBuffer)
     ensures back { lent machine.new events.new ≡ machine.old.store }
 {
     mem::swap(&mut machine.store.events, events);
@@ -238,7 +238,7 @@ pub fn run(
     entry: Routine,
     args: &[Slot],
     budget: u64,
-    events: &mut Vec<HostEvent>,
+    events: &mut EventBuffer,
 ) -> Result<Option<Value>, Fault>
     requires drivers { DriversThere table.now (length (members machine.old.store.drivers)) }
     requires ready { IsReady ⟦<dyn Driver as Driver>⟧ (lent machine.old events.old) }
@@ -276,7 +276,7 @@ pub fn run_initializer(
     machine: &mut Machine,
     entry: Routine,
     ticks: u64,
-    events: &mut Vec<HostEvent>,
+    events: &mut EventBuffer,
 ) -> Result<u64, Fault>
     requires drivers { DriversThere table.now (length (members machine.old.store.drivers)) }
     requires ready { IsReady ⟦<dyn Driver as Driver>⟧ (lent machine.old events.old) }

@@ -90,10 +90,10 @@ by_calling role f a e = ap (λ x. is_reply_to x (Asking a)) e
 pub by_property : (role : Role) (f : ℕ) (a : Answer) → role ≡ PropertyRole f → is_reply_to role (Asking a) ≡ true
 by_property role f a e = ap (λ x. is_reply_to x (Asking a)) e
 
--- the event with the copies that it took
-pub listed_by : (es fs gs : List HostEvent) (name name' : List ℕ) (e : EntityNo) (d : ℕ) (object : Option ℕ) (args args' : List Value) (reply : HostReply)
-    → es ≡ fs ++ Called name' e d object args' reply ∷ [] → fs ≡ gs → name' ≡ name → args' ≡ args → es ≡ gs ++ Called name e d object args reply ∷ []
-listed_by es fs gs name name' e d object args args' reply h p q r = h ∙ (λ j. p j ++ Called (q j) e d object (r j) reply ∷ [])
+-- the event with the arguments as they were handed over
+pub listed_by : (es fs gs : List HostEvent) (name : List ℕ) (e : EntityNo) (d : ℕ) (object : Option ℕ) (args args' : List Value) (reply : HostReply)
+    → es ≡ fs ++ Called name e d object args' reply ∷ [] → fs ≡ gs → args' ≡ args → es ≡ gs ++ Called name e d object args reply ∷ []
+listed_by es fs gs name e d object args args' reply h p r = h ∙ (λ j. p j ++ Called name e d object (r j) reply ∷ [])
 
 -- there is enough for the new object's first place too
 pub made_can : (d : ℕ) (r : Made) (vs : List Slot) (w : World) → CanGive vs w → CanGive (with_result (made_as d r) vs) (record w { hosts = made_by r d w.hosts })

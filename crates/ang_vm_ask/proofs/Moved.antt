@@ -1,10 +1,9 @@
 -- A store after a host call, and after several.
-use Rattle.std.proofs.Common.{◌≡◌, ℕ, ◌+◌, ◌≤◌, List, [], ◌∷◌, ◌++◌, length, refl, sym, ap, ◌∙◌, arith, append-nil}
-use Rattle.std.specs.Prelude.{vec_len, vec_capacity}
+use Rattle.std.proofs.Common.{◌≡◌, ℕ, ◌+◌, ◌<◌, ◌≤◌, List, [], ◌∷◌, ◌++◌, length, refl, sym, ap, ◌∙◌, arith, append-nil}
 use Rattle.std.proofs.lemmas.List.{length-map}
-use Rattle.std.specs.declared.alloc.Global.{Global}
-use Rattle.std.specs.declared.vec.Vec.{Vec}
 use Rattle.ang_kinds.specs.declared.mask.EntityNo.{EntityNo}
+use Rattle.ang_host.specs.Logs.{listed_in, is_heard, log_len, log_capacity}
+use Rattle.ang_host.specs.declared.event_buffer.EventBuffer.{EventBuffer}
 use Rattle.ang_host.specs.declared.answer.Answer.{Answer}
 use Rattle.ang_host.specs.declared.answer.Made.{Made}
 use Rattle.ang_host.specs.declared.answer.Made.TheVariants.{Key as MadeKey, Nothing as MadeNothing, Fault as MadeFault, Memory as MadeMemory, Full as MadeFull}
@@ -20,6 +19,7 @@ use Rattle.ang_host.specs.Events.{role_at, DriversFollow}
 use Rattle.ang_host.proofs.Events.{AllFollow-none, AllFollow-length}
 use Rattle.ang_heap.specs.declared.store.Store.{Store}
 use Rattle.ang_heap.specs.Stores.{IsReady, StoreMoves}
+use Rattle.ang_heap.proofs.Spending.{answered_out, made_out}
 use Rattle.ang_heap.proofs.Hosting.{answer_live, answer_ready, answer_length, born, made_live, made_ready}
 use Rattle.ang_heap.proofs.Storing.{moves_none, moves_join}
 use Rattle.ang_vm_ask.specs.Askings.{StoreAsked}
@@ -64,55 +64,81 @@ module _ {V : Type 0} {P : V → Type 0} (m : Meanings P) where
 
     module _ (s : Store V P) where
       -- more room, and nothing was asked
-      pub refused_asked : (es fs : Vec HostEvent Global) → es.items ≡ s.events.items → vec_len es ≡ vec_len s.events → vec_capacity s.events ≤ vec_capacity es
-          → fs.items ≡ s.ends.items → vec_len fs ≡ vec_len s.ends → vec_capacity s.ends ≤ vec_capacity fs → StoreAsked m e role s (record s { events = es; ends = fs })
-      refused_asked es fs items len capacity items' len' capacity' =
+      pub refused_asked : (es fs : EventBuffer) → listed_in es ≡ listed_in s.events → log_len es ≡ log_len s.events → log_capacity s.events ≤ log_capacity es → is_heard es ≡ is_heard s.events
+          → listed_in fs ≡ listed_in s.ends → log_len fs ≡ log_len s.ends → log_capacity s.ends ≤ log_capacity fs → StoreAsked m e role s (record s { events = es; ends = fs })
+      refused_asked es fs items len capacity heard items' len' capacity' =
           moved_asked s (record s { events = es; ends = fs }) (λ roles. record {
-            parts = record { more = []; events = items ∙ sym (append-nil s.events.items); follow = AllFollow-none (λ b. state_in m b) (λ b. b.vtable) (λ v. (m v).meaning.fits) roles (members s.drivers) };
+            parts = record { more = []; events = items ∙ sym (append-nil (listed_in s.events)); follow = AllFollow-none (λ b. state_in m b) (λ b. b.vtable) (λ v. (m v).meaning.fits) roles (members s.drivers) };
             ready = λ r. record {
               kept = record {
                 drivers = record { sound = r.kept.drivers.sound; room = omega (arith, r.kept.drivers.room, len', capacity') };
                 alive = r.kept.alive;
                 none = items' ∙ r.kept.none;
+                due = r.kept.due;
+                tallied = r.kept.tallied;
               };
               room = omega (arith, r.room, len, capacity);
             };
+            heard = heard;
+            limits = refl;
+            within = λ r n k o a w. record { slots = w.slots; events = omega (arith, w.events, len); objects = w.objects };
           })
 
-      module _ (ds : Drivers V P) (es : Vec HostEvent Global) (event : HostEvent) (d : ℕ) (ask : Ask)
-          (listed : es.items ≡ s.events.items ++ event ∷ []) (follow : (roles : List Role) → role_at roles e.0 ≡ role → DriversFollow m roles (members s.drivers) (event ∷ []) (members ds)) where
-        pub answered_asked : (r : Answer) → DriverMoved m (members s.drivers) d (λ f x y. Answered f x ask r y) (members ds) → vec_len es + s.live ≤ vec_capacity es
-            → StoreAsked m e role s (record s { drivers = ds; events = es })
-        answered_asked r moved room =
+      module _ (ds : Drivers V P) (es : EventBuffer) (event : HostEvent) (d : ℕ) (ask : Ask)
+          (listed : listed_in es ≡ listed_in s.events ++ event ∷ []) (follow : (roles : List Role) → role_at roles e.0 ≡ role → DriversFollow m roles (members s.drivers) (event ∷ []) (members ds)) where
+        pub answered_asked : (r : Answer) → DriverMoved m (members s.drivers) d (λ f x y. Answered f x ask r y) (members ds) → log_len es + s.live ≤ log_capacity es
+            → is_heard es ≡ is_heard s.events → log_len es + s.live ≤ s.limits.events → StoreAsked m e role s (record s { drivers = ds; events = es })
+        answered_asked r moved room heard limit =
             let readied : IsReady m s → IsReady m (record s { drivers = ds; events = es }) = λ rd. record {
               kept = record {
                 drivers = answer_ready _ _ _ _ _ d ask r moved _ _ _ _ rd.kept.drivers rd.kept.drivers.room;
                 alive = rd.kept.alive ∙ sym (answer_live _ _ _ _ _ d ask r moved);
                 none = rd.kept.none;
+                due = λ h. answered_out (λ b. state_in m b) (λ b. b.vtable) (λ v. (m v).meaning.fits) (members s.drivers) (members ds) d ask r moved (rd.kept.due h);
+                tallied = rd.kept.tallied;
               };
               room = room;
             } in
             record {
-              moves = λ roles h. record { parts = record { more = event ∷ []; events = listed; follow = follow roles h }; ready = readied };
+              moves = λ roles h. record {
+                parts = record { more = event ∷ []; events = listed; follow = follow roles h };
+                ready = readied;
+                heard = heard;
+                limits = refl;
+                within = λ rd n k o a w. record { slots = w.slots; events = omega (arith, limit, a.events); objects = w.objects };
+              };
               ready = readied;
               same = answer_length _ _ _ _ _ d ask r moved;
             }
 
         -- an object more may live then
-        pub made_asked : (fs : Vec HostEvent Global) (r : Made) → DriverMoved m (members s.drivers) d (λ f x y. WasMade f x ask r y) (members ds) → vec_len es + (s.live + 1) ≤ vec_capacity es
-            → fs.items ≡ s.ends.items → vec_len fs + (s.live + 1) ≤ vec_capacity fs
+        pub made_asked : (fs : EventBuffer) (r : Made) → DriverMoved m (members s.drivers) d (λ f x y. WasMade f x ask r y) (members ds) → log_len es + (s.live + 1) ≤ log_capacity es
+            → is_heard es ≡ is_heard s.events → log_len es + (s.live + 1) ≤ s.limits.events → s.live < s.limits.objects
+            → listed_in fs ≡ listed_in s.ends → log_len fs + (s.live + 1) ≤ log_capacity fs
             → StoreAsked m e role s (record s { drivers = ds; events = es; ends = fs; live = s.live + objects_made r })
-        made_asked fs r moved room items room' =
+        made_asked fs r moved room heard limit few items room' =
             let readied : IsReady m s → IsReady m (record s { drivers = ds; events = es; ends = fs; live = s.live + objects_made r }) = λ rd. record {
               kept = record {
                 drivers = made_ready _ _ _ _ _ d ask r moved _ _ _ _ rd.kept.drivers (omega (arith, room', rd.kept.alive, born_one r));
                 alive = omega (arith, born_as r, rd.kept.alive, made_live _ _ _ _ _ d ask r moved);
                 none = items ∙ rd.kept.none;
+                due = λ h. made_out (λ b. state_in m b) (λ b. b.vtable) (λ v. (m v).meaning.fits) (members s.drivers) (members ds) d ask r moved (rd.kept.due h);
+                tallied = rd.kept.tallied;
               };
               room = omega (arith, room, born_as r, born_one r);
             } in
             record {
-              moves = λ roles h. record { parts = record { more = event ∷ []; events = listed; follow = follow roles h }; ready = readied };
+              moves = λ roles h. record {
+                parts = record { more = event ∷ []; events = listed; follow = follow roles h };
+                ready = readied;
+                heard = heard;
+                limits = refl;
+                within = λ rd n k o a w. record {
+                  slots = w.slots;
+                  events = omega (arith, limit, a.events, born_as r, born_one r);
+                  objects = omega (arith, few, a.objects, born_as r, born_one r);
+                };
+              };
               ready = readied;
               same = made_length _ _ _ _ _ d r moved;
             }

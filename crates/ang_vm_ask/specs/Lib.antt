@@ -6,3 +6,4 @@ pub mod Entities
 pub mod Fitting
 pub mod Handing
 pub mod Replies
+pub mod Arguments

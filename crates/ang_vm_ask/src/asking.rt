@@ -1,8 +1,8 @@
 //! One host call of a driver, over the store of a run.
 //!
-//! All memory is taken first: for the event, with the copies that it takes, and for the end of each object
-//! that lives or may live then. So a driver whose answer can't be listed is never asked, and giving up takes
-//! no memory.
+//! All memory is taken first: for the event, and for the end of each object that lives or may live then. So a driver
+//! whose answer can't be listed is never asked, and giving up takes no memory. What would go beyond the store's limits is
+//! refused there too, as where there is no memory.
 ghost use Rattle.std.specs.Prelude.{◌≡◌, ℕ, ◌+◌, ◌^◌, ◌<◌, [], ◌∷◌, List, length, None};
 ghost use Rattle.ang_host.specs.declared.event.Role.TheVariants.{Making as MakingRole, Calling as CallingRole, Property as PropertyRole};
 ghost use Rattle.ang_host.specs.Boxes.{members};
@@ -16,11 +16,12 @@ ghost use Rattle.ang_vm_ask.specs.Askings.{Sees, StoreAsked, driver_state};
 ghost use Rattle.ang_vm_stack.specs.Arms.{done};
 ghost use Rattle.ang_vm_ask.specs.Replies.{with_result, made_as, objects_made};
 
+use crate::arguments::arguments_for;
 use crate::replies::take_answer;
-use crate::rooms::{call_room, room_for, room_for_ends, write_room};
+use crate::rooms::{room_for_call, room_for_ends};
 use ang_heap::Store;
 use ang_host::{Driver, Made, call_listed, make_listed, read_listed, write_listed};
-use ang_kinds::{EntityNo, Fault, List};
+use ang_kinds::{EntityNo, Fault};
 use ang_meaning::{HostUse, HostValueType, Slot};
 use ang_vm_numbers::value_from;
 use std::alloc::Global;
@@ -51,8 +52,12 @@ pub(crate) fn call(
         → CanGive (with_result result vs) (world_of ⟦<dyn Driver as Driver>⟧ store.new) }
     ensures asked { StoreAsked ⟦<dyn Driver as Driver>⟧ entity host.now.role store.old store.new }
 {
-    let more = store.live + 1;
-    let Ok((caller, args)) = call_room(alloc, &mut store.events, more, caller, host, args) else {
+    let Ok(values) = arguments_for(alloc, host, args) else {
+        return Err(Fault::Memory);
+    };
+    let args = values.as_slice();
+    let most = store.limits.events;
+    let Ok(()) = room_for_call(&mut store.events, most, store.live, caller, args.len()) else {
         return Err(Fault::Memory);
     };
     let answer = call_listed(
@@ -70,7 +75,6 @@ pub(crate) fn call(
 
 /// Reads the property of that number of its driver. The event is listed, whatever the answer.
 pub(crate) fn read(
-    alloc: Global,
     store: &mut Store,
     caller: &[u8],
     entity: EntityNo,
@@ -90,8 +94,8 @@ pub(crate) fn read(
         → CanGive (with_result result vs) (world_of ⟦<dyn Driver as Driver>⟧ store.new) }
     ensures asked { StoreAsked ⟦<dyn Driver as Driver>⟧ entity host.now.role store.old store.new }
 {
-    let more = store.live + 1;
-    let Ok(caller) = room_for(alloc, &mut store.events, more, caller) else {
+    let most = store.limits.events;
+    let Ok(()) = room_for_call(&mut store.events, most, store.live, caller, 0) else {
         return Err(Fault::Memory);
     };
     let answer = read_listed(
@@ -102,7 +106,6 @@ pub(crate) fn read(
         host.driver,
         number,
         object,
-        List::from_vec(Vec::new(alloc)),
     );
     take_answer(store, host.driver, host.result, answer)
 }
@@ -110,7 +113,6 @@ pub(crate) fn read(
 /// Writes the property of that number of its driver, and answers 0 where it went well. The event is listed,
 /// whatever the answer.
 pub(crate) fn write(
-    alloc: Global,
     store: &mut Store,
     caller: &[u8],
     entity: EntityNo,
@@ -135,11 +137,11 @@ pub(crate) fn write(
         → CanGive (with_result result vs) (world_of ⟦<dyn Driver as Driver>⟧ store.new) }
     ensures asked { StoreAsked ⟦<dyn Driver as Driver>⟧ entity host.now.role store.old store.new }
 {
-    let more = store.live + 1;
-    let value = value_from(host.driver, host.result, value);
-    let Ok((caller, args)) = write_room(alloc, &mut store.events, more, caller, value) else {
+    let most = store.limits.events;
+    let Ok(()) = room_for_call(&mut store.events, most, store.live, caller, 1) else {
         return Err(Fault::Memory);
     };
+    let value = value_from(host.driver, host.result, value);
     let answer = write_listed(
         &mut store.drivers,
         &mut store.events,
@@ -148,7 +150,7 @@ pub(crate) fn write(
         host.driver,
         number,
         object,
-        args,
+        value,
     );
     take_answer(store, host.driver, HostValueType::Nothing, answer)
 }
@@ -207,11 +209,19 @@ pub(crate) fn make(
         → CanGive (with_result result vs) (world_of ⟦<dyn Driver as Driver>⟧ store.new) }
     ensures asked { StoreAsked ⟦<dyn Driver as Driver>⟧ entity host.now.role store.old store.new }
 {
-    let more = store.live + 2;
-    let Ok((caller, args)) = call_room(alloc, &mut store.events, more, caller, host, args) else {
+    if store.live >= store.limits.objects {
+        return Err(Fault::Memory);
+    }
+    let Ok(values) = arguments_for(alloc, host, args) else {
         return Err(Fault::Memory);
     };
-    let Ok(()) = room_for_ends(&mut store.ends, more - 1) else {
+    let args = values.as_slice();
+    let most = store.limits.events;
+    let ends = store.live + 1;
+    let Ok(()) = room_for_call(&mut store.events, most, ends, caller, args.len()) else {
+        return Err(Fault::Memory);
+    };
+    let Ok(()) = room_for_ends(&mut store.ends, ends) else {
         return Err(Fault::Memory);
     };
     let answer = make_listed(

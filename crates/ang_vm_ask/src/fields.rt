@@ -1,5 +1,8 @@
 //! Operations on script objects: one is made, its fields are read, stored and changed, and handles are cast.
-ghost use Rattle.std.specs.Prelude.{◌≡◌, ℕ, ◌∷◌, nat_eq, List, []};
+//!
+//! Here they are done on the store, without a stack. `fields.rt` of `ang_vm_steps` does the same as single instructions,
+//! with their operands on the stack, and that of `ang_vm_fields` does several of these instructions at once.
+ghost use Rattle.std.specs.Prelude.{◌≡◌, ℕ, Bool, ◌∷◌, nat_eq, List, []};
 ghost use Rattle.std.specs.List.{list_any};
 ghost use Rattle.ang_host.specs.declared.event.HostEvent.{HostEvent};
 ghost use Rattle.ang_meaning.specs.declared.operation.Operation.TheVariants.{Make, FieldGet, FieldSet, FieldChange, Cast};
@@ -48,8 +51,8 @@ fn is_lower(first: Option<usize>, second: Option<usize>) -> bool
 /// Whether a field of an object may take a value: a script object has to be of a lower rank than its holder.
 fn may_take(heap: &Heap, number: usize, value: Slot) -> bool
     ensures exact { (hs : HostCounts) (gs : List (List Slot)) (es : List HostEvent)
-        (is : List Input)
-        → result ≡ may_take_in number value (world_by (objects_of heap.now) hs gs es is) }
+        (sp : Bool) (is : List Input)
+        → result ≡ may_take_in number value (world_by (objects_of heap.now) hs gs es sp is) }
 {
     match value {
         Slot::Bits(_) => true,
@@ -84,7 +87,7 @@ pub fn trade_member(store: &mut Store, object: Slot, index: usize, value: Slot) 
 /// A new object of a class.
 ///
 /// # Errors
-/// `Memory` where there is none for it.
+/// `Memory` where there is none for it, or where it would take more slots than script objects may.
 pub fn make(store: &mut Store, class: &Class) -> Result<Slot, Fault>
     requires ready { IsReady ⟦<dyn Driver as Driver>⟧ store.old }
     ensures told { (z : Environment) (home number : ℕ) → class_of_number z home number ≡ class.now
@@ -92,6 +95,10 @@ pub fn make(store: &mut Store, class: &Class) -> Result<Slot, Fault>
         (done result) store.new }
     ensures moves { HasMoved ⟦<dyn Driver as Driver>⟧ store.old store.new }
 {
+    let count = class.fields.as_slice().len();
+    if !store.heap.has_slots(count, store.limits.slots) {
+        return Err(Fault::Memory);
+    }
     match store.heap.make(class) {
         Ok(number) => Ok(Slot::Script(Some(number))),
         Err(_) => Err(Fault::Memory),

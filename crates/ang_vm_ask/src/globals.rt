@@ -1,5 +1,8 @@
 //! Operations on the globals of a module.
-ghost use Rattle.std.specs.Prelude.{◌≡◌, ◌∷◌, List, []};
+//!
+//! Here they are done on the store, without a stack. `globals.rt` of `ang_vm_steps` does the same as single instructions,
+//! with their operands on the stack, and that of `ang_vm_fields` does several of these instructions at once.
+ghost use Rattle.std.specs.Prelude.{◌≡◌, ◌∷◌, []};
 ghost use Rattle.ang_meaning.specs.declared.operation.Operation.TheVariants.{GlobalGet, GlobalSet, GlobalChange};
 ghost use Rattle.ang_meaning.specs.Environment.{Environment};
 ghost use Rattle.ang_meaning.specs.Perform.{perform, global_or, global_put};

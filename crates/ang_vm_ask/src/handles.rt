@@ -1,5 +1,8 @@
 //! Handles: which are null, and which name one object.
-ghost use Rattle.std.specs.Prelude.{◌≡◌, ℕ, ◌∷◌, List, []};
+//!
+//! Here two values are compared, without a stack. `handles.rt` of `ang_vm_steps` has the instruction, with its operands
+//! on the stack; that of `ang_vm_fields` has steps that move and give up handles.
+ghost use Rattle.std.specs.Prelude.{◌≡◌, ℕ, ◌∷◌, []};
 ghost use Rattle.ang_meaning.specs.declared.slot.Slot.TheVariants.{Bits as Number};
 ghost use Rattle.ang_meaning.specs.declared.operation.Operation.TheVariants.{Same};
 ghost use Rattle.ang_meaning.specs.Environment.{Environment, is_null as is_null_slot};

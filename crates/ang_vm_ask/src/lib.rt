@@ -6,7 +6,9 @@
 //! docs/EMBEDDING.md, "Drivers"); `ang_vm_steps` has the operands on its stack.
 #![tactic(auto)]
 
+mod arguments;
 mod asking;
+mod few_values;
 pub mod fields;
 mod fitting;
 pub mod globals;

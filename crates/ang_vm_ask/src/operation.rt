@@ -36,7 +36,6 @@ use std::alloc::Global;
 
 /// Writes a property, and answers `given` where that went well.
 fn put(
-    alloc: Global,
     store: &mut Store,
     caller: &[u8],
     entity: EntityNo,
@@ -61,7 +60,7 @@ fn put(
     ensures enough { StillGives ⟦<dyn Driver as Driver>⟧ store.old store.new }
     ensures asked { StoreAsked ⟦<dyn Driver as Driver>⟧ entity host.now.role store.old store.new }
 {
-    match write(alloc, store, caller, entity, host, number, object, stored) {
+    match write(store, caller, entity, host, number, object, stored) {
         Ok(_) => Ok(given),
         Err(fault) => Err(fault),
     }
@@ -70,7 +69,6 @@ fn put(
 /// Writes what was worked out of a property's value into it, and answers the value that is to be given.
 /// Where nothing could be worked out, the value that was read is given up.
 fn put_changed(
-    alloc: Global,
     store: &mut Store,
     caller: &[u8],
     entity: EntityNo,
@@ -99,9 +97,7 @@ fn put_changed(
         Ok(altered) => {
             let stored = Slot::Bits(altered.stored);
             let given = Slot::Bits(altered.given);
-            put(
-                alloc, store, caller, entity, host, number, object, stored, given,
-            )
+            put(store, caller, entity, host, number, object, stored, given)
         }
         Err(fault) => {
             give(store, old);
@@ -144,7 +140,6 @@ fn perform_ask(
 
 /// Reads the property that the entry is. What is no property is `Null`, and nothing is asked.
 fn perform_read(
-    alloc: Global,
     store: &mut Store,
     caller: &[u8],
     entity: EntityNo,
@@ -164,7 +159,7 @@ fn perform_read(
         return Err(Fault::Null);
     };
     match object_of(host, operands) {
-        Ok(object) => read(alloc, store, caller, entity, host, number, object),
+        Ok(object) => read(store, caller, entity, host, number, object),
         Err(fault) => Err(fault),
     }
 }
@@ -172,7 +167,6 @@ fn perform_read(
 /// Writes the first operand to the property that the entry is, and answers that operand. What is no property is
 /// `Null`, and nothing is asked.
 fn perform_write(
-    alloc: Global,
     store: &mut Store,
     caller: &[u8],
     entity: EntityNo,
@@ -195,9 +189,7 @@ fn perform_write(
         return Err(Fault::Null);
     };
     match object_of(host, behind_first(operands)) {
-        Ok(object) => put(
-            alloc, store, caller, entity, host, number, object, value, value,
-        ),
+        Ok(object) => put(store, caller, entity, host, number, object, value, value),
         Err(fault) => Err(fault),
     }
 }
@@ -205,7 +197,6 @@ fn perform_write(
 /// Reads the property that the entry is, changes its value by the first operand, and writes it. The answer is the
 /// old value or the new one, as `by` says. What is no property is `Null`, and nothing is asked.
 fn perform_alter(
-    alloc: Global,
     store: &mut Store,
     caller: &[u8],
     entity: EntityNo,
@@ -232,12 +223,10 @@ fn perform_alter(
         Ok(object) => object,
         Err(fault) => return Err(fault),
     };
-    match read(alloc, store, caller, entity, host, number, object) {
+    match read(store, caller, entity, host, number, object) {
         Ok(old) => {
             let altered = change_slot(by, old, operand);
-            put_changed(
-                alloc, store, caller, entity, host, number, object, old, altered,
-            )
+            put_changed(store, caller, entity, host, number, object, old, altered)
         }
         Err(fault) => Err(fault),
     }
@@ -266,11 +255,9 @@ fn perform_apart(
 {
     match *operation {
         Operation::Ask(entity) => perform_ask(alloc, store, caller, entity, host, operands),
-        Operation::Read(entity) => perform_read(alloc, store, caller, entity, host, operands),
-        Operation::Write(entity) => perform_write(alloc, store, caller, entity, host, operands),
-        Operation::Alter(entity, by) => {
-            perform_alter(alloc, store, caller, entity, host, by, operands)
-        }
+        Operation::Read(entity) => perform_read(store, caller, entity, host, operands),
+        Operation::Write(entity) => perform_write(store, caller, entity, host, operands),
+        Operation::Alter(entity, by) => { perform_alter(store, caller, entity, host, by, operands) }
         Operation::Binary(_, _) => Err(Fault::Null),
         Operation::Compare(_, _) => Err(Fault::Null),
         Operation::Convert(_) => Err(Fault::Null),

@@ -1,102 +1,51 @@
-//! The memory for a host call, all of which is taken before the driver is asked.
-ghost use Rattle.std.specs.Prelude.{◌≡◌, ◌+◌, ◌≤◌, [], ◌∷◌, IfOk, OnOk, vec_len, vec_capacity};
-ghost use Rattle.ang_meaning.specs.Hosts.{value_of, values_of};
+//! Room for what a host call lists, all of which is taken before the driver is asked.
+ghost use Rattle.std.specs.Prelude.{◌≡◌, ◌+◌, ◌<◌, ◌≤◌, ◌↔◌, IsTrue, OnOk};
+ghost use Rattle.ang_host.specs.Logs.{listed_in, is_heard, log_len, log_capacity, HasRoomForCall};
 
-use ang_host::HostEvent;
-use ang_kinds::{List, Value};
-use ang_meaning::{HostUse, HostValueType, Slot};
-use ang_vm_numbers::value_from;
-use std::alloc::{AllocError, Global};
+use ang_host::EventBuffer;
+use std::alloc::AllocError;
 
-/// Room for `more` events more, and a copy of the caller's name for one of them.
+/// Whether there may be one event more, and then `ends` more.
+#[inline(always)]
+fn is_within(count: usize, ends: usize, most: usize) -> bool
+    ensures exact { IsTrue result ↔ (count + ends < most) }
+{
+    count < most && ends < most - count
+}
+
+/// Room for a host call by `caller` with `count` arguments, and then for the ends of `ends` objects, where that is no
+/// more than `most` events in all.
 ///
 /// # Errors
-/// There is no memory. The room that there is by then stays.
+/// There is no memory, or there would be too many events. The room that there is by then stays.
 #[inline(always)]
-pub(crate) fn room_for(
-    alloc: Global,
-    events: &mut Vec<HostEvent>,
-    more: usize,
+pub(crate) fn room_for_call(
+    events: &mut EventBuffer,
+    most: usize,
+    ends: usize,
     caller: &[u8],
-) -> Result<List<u8>, AllocError>
-    ensures events { events.new.items ≡ events.old.items }
-    ensures len { vec_len events.new ≡ vec_len events.old }
-    ensures capacity { vec_capacity events.old ≤ vec_capacity events.new }
-    ensures room { OnOk result (vec_len events.new + more ≤ vec_capacity events.new) }
-    ensures caller { IfOk result (λ name. name ≡ caller.now) }
+    count: usize,
+) -> Result<(), AllocError>
+    ensures events { listed_in events.new ≡ listed_in events.old }
+    ensures len { log_len events.new ≡ log_len events.old }
+    ensures capacity { log_capacity events.old ≤ log_capacity events.new }
+    ensures heard { is_heard events.new ≡ is_heard events.old }
+    ensures room { OnOk result (log_len events.new + ends < log_capacity events.new) }
+    ensures within { OnOk result (log_len events.new + ends < most) }
+    ensures call { OnOk result (HasRoomForCall caller.now count events.new) }
 {
-    events.reserve(more)?;
-    let caller = Vec::from_slice(alloc, caller)?;
-    Ok(List::from_vec(caller))
-}
-
-/// Slots as they are handed to a driver, each by its declared type.
-#[inline(always)]
-pub(crate) fn values_from(
-    alloc: Global,
-    driver: u32,
-    types: &[HostValueType],
-    slots: &[Slot],
-) -> Result<List<Value>, AllocError>
-    ensures exact { IfOk result (λ values. values ≡ values_of driver types.now slots.now) }
-{
-    let count = types.len().min(slots.len());
-    let mut values = Vec::with_capacity(alloc, count)?;
-    for i in 0..count {
-        values.push(value_from(driver, types[i], slots[i]))?;
+    if !is_within(events.len(), ends, most) {
+        return Err(AllocError);
     }
-    Ok(List::from_vec(values))
-}
-
-/// The memory for the event of a call.
-#[inline(always)]
-pub(crate) fn call_room(
-    alloc: Global,
-    events: &mut Vec<HostEvent>,
-    more: usize,
-    caller: &[u8],
-    host: &HostUse,
-    args: &[Slot],
-) -> Result<(List<u8>, List<Value>), AllocError>
-    ensures events { events.new.items ≡ events.old.items }
-    ensures len { vec_len events.new ≡ vec_len events.old }
-    ensures capacity { vec_capacity events.old ≤ vec_capacity events.new }
-    ensures room { OnOk result (vec_len events.new + more ≤ vec_capacity events.new) }
-    ensures caller { IfOk result (λ p. p.0 ≡ caller.now) }
-    ensures args { IfOk result (λ p. p.1 ≡ values_of host.now.driver host.now.params args.now) }
-{
-    let caller = room_for(alloc, events, more, caller)?;
-    let args = values_from(alloc, host.driver, host.params.as_slice(), args)?;
-    Ok((caller, args))
-}
-
-/// The memory for the event of a write.
-pub(crate) fn write_room(
-    alloc: Global,
-    events: &mut Vec<HostEvent>,
-    more: usize,
-    caller: &[u8],
-    value: Value,
-) -> Result<(List<u8>, List<Value>), AllocError>
-    ensures events { events.new.items ≡ events.old.items }
-    ensures len { vec_len events.new ≡ vec_len events.old }
-    ensures capacity { vec_capacity events.old ≤ vec_capacity events.new }
-    ensures room { OnOk result (vec_len events.new + more ≤ vec_capacity events.new) }
-    ensures caller { IfOk result (λ p. p.0 ≡ caller.now) }
-    ensures args { IfOk result (λ p. p.1 ≡ value ∷ []) }
-{
-    let caller = room_for(alloc, events, more, caller)?;
-    let mut args = Vec::with_capacity(alloc, 1)?;
-    args.push(value)?;
-    Ok((caller, List::from_vec(args)))
+    events.reserve_call(ends + 1, caller, count)
 }
 
 /// Room for the ends of `count` objects.
-pub(crate) fn room_for_ends(ends: &mut Vec<HostEvent>, count: usize) -> Result<(), AllocError>
-    ensures events { ends.new.items ≡ ends.old.items }
-    ensures len { vec_len ends.new ≡ vec_len ends.old }
-    ensures capacity { vec_capacity ends.old ≤ vec_capacity ends.new }
-    ensures room { OnOk result (vec_len ends.new + count ≤ vec_capacity ends.new) }
+pub(crate) fn room_for_ends(ends: &mut EventBuffer, count: usize) -> Result<(), AllocError>
+    ensures events { listed_in ends.new ≡ listed_in ends.old }
+    ensures len { log_len ends.new ≡ log_len ends.old }
+    ensures capacity { log_capacity ends.old ≤ log_capacity ends.new }
+    ensures room { OnOk result (log_len ends.new + count ≤ log_capacity ends.new) }
 {
     ends.reserve(count)?;
     Ok(())

@@ -42,7 +42,7 @@ pub fn complement(at: Prim, bits: u64) -> u64
 
 /// Whether the type has negative numbers.
 #[inline(always)]
-pub(crate) fn is_signed(of: Prim) -> bool
+pub fn is_signed(of: Prim) -> bool
     ensures exact { result ≡ is_signed of }
 {
     match of {

@@ -15,6 +15,6 @@ mod values;
 
 pub use changes::{Updated, change, change_slot};
 pub use comparisons::{compare, deny};
-pub use conversions::{complement, convert, negate};
+pub use conversions::{complement, convert, is_signed, negate};
 pub use operators::work;
 pub use values::{slot_from, value_from};

@@ -1,4 +1,7 @@
 //! `Apply`: operations on script objects.
+//!
+//! Each is one instruction, with its operands on the stack. What it does to the store is in `fields.rt` of `ang_vm_ask`;
+//! `fields.rt` of `ang_vm_fields` does several of these instructions at once.
 ghost use Rattle.std.specs.Prelude.{◌≡◌, ℕ, ◌≤◌, ◌∷◌, List, [], length, IfOk};
 ghost use Rattle.ang_meaning.specs.declared.operation.Operation.TheVariants.{Make, FieldGet, FieldSet, FieldChange, Cast};
 ghost use Rattle.ang_code.specs.declared.instruction.Instruction.TheVariants.{Apply};

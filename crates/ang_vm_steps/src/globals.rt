@@ -1,4 +1,7 @@
 //! `Apply`: operations on the globals of the running module.
+//!
+//! Each is one instruction, with its operands on the stack. What it does to the store is in `globals.rt` of `ang_vm_ask`;
+//! `globals.rt` of `ang_vm_fields` does several of these instructions at once.
 ghost use Rattle.std.specs.Prelude.{◌≡◌, ◌≤◌, ◌∷◌, List, [], length, IfOk};
 ghost use Rattle.ang_meaning.specs.declared.operation.Operation.TheVariants.{GlobalGet, GlobalSet, GlobalChange};
 ghost use Rattle.ang_code.specs.declared.instruction.Instruction.TheVariants.{Apply};

@@ -1,4 +1,7 @@
 //! `Apply`: whether two handles name one object.
+//!
+//! It is one instruction, with its operands on the stack. How two values are compared is in `handles.rt` of `ang_vm_ask`;
+//! `compared.rt` of `ang_vm_fields` compares handles where they stand, and `handles.rt` there moves and gives them up.
 ghost use Rattle.std.specs.Prelude.{◌≡◌, ℕ, ◌≤◌, ◌∷◌, List, [], length, IfOk};
 ghost use Rattle.ang_meaning.specs.declared.operation.Operation.TheVariants.{Same};
 ghost use Rattle.ang_code.specs.declared.instruction.Instruction.TheVariants.{Apply};

@@ -16,7 +16,7 @@ use Rattle.ang_engine.specs.declared.engine.Engine.{Engine}
 use Rattle.ang_engine.specs.Engines.{registrations, world_in, drivers_in}
 use Rattle.ang_engine.specs.Step.{Runs}
 use Rattle.ang_engine_modules.specs.World.{World}
-use Rattle.ang_registry.specs.Roles.{roles_of}
+use Rattle.ang_engine.specs.Roles.{roles_of}
 use Rattle.ang_view.specs.Registration.{RegistrationList}
 use Rattle.ang_remote.proofs.Streams.{consumes_both, consumes_nothing}
 use Rattle.asrun_lines.specs.Lines.{lines_of, shown_of, is_skipped}

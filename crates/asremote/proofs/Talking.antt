@@ -9,7 +9,7 @@ use Rattle.ang_host.specs.Meanings.{Meanings}
 use Rattle.ang_host.specs.Members.{states_of}
 use Rattle.ang_meaning.specs.Counting.{counts_by}
 use Rattle.ang_view.specs.Registration.{RegistrationList}
-use Rattle.ang_registry.specs.Roles.{roles_of}
+use Rattle.ang_engine.specs.Roles.{roles_of}
 use Rattle.ang_engine.specs.Sound.{HaveDrivers}
 use Rattle.ang_engine_modules.specs.World.{World, no_modules, engine_ended}
 use Rattle.asrun_session.specs.Drivers.{AreListed, AreBack, ByEvents, EngineRefusal, IsRefused, engine_text}

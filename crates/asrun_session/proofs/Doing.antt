@@ -10,7 +10,7 @@ use Rattle.ang_host.specs.Events.{DriversFollow}
 use Rattle.ang_host.specs.Meanings.{Meanings, state_in}
 use Rattle.ang_host.proofs.Events.{AllFollow-none, AllFollow-join}
 use Rattle.ang_view.specs.Registration.{RegistrationList}
-use Rattle.ang_registry.specs.Roles.{roles_of}
+use Rattle.ang_engine.specs.Roles.{roles_of}
 use Rattle.ang_engine.specs.Step.{Runs}
 use Rattle.ang_engine_modules.specs.World.{World}
 use Rattle.asrun_session.specs.Session.{Session, behind_action}

@@ -20,7 +20,7 @@ use Rattle.ang_meaning.specs.Counting.{counts_by}
 use Rattle.ang_meaning.specs.Results.{give_back}
 use Rattle.ang_meaning.proofs.Tables.{get_inserted, get_without}
 use Rattle.ang_view.specs.Registration.{RegistrationList}
-use Rattle.ang_registry.specs.Roles.{roles_of}
+use Rattle.ang_engine.specs.Roles.{roles_of}
 use Rattle.ang_engine.specs.Ending.{ends_of}
 use Rattle.ang_engine_modules.specs.World.{World as EngineWorld, running, globals_ended, all_ended, engine_ended}
 use Rattle.ang_engine.proofs.GlobalsEnd.{ending_lists_ends}

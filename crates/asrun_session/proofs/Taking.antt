@@ -11,7 +11,7 @@ use Rattle.ang_host.specs.declared.event.HostEvent.{HostEvent}
 use Rattle.ang_host.proofs.Events.{AllFollow-join}
 use Rattle.ang_meaning.specs.Counting.{counts_by}
 use Rattle.ang_view.specs.Registration.{RegistrationList}
-use Rattle.ang_registry.specs.Roles.{roles_of}
+use Rattle.ang_engine.specs.Roles.{roles_of}
 use Rattle.ang_engine.specs.Sound.{HaveDrivers}
 use Rattle.ang_engine_modules.specs.World.{World, no_modules, engine_ended}
 use Rattle.asrun_session.specs.Deeds.{IsDone, IsCut}

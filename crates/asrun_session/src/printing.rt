@@ -13,7 +13,7 @@ use crate::profile::ProfileFault;
 use crate::text::{push_bad_line, push_profile_fault};
 use crate::writing::write_text;
 use ang_engine::{Outcome, Reply};
-use ang_host::HostEvent;
+use ang_host::{EventLog, EventRef};
 use ang_kinds::{Denial, Error};
 use asrun_text::{push_denial, push_error, push_event, push_outcome};
 use std::alloc::{AllocError, Global};
@@ -52,8 +52,10 @@ trait Line {
         ensures added { OnOk result (out.new.items ≡ out.old.items ++ line self.now) };
 }
 
-impl Line for HostEvent {
-    ghost line = { event_text };
+impl Line for EventRef<'_> {
+    ghost use Rattle.ang_host.specs.Lent.{event_of};
+
+    ghost line = { λ event. event_text (event_of event) };
 
     fn push_line(&self, out: &mut Vec<u8>) -> Result<(), AllocError> {
         push_event(out, self)
@@ -126,11 +128,31 @@ fn add_lines<W: Write, L: Line>(
     Ok(())
 }
 
+/// Prints events, after what is kept back.
+fn add_events<W: Write>(
+    writer: &mut W,
+    text: &mut Vec<u8>,
+    events: &EventLog,
+) -> Result<(), SessionError>
+    ensures whole { OnOk result (Holds (W.contents writer.old) (W.contents writer.new)
+        text.new.items (text.old.items ++ flat_map event_text events.now)) }
+    ensures front { OnErr result (HasFront (W.contents writer.old) (W.contents writer.new)
+        (text.old.items ++ flat_map event_text events.now)) }
+    ensures fault { IfErr result (λ e. e ≢ unread) }
+{
+    for index in 0..events.len() {
+        if let Some(event) = events.get(index) {
+            add_line(writer, text, &event)?;
+        }
+    }
+    Ok(())
+}
+
 /// Prints the parts of a reply, and writes all of it.
 fn print_parts<W: Write>(
     writer: &mut W,
     text: &mut Vec<u8>,
-    events: &[HostEvent],
+    events: &EventLog,
     errors: &[Error],
     denials: &[Denial],
     outcome: Outcome,
@@ -144,7 +166,7 @@ fn print_parts<W: Write>(
     ensures fault { IfErr result (λ e. e ≢ unread) }
 {
     text.clear();
-    add_lines(writer, text, events)?;
+    add_events(writer, text, events)?;
     add_lines(writer, text, errors)?;
     add_lines(writer, text, denials)?;
     push_outcome(text, outcome)?;
@@ -168,7 +190,7 @@ pub fn print_reply<W: Write>(
     print_parts(
         writer,
         &mut buffer.text,
-        reply.events.as_slice(),
+        &reply.events,
         reply.errors.as_slice(),
         reply.denials.as_slice(),
         reply.outcome,

@@ -1,10 +1,11 @@
 //! The text of a reply, as the program writes it (docs/EMBEDDING.md, "The program").
 ghost use Rattle.std.specs.Prelude.{◌≡◌, ◌<◌, ◌++◌, OnOk, codes, decimal, flat_map};
+ghost use Rattle.ang_host.specs.Lent.{event_of};
 ghost use Rattle.asrun_lines.specs.Texts.{object_text};
 ghost use Rattle.asrun_text.specs.Text.{value_text, values_text, fault_text, made_text, answer_text, host_reply_text, event_text, place_text, kind_text, name_text, error_text, mask_text, hex_digit, denial_text, refusal_text, outcome_text, reply_text};
 
 use ang_engine::{Outcome, Refusal, Reply};
-use ang_host::{Answer, HostEvent, HostReply, Made};
+use ang_host::{Answer, EventLog, EventRef, HostReply, Made};
 use ang_kinds::{Denial, Error, ErrorKind, Fault, Mask, Place, Value};
 use asrun_lines::{push_key, push_number, push_object, push_signed, push_text};
 use std::alloc::AllocError;
@@ -192,11 +193,11 @@ fn push_asked(
 /// # Errors
 /// A growth of memory was refused. Nothing is promised of `out` then.
 #[tactic(auto, using(crate::proofs::Texts::texts), unfolding(crate::specs::Text::event_text))]
-pub fn push_event(out: &mut Vec<u8>, event: &HostEvent) -> Result<(), AllocError>
-    ensures added { OnOk result (out.new.items ≡ out.old.items ++ event_text event.now) }
+pub fn push_event(out: &mut Vec<u8>, event: &EventRef<'_>) -> Result<(), AllocError>
+    ensures added { OnOk result (out.new.items ≡ out.old.items ++ event_text (event_of event.now)) }
 {
-    match event {
-        HostEvent::Called {
+    match *event {
+        EventRef::Called {
             caller,
             entity,
             driver,
@@ -205,20 +206,20 @@ pub fn push_event(out: &mut Vec<u8>, event: &HostEvent) -> Result<(), AllocError
             reply,
         } => {
             push_text(out, "host ")?;
-            push_bytes(out, caller.as_slice())?;
+            push_bytes(out, caller)?;
             push_text(out, " ")?;
-            push_asked(out, entity.0, *driver, *object)?;
+            push_asked(out, entity.0, driver, object)?;
             push_text(out, " (")?;
-            push_values(out, args.as_slice())?;
+            push_values(out, args)?;
             push_text(out, ") ")?;
-            push_host_reply(out, *reply)?;
+            push_host_reply(out, reply)?;
             push_text(out, "\n")
         }
-        HostEvent::Ended { driver, key } => {
+        EventRef::Ended { driver, key } => {
             push_text(out, "end ")?;
-            push_number(out, u64::from(*driver))?;
+            push_number(out, u64::from(driver))?;
             push_text(out, " ")?;
-            push_key(out, *key)?;
+            push_key(out, key)?;
             push_text(out, "\n")
         }
     }
@@ -354,17 +355,19 @@ pub fn push_outcome(out: &mut Vec<u8>, outcome: Outcome) -> Result<(), AllocErro
 pub fn push_reply(out: &mut Vec<u8>, reply: &Reply) -> Result<(), AllocError>
     ensures added { OnOk result (out.new.items ≡ out.old.items ++ reply_text reply.now) }
 {
-    push_events(out, reply.events.as_slice())?;
+    push_events(out, &reply.events)?;
     push_errors(out, reply.errors.as_slice())?;
     push_denials(out, reply.denials.as_slice())?;
     push_outcome(out, reply.outcome)
 }
 
-fn push_events(out: &mut Vec<u8>, events: &[HostEvent]) -> Result<(), AllocError>
+fn push_events(out: &mut Vec<u8>, events: &EventLog) -> Result<(), AllocError>
     ensures added { OnOk result (out.new.items ≡ out.old.items ++ flat_map event_text events.now) }
 {
-    for event in events {
-        push_event(out, event)?;
+    for index in 0..events.len() {
+        if let Some(event) = events.get(index) {
+            push_event(out, &event)?;
+        }
     }
     Ok(())
 }

@@ -8,7 +8,7 @@ ghost use Rattle.example_host.specs.Offered.{masks_of};
 
 use ang_drivers::Console;
 use ang_engine::{Command, Engine, NewRefused, Outcome, Reply};
-use ang_host::{Answer, Driver, Drivers, HostEvent, HostReply};
+use ang_host::{Answer, Driver, Drivers, EventRef, HostReply};
 use ang_kinds::{EntityNo, List, Mask, Value};
 use ang_registry::{RegError, Registry};
 use asrun_text::push_reply;
@@ -69,16 +69,24 @@ fn print_reply(rt: &HostRuntime, reply: &Reply) -> io::Result<()> {
     io::writer(rt).write_all(&text)
 }
 
+/// Prints the ticket that was given, where the event is that.
+fn print_ticket(rt: &HostRuntime, event: &EventRef<'_>) -> io::Result<()> {
+    if let EventRef::Called {
+        entity: TICKET,
+        reply: HostReply::Asking(Answer::Gave(Value::Uint(ticket))),
+        ..
+    } = *event
+    {
+        println!(rt; "ticket {ticket} was given")?;
+    }
+    Ok(())
+}
+
 /// Prints the tickets that were given, by the reply's events.
 fn print_tickets(rt: &HostRuntime, reply: &Reply) -> io::Result<()> {
-    for event in reply.events.as_slice() {
-        if let HostEvent::Called {
-            entity: TICKET,
-            reply: HostReply::Asking(Answer::Gave(Value::Uint(ticket))),
-            ..
-        } = event
-        {
-            println!(rt; "ticket {ticket} was given")?;
+    for number in 0..reply.events.len() {
+        if let Some(event) = reply.events.get(number) {
+            print_ticket(rt, &event)?;
         }
     }
     Ok(())

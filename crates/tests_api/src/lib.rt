@@ -5,6 +5,8 @@
 #[cfg(test)]
 mod drivers;
 #[cfg(test)]
+mod events;
+#[cfg(test)]
 mod kinds;
 #[cfg(test)]
 mod registry;

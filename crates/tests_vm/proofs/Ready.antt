@@ -13,6 +13,8 @@ use Rattle.ang_kinds.specs.declared.fault.Fault.TheVariants.{Null}
 use Rattle.ang_kinds.specs.declared.primitive.Primitive.{Primitive}
 use Rattle.ang_kinds.specs.declared.value.Value.{Value}
 use Rattle.ang_host.specs.State.{State, count_at, count_of}
+use Rattle.ang_host.specs.declared.event_buffer.EventBuffer.{EventBuffer}
+use Rattle.ang_host.specs.Meanings.{Meanings}
 use Rattle.ang_host.specs.Members.{state_at, AreFresh}
 use Rattle.ang_meaning.specs.declared.host.HostUse.{HostUse}
 use Rattle.ang_meaning.specs.declared.slot.Slot.{Slot}
@@ -32,7 +34,8 @@ use Rattle.ang_vm_stack.specs.declared.table.Table.{Table}
 use Rattle.ang_vm_stack.specs.Tables.{list_in}
 use Rattle.ang_vm_ask.specs.Entities.{DriversThere}
 use Rattle.ang_vm.specs.Machines.{HasCalled, HasRun, HasInitialized}
-use Rattle.tests_vm.specs.Ready.{is_below, names_nothing}
+use Rattle.ang_vm.specs.declared.machines.Machine.{Machine}
+use Rattle.tests_vm.specs.Ready.{is_below, names_nothing, MayBegin, IsAtRest}
 
 both_left : (a b : Bool) → a && b ≡ true → a ≡ true
 both_left true b h = refl
@@ -139,3 +142,15 @@ with_number n w p = record {
   counts = record { counts = λ x. omega (arith, p.counts.counts x, bits_none x n) };
   ordered = p.ordered;
 }
+
+-- what was listed does not matter to the next run
+pub comes_to_rest : {V : Type 0} {P : V → Type 0} (m : Meanings P) (x : Machine V P) (events : EventBuffer) → MayBegin m x events → IsAtRest m x
+comes_to_rest m x events b = λ after room.
+    let k = b.ready.kept in
+    record {
+      ready = record {
+        kept = record { drivers = k.drivers; alive = k.alive; none = k.none; due = k.due; tallied = k.tallied };
+        room = room;
+      };
+      counted = b.counted;
+    }

@@ -1,8 +1,8 @@
 -- What a machine of the tests needs to run code, as a test can see it.
-use Rattle.std.specs.Prelude.{ℕ, ltb, Bool, true, false, Option, Some, None, Vec, []}
-use Rattle.std.specs.declared.alloc.Global.{Global}
+use Rattle.std.specs.Prelude.{ℕ, ◌+◌, ◌≤◌, ltb, Bool, true, false, Option, Some, None, []}
+use Rattle.ang_host.specs.Logs.{log_len, log_capacity}
+use Rattle.ang_host.specs.declared.event_buffer.EventBuffer.{EventBuffer}
 use Rattle.ang_host.specs.Meanings.{Meanings}
-use Rattle.ang_host.specs.declared.event.HostEvent.{HostEvent}
 use Rattle.ang_meaning.specs.declared.host.HostUse.{HostUse}
 use Rattle.ang_meaning.specs.declared.slot.Slot.{Slot}
 use Rattle.ang_meaning.specs.declared.slot.Slot.TheVariants.{Bits, Script, Host}
@@ -24,6 +24,10 @@ names_nothing (Script (Some n)) = false
 names_nothing (Host d k) = false
 
 -- a machine, with the events of a command, on which code may run, but for its drivers
-pub record MayBegin {V : Type 0} {P : V → Type 0} (m : Meanings P) (x : Machine V P) (events : Vec HostEvent Global) : Type 0 where
+pub record MayBegin {V : Type 0} {P : V → Type 0} (m : Meanings P) (x : Machine V P) (events : EventBuffer) : Type 0 where
   pub ready : IsReady m (lent x events)
   pub counted : IsCounted [] (world_of m (lent x events))
+
+-- a machine between runs: code may run on it with any events that have room for the end of each host object that lives
+abbrev pub IsAtRest : {V : Type 0} {P : V → Type 0} → Meanings P → Machine V P → Type 0
+IsAtRest m x = (events : EventBuffer) → log_len events + x.store.live ≤ log_capacity events → MayBegin m x events

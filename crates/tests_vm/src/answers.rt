@@ -56,9 +56,8 @@ fn answers(
     let Some(mut machine) = with_drivers(alloc)? else {
         return Ok(false);
     };
-    let mut events = Vec::new(alloc);
     let entry = Routine { home: 0, number };
-    let answer = answer_alone(&table, &mut machine, entry, 10, &mut events);
+    let answer = answer_alone(alloc, &table, &mut machine, entry, 10);
     end(machine);
     Ok(answer == Ok(want))
 }

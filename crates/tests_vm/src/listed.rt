@@ -1,5 +1,5 @@
 //! Events as text, and what lives after them.
-use ang_host::{Answer, HostEvent, HostReply, Made};
+use ang_host::{Answer, EventLog, EventRef, HostReply, Made};
 use ang_kinds::Value;
 use itoa::Buffer;
 use std::alloc::{AllocError, Global};
@@ -75,9 +75,9 @@ fn put_object(out: &mut Vec<u8>, object: Option<u64>) -> Result<(), AllocError> 
 }
 
 /// Puts an event: its caller, entity, driver, object, arguments and answer, or the driver and key of an object's end.
-fn put_event(out: &mut Vec<u8>, event: &HostEvent) -> Result<(), AllocError> {
+fn put_event(out: &mut Vec<u8>, event: EventRef<'_>) -> Result<(), AllocError> {
     match event {
-        HostEvent::Called {
+        EventRef::Called {
             caller,
             entity,
             driver,
@@ -86,29 +86,38 @@ fn put_event(out: &mut Vec<u8>, event: &HostEvent) -> Result<(), AllocError> {
             reply,
         } => {
             put(out, "host ")?;
-            out.extend_from_slice(caller.as_slice())?;
+            out.extend_from_slice(caller)?;
             put_number(out, " ", u64::from(entity.0))?;
-            put_number(out, " ", u64::from(*driver))?;
-            put_object(out, *object)?;
+            put_number(out, " ", u64::from(driver))?;
+            put_object(out, object)?;
             put(out, " (")?;
-            put_values(out, args.as_slice())?;
+            put_values(out, args)?;
             put(out, ") ")?;
-            put_reply(out, *reply)
+            put_reply(out, reply)
         }
-        HostEvent::Ended { driver, key } => {
-            put_number(out, "end ", u64::from(*driver))?;
-            put_number(out, " #", *key)
+        EventRef::Ended { driver, key } => {
+            put_number(out, "end ", u64::from(driver))?;
+            put_number(out, " #", key)
         }
     }
 }
 
-fn text_of(alloc: Global, events: &[HostEvent]) -> Result<Vec<u8>, AllocError> {
+/// Puts the events of a run after those of the runs before it.
+fn put_events(out: &mut Vec<u8>, log: &EventLog) -> Result<(), AllocError> {
+    for at in 0..log.len() {
+        if let Some(event) = log.get(at) {
+            let between = if out.is_empty() { "" } else { " / " };
+            put(out, between)?;
+            put_event(out, event)?;
+        }
+    }
+    Ok(())
+}
+
+fn text_of(alloc: Global, logs: &[EventLog]) -> Result<Vec<u8>, AllocError> {
     let mut out = Vec::new(alloc);
-    let mut between = "";
-    for event in events {
-        put(&mut out, between)?;
-        put_event(&mut out, event)?;
-        between = " / ";
+    for log in logs {
+        put_events(&mut out, log)?;
     }
     Ok(out)
 }
@@ -123,39 +132,61 @@ fn first_difference(text: &[u8], wanted: &[u8]) -> Option<usize> {
     (text.len() < wanted.len()).then_some(text.len())
 }
 
-/// The first byte from which on events are not as they are written there.
+/// The first byte from which on the events of some runs are not as they are written there.
 pub fn first_other(
     alloc: Global,
-    events: &[HostEvent],
+    logs: &[EventLog],
     wanted: &str,
 ) -> Result<Option<usize>, AllocError> {
-    let text = text_of(alloc, events)?;
+    let text = text_of(alloc, logs)?;
     Ok(first_difference(&text, wanted.as_bytes()))
 }
 
 /// Whether an event says that a driver made an object.
-fn is_made_by(event: &HostEvent, of: u32) -> bool {
+fn is_made_by(event: EventRef<'_>, of: u32) -> bool {
     match event {
-        HostEvent::Called { driver, reply, .. } => match reply {
-            HostReply::Making(Made::Key(_)) => *driver == of,
+        EventRef::Called { driver, reply, .. } => match reply {
+            HostReply::Making(Made::Key(_)) => driver == of,
             _ => false,
         },
-        HostEvent::Ended { .. } => false,
+        EventRef::Ended { .. } => false,
     }
 }
 
 /// Whether an event says that an object of a driver ended.
-fn is_end_of(event: &HostEvent, of: u32) -> bool {
+fn is_end_of(event: EventRef<'_>, of: u32) -> bool {
     match event {
-        HostEvent::Called { .. } => false,
-        HostEvent::Ended { driver, .. } => *driver == of,
+        EventRef::Called { .. } => false,
+        EventRef::Ended { driver, .. } => driver == of,
     }
 }
 
-/// How many objects of a driver live after these events, where none lived before; none where more ended than were
-/// made.
-pub fn live_after(events: &[HostEvent], of: u32) -> Option<usize> {
-    let made = events.iter().filter(|event| is_made_by(event, of)).count();
-    let ended = events.iter().filter(|event| is_end_of(event, of)).count();
-    made.checked_sub(ended)
+/// How many objects of a driver live after an event, where so many lived before it.
+fn live_past(event: EventRef<'_>, of: u32, before: usize) -> Option<usize> {
+    if is_made_by(event, of) {
+        before.checked_add(1)
+    } else if is_end_of(event, of) {
+        before.checked_sub(1)
+    } else {
+        Some(before)
+    }
+}
+
+/// The same after the events of a run.
+fn live_past_run(log: &EventLog, of: u32, before: usize) -> Option<usize> {
+    let mut live = before;
+    for at in 0..log.len() {
+        live = live_past(log.get(at)?, of, live)?;
+    }
+    Some(live)
+}
+
+/// How many objects of a driver live after the events of some runs, where none lived before; none where one ended
+/// before it was made.
+pub fn live_after(logs: &[EventLog], of: u32) -> Option<usize> {
+    let mut live: usize = 0;
+    for log in logs {
+        live = live_past_run(log, of, live)?;
+    }
+    Some(live)
 }

@@ -1,21 +1,19 @@
 //! The machine with the sample drivers, and runs on it.
-ghost use Rattle.std.specs.Prelude.{◌≡◌, ◌≢◌, Err, IsTrue, IfOk, IfSome, Vec, [], length, vec_len};
+ghost use Rattle.std.specs.Prelude.{◌≡◌, ◌≢◌, Err, IsTrue, IfOk, IfSome, [], length};
 ghost use Rattle.std.specs.List.{list_all};
-ghost use Rattle.std.specs.declared.alloc.Global.{Global};
 ghost use Rattle.ang_kinds.specs.declared.fault.Fault.TheVariants.{Null as NullFault};
-ghost use Rattle.ang_host.specs.declared.event.HostEvent.{HostEvent};
 ghost use Rattle.ang_host.specs.Boxes.{members};
 ghost use Rattle.ang_host.specs.Members.{states_of, AreFresh};
 ghost use Rattle.ang_meaning.specs.Counting.{IsCounted};
 ghost use Rattle.ang_heap.specs.Stores.{world_of, IsReady};
 ghost use Rattle.ang_vm.specs.Machines.{lent};
 ghost use Rattle.ang_vm_ask.specs.Entities.{DriversThere};
-ghost use Rattle.tests_vm.specs.Ready.{is_below, names_nothing, MayBegin};
+ghost use Rattle.tests_vm.specs.Ready.{is_below, names_nothing, IsAtRest, MayBegin};
 
 use crate::program::first_globals;
 use ang_drivers::{Cell, Console, Counter};
-use ang_heap::{Globals, Heap, Store};
-use ang_host::{Driver, Drivers, HostEvent};
+use ang_heap::{Globals, Heap, Limits, Store};
+use ang_host::{Driver, Drivers, EventBuffer};
 use ang_kinds::{Fault, Value};
 use ang_meaning::{HostUse, Routine, Slot};
 use ang_vm::{Machine, run, run_initializer};
@@ -85,28 +83,27 @@ fn machine_of(alloc: Global, drivers: Drivers, modules: Vec<Vec<Slot>>) -> Machi
     requires fresh { AreFresh (states_of ⟦<dyn Driver as Driver>⟧ (members drivers)) }
     requires empty { IsTrue (list_all
         (λ globals. list_all names_nothing globals.items) modules.items) }
-    ensures begins { (events : Vec HostEvent Global) → vec_len events ≡ 0 →
-        MayBegin ⟦<dyn Driver as Driver>⟧ result events }
+    ensures rest { IsAtRest ⟦<dyn Driver as Driver>⟧ result }
 {
     let heap = Heap::new(alloc);
-    let ends = Vec::new(alloc);
+    let ends = EventBuffer::new(alloc);
     Machine {
         store: Store {
             heap,
             globals: Globals { modules },
             drivers,
-            events: Vec::new(alloc),
+            events: EventBuffer::new(alloc),
             ends,
             live: 0,
+            spent: false,
+            limits: Limits::none(),
         },
     }
 }
 
 /// The machine with a console, a counter and a cell, and with the globals of all modules.
 pub fn with_drivers(alloc: Global) -> Result<Option<Machine>, AllocError>
-    ensures begins { IfOk result (λ made. IfSome made
-        (λ machine. (events : Vec HostEvent Global) → vec_len events ≡ 0 →
-        MayBegin ⟦<dyn Driver as Driver>⟧ machine events)) }
+    ensures rest { IfOk result (λ made. IfSome made (IsAtRest ⟦<dyn Driver as Driver>⟧)) }
 {
     let globals = first_globals(alloc)?;
     if !all_are_empty(&globals) {
@@ -132,8 +129,20 @@ pub fn end(machine: Machine) {
         events: _,
         ends: _,
         live: _,
+        spent: _,
+        limits: _,
     } = store;
     drop(drivers.into_boxes());
+}
+
+/// A list for the events of a run, with room for the end of each host object that lives.
+pub fn events_for(alloc: Global, machine: &Machine) -> Result<EventBuffer, AllocError>
+    requires rest { IsAtRest ⟦<dyn Driver as Driver>⟧ machine.now }
+    ensures begins { IfOk result (MayBegin ⟦<dyn Driver as Driver>⟧ machine.now) }
+{
+    let mut events = EventBuffer::new(alloc);
+    events.reserve(machine.store.live)?;
+    Ok(events)
 }
 
 /// A call of a body, with no arguments.
@@ -145,7 +154,7 @@ fn call_alone(
     machine: &mut Machine,
     entry: Routine,
     budget: u64,
-    events: &mut Vec<HostEvent>,
+    events: &mut EventBuffer,
 ) -> Result<Option<Value>, Fault>
     requires drivers { DriversThere table.now (length (members machine.old.store.drivers)) }
     requires begins { MayBegin ⟦<dyn Driver as Driver>⟧ machine.old events.old }
@@ -159,20 +168,24 @@ fn call_alone(
 /// What a call of a body without arguments answers.
 ///
 /// # Errors
-/// The fault of the script, and `Null` too where the driver of an entity is not there.
+/// The fault of the script; `Null` too where the driver of an entity is not there, and `Memory` where there is no room
+/// for events.
 pub fn answer_alone(
+    alloc: Global,
     table: &Table,
     machine: &mut Machine,
     entry: Routine,
     budget: u64,
-    events: &mut Vec<HostEvent>,
 ) -> Result<Option<Value>, Fault>
-    requires begins { MayBegin ⟦<dyn Driver as Driver>⟧ machine.old events.old }
+    requires rest { IsAtRest ⟦<dyn Driver as Driver>⟧ machine.old }
 {
     if !drivers_are_there(table, machine.store.drivers.len()) {
         return Err(Fault::Null);
     }
-    call_alone(table, machine, entry, budget, events)
+    let Ok(mut events) = events_for(alloc, machine) else {
+        return Err(Fault::Memory);
+    };
+    call_alone(table, machine, entry, budget, &mut events)
 }
 
 /// A call of a body, with a number.
@@ -185,7 +198,7 @@ fn call_with(
     entry: Routine,
     number: u64,
     budget: u64,
-    events: &mut Vec<HostEvent>,
+    events: &mut EventBuffer,
 ) -> Result<Option<Value>, Fault>
     requires drivers { DriversThere table.now (length (members machine.old.store.drivers)) }
     requires begins { MayBegin ⟦<dyn Driver as Driver>⟧ machine.old events.old }
@@ -225,7 +238,7 @@ pub fn call(
     entry: Routine,
     arg: Option<u64>,
     budget: u64,
-    events: &mut Vec<HostEvent>,
+    events: &mut EventBuffer,
 ) -> Result<u64, Fault>
     requires begins { MayBegin ⟦<dyn Driver as Driver>⟧ machine.old events.old }
     ensures begins { result ≢ Err NullFault →
@@ -249,7 +262,7 @@ fn initialize_alone(
     machine: &mut Machine,
     entry: Routine,
     ticks: u64,
-    events: &mut Vec<HostEvent>,
+    events: &mut EventBuffer,
 ) -> Result<u64, Fault>
     requires drivers { DriversThere table.now (length (members machine.old.store.drivers)) }
     requires begins { MayBegin ⟦<dyn Driver as Driver>⟧ machine.old events.old }
@@ -269,7 +282,7 @@ pub fn initialize(
     machine: &mut Machine,
     entry: Routine,
     ticks: u64,
-    events: &mut Vec<HostEvent>,
+    events: &mut EventBuffer,
 ) -> Result<u64, Fault>
     requires begins { MayBegin ⟦<dyn Driver as Driver>⟧ machine.old events.old }
     ensures begins { result ≢ Err NullFault →

@@ -1,12 +1,12 @@
 //! Runs on one machine, one after the other: what each gives, what the host was asked, and what lives then.
-ghost use Rattle.std.specs.Prelude.{◌≡◌, ◌≢◌, Err};
+ghost use Rattle.std.specs.Prelude.{◌≡◌, ◌≢◌, Ok, Err};
 ghost use Rattle.ang_kinds.specs.declared.fault.Fault.TheVariants.{Null as NullFault};
-ghost use Rattle.tests_vm.specs.Ready.{MayBegin};
+ghost use Rattle.tests_vm.specs.Ready.{IsAtRest, MayBegin};
 ghost use Rattle.tests_vm.specs.declared.runs.Verdict as Verdict;
 
 use crate::listed::{first_other, live_after};
-use crate::machine::{call, end, initialize, with_drivers};
-use ang_host::{Driver, HostEvent};
+use crate::machine::{call, end, events_for, initialize, with_drivers};
+use ang_host::{Driver, EventBuffer, EventLog};
 use ang_kinds::Fault;
 use ang_meaning::Routine;
 use ang_vm::Machine;
@@ -88,7 +88,7 @@ fn run_once(
     table: &Table,
     machine: &mut Machine,
     run: Run,
-    events: &mut Vec<HostEvent>,
+    events: &mut EventBuffer,
 ) -> Result<u64, Fault>
     requires begins { MayBegin ⟦<dyn Driver as Driver>⟧ machine.old events.old }
     ensures begins { result ≢ Err NullFault →
@@ -106,7 +106,7 @@ fn run_again(
     table: &Table,
     machine: &mut Machine,
     run: Run,
-    events: &mut Vec<HostEvent>,
+    events: &mut EventBuffer,
 ) -> Result<u64, Fault>
     requires begins { MayBegin ⟦<dyn Driver as Driver>⟧ machine.old events.old }
     ensures begins { result ≢ Err NullFault →
@@ -130,61 +130,72 @@ fn verdict_on(ended: Result<u64, Fault>, want: Result<u64, Fault>) -> Verdict
     }
 }
 
-/// Takes a turn.
-fn take(table: &Table, machine: &mut Machine, run: Run, events: &mut Vec<HostEvent>) -> Verdict
-    requires begins { MayBegin ⟦<dyn Driver as Driver>⟧ machine.old events.old }
-    ensures goes_on { result ≡ Verdict.Right →
-        MayBegin ⟦<dyn Driver as Driver>⟧ machine.new events.new }
+/// Takes a turn, and keeps what is listed in it.
+fn take(
+    alloc: Global,
+    table: &Table,
+    machine: &mut Machine,
+    run: Run,
+    logs: &mut Vec<EventLog>,
+) -> Result<Verdict, AllocError>
+    requires rest { IsAtRest ⟦<dyn Driver as Driver>⟧ machine.old }
+    ensures goes_on { result ≡ Ok Verdict.Right → IsAtRest ⟦<dyn Driver as Driver>⟧ machine.new }
 {
-    let ended = run_again(table, machine, run, events);
-    verdict_on(ended, run.want)
+    let mut events = events_for(alloc, machine)?;
+    let ended = run_again(table, machine, run, &mut events);
+    if !events.is_listening() {
+        return Ok(Verdict::Wrong);
+    }
+    logs.push(EventLog::from_buffer(events))?;
+    Ok(verdict_on(ended, run.want))
 }
 
 /// Whether a driver is idle just where the events say that none of its objects lives, and how many live.
-fn live_of(machine: &Machine, driver: u32, events: &[HostEvent]) -> Option<usize> {
+fn live_of(machine: &Machine, driver: u32, logs: &[EventLog]) -> Option<usize> {
     if driver as usize >= machine.store.drivers.len() {
         return None;
     }
-    let live = live_after(events, driver)?;
+    let live = live_after(logs, driver)?;
     (machine.store.drivers.idle(driver) == (live == 0)).then_some(live)
 }
 
 /// How many host objects live by the events; none where that is not what the drivers say.
-fn all_live(machine: &Machine, events: &[HostEvent]) -> Option<usize> {
+fn all_live(machine: &Machine, logs: &[EventLog]) -> Option<usize> {
     let mut live: usize = 0;
     for driver in 0..DRIVERS {
-        live = live.checked_add(live_of(machine, driver, events)?)?;
+        live = live.checked_add(live_of(machine, driver, logs)?)?;
     }
     Some(live)
 }
 
 /// Whether the drivers, the events and the store say the same of what lives.
-fn is_level(machine: &Machine, events: &[HostEvent]) -> bool {
-    all_live(machine, events) == Some(machine.store.live)
+fn is_level(machine: &Machine, logs: &[EventLog]) -> bool {
+    all_live(machine, logs) == Some(machine.store.live)
 }
 
 /// The first turn that is wrong.
 fn first_wrong(
+    alloc: Global,
     table: &Table,
     machine: &mut Machine,
     case: &Case,
-    events: &mut Vec<HostEvent>,
-) -> Option<Wrong>
-    requires begins { MayBegin ⟦<dyn Driver as Driver>⟧ machine.old events.old }
+    logs: &mut Vec<EventLog>,
+) -> Result<Option<Wrong>, AllocError>
+    requires rest { IsAtRest ⟦<dyn Driver as Driver>⟧ machine.old }
 {
     for (at, turn) in case.2.iter().enumerate() {
-        let verdict = take(table, machine, run_of(case.1, turn), events);
+        let verdict = take(alloc, table, machine, run_of(case.1, turn), logs)?;
         if verdict == Verdict::Wrong {
-            return Some(Wrong::Turn(at));
+            return Ok(Some(Wrong::Turn(at)));
         }
-        if !is_level(machine, events) {
-            return Some(Wrong::Level(at));
+        if !is_level(machine, logs.as_slice()) {
+            return Ok(Some(Wrong::Level(at)));
         }
         if verdict == Verdict::Last {
-            return None;
+            return Ok(None);
         }
     }
-    None
+    Ok(None)
 }
 
 /// Whether something lives still.
@@ -198,10 +209,10 @@ pub fn wrong_in(alloc: Global, table: &Table, case: &Case) -> Result<Option<Wron
     let Some(mut machine) = with_drivers(alloc)? else {
         return Ok(Some(Wrong::Machine));
     };
-    let mut events = Vec::new(alloc);
-    let wrong = first_wrong(table, &mut machine, case, &mut events);
+    let mut logs = Vec::new(alloc);
+    let wrong = first_wrong(alloc, table, &mut machine, case, &mut logs);
     let left = is_left(&machine).then_some(Wrong::Left);
     end(machine);
-    let listed = first_other(alloc, &events, case.3)?.map(Wrong::Listed);
-    Ok(wrong.or(left).or(listed))
+    let listed = first_other(alloc, logs.as_slice(), case.3)?.map(Wrong::Listed);
+    Ok(wrong?.or(left).or(listed))
 }

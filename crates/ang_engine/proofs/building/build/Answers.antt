@@ -12,6 +12,7 @@ use Rattle.ang_engine.proofs.Leading.{leads-at_once, leads-same}
 use Rattle.ang_engine.proofs.Asking.{asked-nothing, kept-same}
 use Rattle.ang_engine.proofs.Refusing.{begun_build}
 use Rattle.ang_engine.proofs.Rebuilding.{building-found, building-refused}
+use Rattle.ang_host.specs.Logs.{listed_in}
 use Rattle.ang_engine.proofs.building.build.Goals as goal
 
 pub returns-in_default-clause-done : goal.returns-in_default-clause-done
@@ -52,4 +53,4 @@ returns-clause-done g c =
     refl c.build_module.ensures.done
 
 pub returns-clause-refused : goal.returns-clause-refused
-returns-clause-refused g c = begun_build c.build_module.result c.build_module.new.events.items _ c.build_module.ensures.begun
+returns-clause-refused g c = begun_build c.build_module.result (listed_in c.build_module.new.events) _ c.build_module.ensures.begun

@@ -1,4 +1,4 @@
-use Rattle.std.proofs.Common.{◌∙◌, refl, sym, subst, length, map, None}
+use Rattle.std.proofs.Common.{◌∙◌, refl, sym, subst, length, map, [], None}
 use Rattle.std.specs.Prelude.{slice_index_or}
 use Rattle.ang_heap.specs.Globals.{values_in}
 use Rattle.ang_engine_modules.specs.Sound.{HasSameName}
@@ -6,7 +6,7 @@ use Rattle.ang_engine_modules.proofs.PlaceLists.{any_default}
 use Rattle.ang_engine_modules.proofs.Keeping.{placed_modules}
 use Rattle.ang_engine.specs.Sound.{IsBuiltBy}
 use Rattle.ang_engine.proofs.Starting.{globals_kept, set_again}
-use Rattle.ang_engine.proofs.Rebuilding.{apart_still, none-there, globals-there, empty-there, ready-there, counted-there, within-there, free-there, refused-leads, refused-asked, refused-sound, begun-drivers, begun-leads, begun-asked, begun-sound}
+use Rattle.ang_engine.proofs.Rebuilding.{apart_still, none-there, globals-there, empty-there, ready-there, counted-there, within-there, free-there, refused-leads, refused-asked, refused-sound, begun-drivers, begun-leads, begun-heard, begun-asked, begun-sound}
 use Rattle.ang_engine.proofs.building.build_module.Goals as goal
 
 pub start-requires-clause-empty : goal.start-requires-clause-empty
@@ -139,3 +139,15 @@ returns-in-Err-clause-globals g c =
     c.requires.modules.each c.requires.within (sym (c.index_mut.ensures.value ∙ any_default c.args.list.now.places.items c.args.home c.index_mut.result.now None c.requires.within)) c.unload.ensures.unloaded
     c.requires.first c.end_globals.ensures.ended c.end_globals.ensures.moves)
     c.requires.globals
+
+pub returns-in-Ok-clause-heard : goal.returns-in-Ok-clause-heard
+returns-in-Ok-clause-heard g c =
+    begun-heard (λ v. (g.dyn-1.0.entry v).1) c.args.registry.now.entries c.args.list.now.places.items c.args.list.now.code c.unload.new.self c.args.list.now.order.items c.args.home
+    c.args.budget c.compile_place.new.place c.index_mut.result.now c.args.machine.now.store c.end_globals.new.machine.store c.args.events.now c.end_globals.new.events
+    c.requires.modules.each c.requires.within (sym (c.index_mut.ensures.value ∙ any_default c.args.list.now.places.items c.args.home c.index_mut.result.now None c.requires.within)) c.unload.ensures.unloaded
+    c.requires.first c.end_globals.ensures.ended c.end_globals.ensures.moves
+    c.compile_place.ensures.emptied c.in-Ok.loaded c.in-Ok.ensures.built
+    c.start.new.machine.store c.start.new.events c.start.ensures.asked
+
+pub returns-in-Err-clause-heard : goal.returns-in-Err-clause-heard
+returns-in-Err-clause-heard g c = (c.end_globals.ensures.moves []).heard

@@ -1,4 +1,5 @@
-use Rattle.std.proofs.Common.{◌≡◌, ◌≤◌, List, [], take, length, vec_len, vec_capacity}
+use Rattle.std.proofs.Common.{Bool, ◌≡◌, ◌≤◌, List, [], take, length}
+use Rattle.ang_host.specs.Logs.{listed_in, log_len, log_capacity}
 use Rattle.ang_host.specs.declared.event.Role.{Role}
 use Rattle.ang_host.specs.Members.{states_of}
 use Rattle.ang_host.specs.Boxes.{members}
@@ -12,13 +13,13 @@ use Rattle.ang_engine.proofs.ending.end_all.Given as goal
 
 abbrev pub invariant-loop-left : goal.invariant-loop-left
 invariant-loop-left g l = record {
-  ended : (is : List Input)
-      → all_ended l.order (world_by (objects_of l.initial.heap) (counts_of (λ v. (g.dyn-1.0.entry v).1) (members l.initial.drivers)) (values_in l.initial.globals) l.initial.ends.items is)
-      ≡ all_ended (take l.left l.order) (world_by (objects_of l.heap) (counts_of (λ v. (g.dyn-1.0.entry v).1) (members l.drivers)) (values_in l.globals) l.ends.items is);
+  ended : (sp : Bool) (is : List Input)
+      → all_ended l.order (world_by (objects_of l.initial.heap) (counts_of (λ v. (g.dyn-1.0.entry v).1) (members l.initial.drivers)) (values_in l.initial.globals) (listed_in l.initial.ends) sp is)
+      ≡ all_ended (take l.left l.order) (world_by (objects_of l.heap) (counts_of (λ v. (g.dyn-1.0.entry v).1) (members l.drivers)) (values_in l.globals) (listed_in l.ends) sp is);
   within : l.left ≤ length l.order;
   counted : CountedIn [] (objects_of l.heap) (counts_of (λ v. (g.dyn-1.0.entry v).1) (members l.drivers)) (values_in l.globals);
-  ready : AreReady (states_of (λ v. (g.dyn-1.0.entry v).1) (members l.drivers)) (vec_len l.ends) (vec_capacity l.ends);
-  moves : (roles : List Role) → PartsMove (λ v. (g.dyn-1.0.entry v).1) roles (members l.initial.drivers) l.initial.ends.items (members l.drivers) l.ends.items;
+  ready : AreReady (states_of (λ v. (g.dyn-1.0.entry v).1) (members l.drivers)) (log_len l.ends) (log_capacity l.ends);
+  moves : (roles : List Role) → PartsMove (λ v. (g.dyn-1.0.entry v).1) roles (members l.initial.drivers) (listed_in l.initial.ends) (members l.drivers) (listed_in l.ends);
 }
 
 abbrev pub decreases-loop-left : goal.decreases-loop-left

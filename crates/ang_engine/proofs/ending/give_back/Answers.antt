@@ -1,6 +1,7 @@
-use Rattle.std.proofs.Common.{◌≡◌, ◌-◌, ◌++◌, ◌∷◌, [], take, length, refl, sym, ap, ◌∙◌, subst, arith}
+use Rattle.std.proofs.Common.{false, ◌≡◌, ◌-◌, ◌++◌, ◌∷◌, [], take, length, refl, sym, ap, ◌∙◌, subst, arith}
 use Rattle.std.proofs.Math.Seq.{take-length}
 use Rattle.std.specs.Prelude.{slice_index_or}
+use Rattle.ang_host.specs.Logs.{listed_in}
 use Rattle.ang_host.specs.Boxes.{members}
 use Rattle.ang_meaning.specs.declared.slot.Slot.TheVariants.{Bits}
 use Rattle.ang_meaning.specs.Counting.{EnoughIn}
@@ -16,12 +17,15 @@ loop-left-init g c =
     let all : c.args.values.now ≡ take (length c.args.values.now) c.args.values.now = sym (take-length c.args.values.now) in
     record {
       within = omega arith;
-      gives = λ gs is. ap (λ l. give_back l (world_by (objects_of c.args.heap.now) (counts_of (λ v. (g.dyn-1.0.entry v).1) (members c.args.drivers.now)) gs c.args.events.now.items is)) all;
+      gives = λ gs sp is. ap (λ l. give_back l (world_by (objects_of c.args.heap.now) (counts_of (λ v. (g.dyn-1.0.entry v).1) (members c.args.drivers.now)) gs (listed_in c.args.events.now) sp is)) all;
       enough = subst (λ l. EnoughIn l (objects_of c.args.heap.now) (counts_of (λ v. (g.dyn-1.0.entry v).1) (members c.args.drivers.now))) all c.requires.enough;
       ready = c.requires.ready;
       capacity = refl;
       fewer = omega arith;
       level = refl;
+      counted = λ e. e;
+      heard = refl;
+      less = omega arith;
       moves = λ roles. parts_none _ roles _ _;
     }
 
@@ -38,17 +42,20 @@ loop-left-preserved g c =
     let e : take c.loop-left.left vs ≡ take (c.loop-left.left - 1) vs ++ v ∷ [] = last_of vs c.loop-left.left (Bits 0) c.loop-left-test.true c.loop-left.invariant.within in
     record {
       within = omega (arith, c.loop-left.invariant.within);
-      gives = λ gs is. back_turn vs c.loop-left.left v _ _ _ e (c.loop-left.invariant.gives gs is) (c.give_up.ensures.gives gs is);
+      gives = λ gs sp is. back_turn vs c.loop-left.left v _ _ _ e (c.loop-left.invariant.gives gs sp is) (c.give_up.ensures.gives gs sp is);
       enough = others_can (take (c.loop-left.left - 1) vs) (take c.loop-left.left vs) v
-          (world_by (objects_of c.loop-left.heap) (counts_of (λ v. (g.dyn-1.0.entry v).1) (members c.loop-left.drivers)) [] c.loop-left.events.items [])
-          (world_by (objects_of c.give_up.new.self) (counts_of (λ v. (g.dyn-1.0.entry v).1) (members c.give_up.new.drivers)) [] c.give_up.new.events.items [])
-          e c.loop-left.invariant.enough (c.give_up.ensures.gives [] []);
+          (world_by (objects_of c.loop-left.heap) (counts_of (λ v. (g.dyn-1.0.entry v).1) (members c.loop-left.drivers)) [] (listed_in c.loop-left.events) false [])
+          (world_by (objects_of c.give_up.new.self) (counts_of (λ v. (g.dyn-1.0.entry v).1) (members c.give_up.new.drivers)) [] (listed_in c.give_up.new.events) false [])
+          e c.loop-left.invariant.enough (c.give_up.ensures.gives [] false []);
       ready = c.give_up.ensures.ready;
       capacity = c.give_up.ensures.capacity ∙ c.loop-left.invariant.capacity;
       fewer = omega (arith, c.give_up.ensures.fewer, c.loop-left.invariant.fewer);
       level = c.give_up.ensures.level ∙ c.loop-left.invariant.level;
+      counted = λ e. c.give_up.ensures.counted (c.loop-left.invariant.counted e);
+      heard = c.give_up.ensures.heard ∙ c.loop-left.invariant.heard;
+      less = omega (arith, c.give_up.ensures.less, c.loop-left.invariant.less);
       moves = λ roles. parts_join _ roles _ _ _ _ _ _ (c.loop-left.invariant.moves roles) (c.give_up.ensures.moves roles);
     }
 
 pub returns-clause-gives : goal.returns-clause-gives
-returns-clause-gives g c = λ gs is. c.loop-left.invariant.gives gs is ∙ none_of c.args.values.now c.loop-left.left _ c.loop-left-test.false
+returns-clause-gives g c = λ gs sp is. c.loop-left.invariant.gives gs sp is ∙ none_of c.args.values.now c.loop-left.left _ c.loop-left-test.false

@@ -1,4 +1,5 @@
-use Rattle.std.proofs.Common.{◌≡◌, ◌≤◌, ◌+◌, List, take, length, vec_len, vec_capacity}
+use Rattle.std.proofs.Common.{Bool, ◌≡◌, ◌≤◌, ◌+◌, List, take, length}
+use Rattle.ang_host.specs.Logs.{listed_in, is_heard, log_len, log_capacity}
 use Rattle.ang_host.specs.declared.event.Role.{Role}
 use Rattle.ang_host.specs.Members.{states_of}
 use Rattle.ang_host.specs.Boxes.{members}
@@ -7,21 +8,24 @@ use Rattle.ang_meaning.specs.World.{Input}
 use Rattle.ang_meaning.specs.Results.{give_back}
 use Rattle.ang_meaning.specs.Counting.{EnoughIn}
 use Rattle.ang_heap.specs.Parts.{counts_of, live_of, world_by, AreReady, PartsMove}
-use Rattle.ang_heap.specs.Heaps.{objects_of}
+use Rattle.ang_heap.specs.Heaps.{IsTallied, IsLess, objects_of}
 use Rattle.ang_engine.proofs.ending.give_back.Given as goal
 
 abbrev pub invariant-loop-left : goal.invariant-loop-left
 invariant-loop-left g l = record {
   within : l.left ≤ length l.values;
-  gives : (gs : List (List Slot)) (is : List Input)
-      → give_back l.values (world_by (objects_of l.initial.heap) (counts_of (λ v. (g.dyn-1.0.entry v).1) (members l.initial.drivers)) gs l.initial.events.items is)
-      ≡ give_back (take l.left l.values) (world_by (objects_of l.heap) (counts_of (λ v. (g.dyn-1.0.entry v).1) (members l.drivers)) gs l.events.items is);
+  gives : (gs : List (List Slot)) (sp : Bool) (is : List Input)
+      → give_back l.values (world_by (objects_of l.initial.heap) (counts_of (λ v. (g.dyn-1.0.entry v).1) (members l.initial.drivers)) gs (listed_in l.initial.events) sp is)
+      ≡ give_back (take l.left l.values) (world_by (objects_of l.heap) (counts_of (λ v. (g.dyn-1.0.entry v).1) (members l.drivers)) gs (listed_in l.events) sp is);
   enough : EnoughIn (take l.left l.values) (objects_of l.heap) (counts_of (λ v. (g.dyn-1.0.entry v).1) (members l.drivers));
-  ready : AreReady (states_of (λ v. (g.dyn-1.0.entry v).1) (members l.drivers)) (vec_len l.events) (vec_capacity l.events);
-  capacity : vec_capacity l.events ≡ vec_capacity l.initial.events;
+  ready : AreReady (states_of (λ v. (g.dyn-1.0.entry v).1) (members l.drivers)) (log_len l.events) (log_capacity l.events);
+  capacity : log_capacity l.events ≡ log_capacity l.initial.events;
   fewer : live_of (λ v. (g.dyn-1.0.entry v).1) (members l.drivers) ≤ live_of (λ v. (g.dyn-1.0.entry v).1) (members l.initial.drivers);
-  level : vec_len l.events + live_of (λ v. (g.dyn-1.0.entry v).1) (members l.drivers) ≡ vec_len l.initial.events + live_of (λ v. (g.dyn-1.0.entry v).1) (members l.initial.drivers);
-  moves : (roles : List Role) → PartsMove (λ v. (g.dyn-1.0.entry v).1) roles (members l.initial.drivers) l.initial.events.items (members l.drivers) l.events.items;
+  level : log_len l.events + live_of (λ v. (g.dyn-1.0.entry v).1) (members l.drivers) ≡ log_len l.initial.events + live_of (λ v. (g.dyn-1.0.entry v).1) (members l.initial.drivers);
+  counted : IsTallied l.initial.heap → IsTallied l.heap;
+  heard : is_heard l.events ≡ is_heard l.initial.events;
+  less : IsLess l.initial.heap l.heap;
+  moves : (roles : List Role) → PartsMove (λ v. (g.dyn-1.0.entry v).1) roles (members l.initial.drivers) (listed_in l.initial.events) (members l.drivers) (listed_in l.events);
 }
 
 abbrev pub decreases-loop-left : goal.decreases-loop-left

@@ -1,6 +1,6 @@
 use Rattle.std.proofs.Common.{◌≡◌, take}
 use Rattle.std.specs.Prelude.{map as list_map}
-use Rattle.ang_lower.specs.Hosts.{asked_as}
+use Rattle.ang_source.specs.Hosts.{asked_as}
 use Rattle.ang_engine_modules.proofs.entities.uses_of.Given as goal
 
 abbrev pub invariant-loop-number : goal.invariant-loop-number

@@ -1,4 +1,5 @@
-use Rattle.std.proofs.Common.{◌+◌, sym, ap, ◌∙◌, vec_len}
+use Rattle.std.proofs.Common.{◌+◌, sym, ap, ◌∙◌}
+use Rattle.ang_host.specs.Logs.{listed_in, log_len}
 use Rattle.ang_host.specs.Boxes.{members}
 use Rattle.ang_host.specs.Events.{ends}
 use Rattle.ang_host.specs.Members.{state_at, states_of}
@@ -17,15 +18,15 @@ pub release_listed-requires-clause-key_live : goal.release_listed-requires-claus
 release_listed-requires-clause-key_live g c = IsLive-held (state_at (states_of (λ v. (g.dyn-1.0.entry v).1) (members c.args.drivers.now)) c.args.driver) c.args.key c.requires.held
 
 pub returns-clause-gives : goal.returns-clause-gives
-returns-clause-gives g c = λ os gs is.
-    release_gives _ _ _ _ _ _ _ _ c.release_listed.ensures.moved os gs c.args.events.now.items is
-    ∙ ap (λ es. world_by os (counts_of (λ v. (g.dyn-1.0.entry v).1) (members c.release_listed.new.drivers)) gs es is) (sym c.release_listed.ensures.listed)
+returns-clause-gives g c = λ os gs sp is.
+    release_gives _ _ _ _ _ _ _ _ c.release_listed.ensures.moved os gs (listed_in c.args.events.now) sp is
+    ∙ ap (λ es. world_by os (counts_of (λ v. (g.dyn-1.0.entry v).1) (members c.release_listed.new.drivers)) gs es sp is) (sym c.release_listed.ensures.listed)
 
 pub returns-clause-ready : goal.returns-clause-ready
 returns-clause-ready g c = release_ready _ _ _ _ _ _ _ _ c.release_listed.ensures.moved _ _ _ _ c.requires.ready c.release_listed.ensures.len c.release_listed.ensures.capacity
 
 pub returns-clause-ended : goal.returns-clause-ended
-returns-clause-ended g c = c.release_listed.ensures.len ∙ ap (λ n. vec_len c.args.events.now + n) (ends_length c.args.driver c.args.key c.release_listed.result)
+returns-clause-ended g c = c.release_listed.ensures.len ∙ ap (λ n. log_len c.args.events.now + n) (ends_length c.args.driver c.args.key c.release_listed.result)
 
 pub returns-clause-fewer : goal.returns-clause-fewer
 returns-clause-fewer g c = release_fewer _ _ _ _ _ _ _ _ c.release_listed.ensures.moved

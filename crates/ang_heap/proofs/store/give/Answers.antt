@@ -34,7 +34,7 @@ pub returns-then-not-lower_shared-clause-moves : goal.returns-then-not-lower_sha
 returns-then-not-lower_shared-clause-moves g c = λ roles.
     let s = c.args.store.now in
     let h = record s.heap { records = c.lower_shared.new.records } in
-    moves_join _ roles s (record s { heap = h }) c.give_script.new.store (moves_objects _ roles s h) (c.give_script.ensures.moves roles)
+    moves_join _ roles s (record s { heap = h }) c.give_script.new.store (moves_objects _ roles s h (λ e. e ∙ sym c.lower_shared.ensures.slots) (λ n a b. a)) (c.give_script.ensures.moves roles)
 
 -- a host object
 pub returns-in-Some-named-clause-given : goal.returns-in-Some-named-clause-given
@@ -46,3 +46,8 @@ pub returns-in-None-named-clause-given : goal.returns-in-None-named-clause-given
 returns-in-None-named-clause-given g c = λ is.
     ap (λ v. give v (with_inputs is (world_of (λ v. (g.dyn-1.0.entry v).1) c.args.store.now))) (c.in-Host.is ∙ ap (λ o. Host c.in-Host.driver o) c.in-None-named.is)
     ∙ give_no_key _ _
+
+pub returns-else-not-lower_shared-clause-moves : goal.returns-else-not-lower_shared-clause-moves
+returns-else-not-lower_shared-clause-moves g c = λ roles.
+    let s = c.args.store.now in
+    moves_objects _ roles s (record s.heap { records = c.lower_shared.new.records }) (λ e. e ∙ sym c.lower_shared.ensures.slots) (λ n a b. a)

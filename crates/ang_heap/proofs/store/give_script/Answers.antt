@@ -1,11 +1,12 @@
-use Rattle.std.proofs.Common.{arith}
+use Rattle.std.proofs.Common.{refl, arith}
+use Rattle.ang_heap.proofs.Spending.{ran_out_along}
 use Rattle.ang_heap.proofs.store.give_script.Goals as goal
 
 pub give_up-requires-clause-ready : goal.give_up-requires-clause-ready
 give_up-requires-clause-ready g c = record { sound = c.requires.ready.kept.drivers.sound; room = omega (arith, c.requires.ready.room, c.requires.ready.kept.alive) }
 
 pub returns-clause-given : goal.returns-clause-given
-returns-clause-given g c = λ is. c.give_up.ensures.gives _ is
+returns-clause-given g c = λ is. c.give_up.ensures.gives _ _ is
 
 pub returns-clause-moves : goal.returns-clause-moves
 returns-clause-moves g c = λ roles. record {
@@ -15,7 +16,16 @@ returns-clause-moves g c = λ roles. record {
       drivers = record { sound = c.give_up.ensures.ready.sound; room = omega (arith, r.kept.drivers.room, c.give_up.ensures.fewer) };
       alive = omega (arith, r.kept.alive, c.give_up.ensures.level, c.give_up.ensures.fewer);
       none = r.kept.none;
+      due = λ e. ran_out_along _ _ _ roles _ _ _ (c.give_up.ensures.moves roles).follow (r.kept.due e);
+      tallied = c.give_up.ensures.counted r.kept.tallied;
     };
     room = omega (arith, r.room, r.kept.alive, c.give_up.ensures.level, c.give_up.ensures.fewer, c.give_up.ensures.capacity);
+  };
+  heard = c.give_up.ensures.heard;
+  limits = refl;
+  within = λ r n k o a w. record {
+    slots = omega (arith, w.slots, c.give_up.ensures.less);
+    events = omega (arith, w.events, r.kept.alive, c.give_up.ensures.level, c.give_up.ensures.fewer);
+    objects = omega (arith, w.objects);
   };
 }

@@ -1,5 +1,4 @@
-use Rattle.std.proofs.Common.{sym, ap, ◌∙◌}
-use Rattle.ang_host.specs.State.{call}
+use Rattle.std.proofs.Common.{sym, ap}
 use Rattle.ang_host.specs.Events.{ask_of}
 use Rattle.ang_host.proofs.Steps.{AllFollow-answered}
 use Rattle.ang_host.proofs.listed.call_listed.Goals as goal
@@ -7,4 +6,4 @@ use Rattle.ang_host.proofs.listed.call_listed.Goals as goal
 pub returns-clause-follow : goal.returns-clause-follow
 returns-clause-follow g c roles role =
     AllFollow-answered _ _ _ roles _ _ _ _ _ _ _ _ _
-    (ap (λ xs. call c.args.f c.args.object xs) c.as_slice.ensures.same ∙ ap (λ r. ask_of r c.args.object c.args.args) (sym role)) c.call-answer.ensures.moved
+    (ap (λ r. ask_of r c.args.object c.args.args.now) (sym role)) c.call-answer.ensures.moved

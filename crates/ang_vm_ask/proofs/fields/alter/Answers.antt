@@ -5,7 +5,7 @@ use Rattle.ang_heap.proofs.Storing.{moves_join}
 use Rattle.ang_meaning.specs.World.{with_inputs}
 use Rattle.ang_meaning.specs.declared.slot.Slot.TheVariants.{Bits}
 use Rattle.ang_meaning.proofs.Telling.{told_same}
-use Rattle.ang_vm_ask.proofs.Movings.{moves_heap}
+use Rattle.ang_vm_ask.proofs.Movings.{moves_heap_within}
 use Rattle.ang_vm_ask.proofs.ObjectOperands.{bits_stand, field_stand, second_gives}
 use Rattle.ang_vm_ask.proofs.FieldOperations.{field_is, field_set_is, change_null, changed, not_changed}
 use Rattle.ang_vm_ask.proofs.fields.alter.Goals as goal
@@ -15,7 +15,7 @@ returns-in-None-clause-told g c = λ z home.
     told_same (λ is. change_null z home c.args.index c.args.by c.args.object c.args.operand (with_inputs is (world_of (λ v. (g.dyn-1.0.entry v).1) c.args.store.now)) (sym c.number_of.ensures.exact ∙ c.in-None.is))
 
 pub give-requires-clause-ready : goal.give-requires-clause-ready
-give-requires-clause-ready g c = (moves_heap _ [] c.args.store.now c.set_field.new.self).ready c.requires.ready
+give-requires-clause-ready g c = (moves_heap_within _ [] c.args.store.now c.set_field.new.self c.set_field.ensures.counted c.set_field.ensures.less).ready c.requires.ready
 
 pub give-requires-clause-enough : goal.give-requires-clause-enough
 give-requires-clause-enough g c =
@@ -42,7 +42,7 @@ returns-in-Ok-clause-told g c = λ z home.
 pub returns-in-Ok-clause-moves : goal.returns-in-Ok-clause-moves
 returns-in-Ok-clause-moves g c = λ roles.
     let t = record c.args.store.now { heap = c.set_field.new.self } in
-    moves_join _ roles c.args.store.now t c.give.new.store (moves_heap _ roles c.args.store.now c.set_field.new.self) (c.give.ensures.moves roles)
+    moves_join _ roles c.args.store.now t c.give.new.store (moves_heap_within _ roles c.args.store.now c.set_field.new.self c.set_field.ensures.counted c.set_field.ensures.less) (c.give.ensures.moves roles)
 
 pub returns-in-Err-clause-told : goal.returns-in-Err-clause-told
 returns-in-Err-clause-told g c = λ z home.

@@ -1,4 +1,4 @@
-use Rattle.std.proofs.Common.{[], ◌∷◌, sym, ap, ◌∙◌, subst}
+use Rattle.std.proofs.Common.{[], ◌∷◌, ap, ◌∙◌, subst}
 use Rattle.ang_heap.specs.Stores.{world_of}
 use Rattle.ang_meaning.specs.World.{with_inputs, give}
 use Rattle.ang_meaning.specs.declared.slot.Slot.TheVariants.{Script}

@@ -1,4 +1,3 @@
-use Rattle.std.proofs.Common.{◌≡◌, sym, ap, ◌∙◌, None, Some}
 use Rattle.ang_vm_stack.specs.Tables.{setting_of}
 use Rattle.ang_vm_ask.proofs.FieldOperations.{class_under, no_class_under}
 use Rattle.ang_vm_ask.proofs.fields.is_under.Goals as goal

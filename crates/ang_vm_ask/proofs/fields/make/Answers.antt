@@ -1,4 +1,4 @@
-use Rattle.std.proofs.Common.{◌≡◌, sym, subst, IfOk, OnErr, None}
+use Rattle.std.proofs.Common.{◌≡◌, refl, length, ap, arith, None}
 use Rattle.std.specs.FinMap as map
 use Rattle.ang_heap.specs.Heaps.{objects_of}
 use Rattle.ang_heap.specs.Stores.{world_of}
@@ -17,8 +17,18 @@ pub returns-in-Err-clause-told : goal.returns-in-Err-clause-told
 returns-in-Err-clause-told g c = λ z home number e.
     not_made z home number c.args.class.now e (world_of (λ v. (g.dyn-1.0.entry v).1) c.args.store.now) (objects_of c.make.new.self) (on_err c.make.result _ _ c.in-Err.is c.make.ensures.unchanged)
 
+pub returns-then-not-has_slots-clause-told : goal.returns-then-not-has_slots-clause-told
+returns-then-not-has_slots-clause-told g c = λ z home number e.
+    not_made z home number c.args.class.now e (world_of (λ v. (g.dyn-1.0.entry v).1) c.args.store.now) (objects_of c.args.store.now.heap) refl
+
 pub returns-in-Ok-clause-moves : goal.returns-in-Ok-clause-moves
-returns-in-Ok-clause-moves g c = λ roles. moves_heap _ roles c.args.store.now c.make.new.self
+returns-in-Ok-clause-moves g c = λ roles.
+    let room = c.has_slots.ensures.exact.0 c.if-not-has_slots.false in
+    let fields = ap length c.as_slice-count.ensures.same in
+    moves_heap _ roles c.args.store.now c.make.new.self c.make.ensures.counted (λ n a b. omega (arith, c.make.ensures.grown, b, room, fields))
 
 pub returns-in-Err-clause-moves : goal.returns-in-Err-clause-moves
-returns-in-Err-clause-moves g c = λ roles. moves_heap _ roles c.args.store.now c.make.new.self
+returns-in-Err-clause-moves g c = λ roles.
+    let room = c.has_slots.ensures.exact.0 c.if-not-has_slots.false in
+    let fields = ap length c.as_slice-count.ensures.same in
+    moves_heap _ roles c.args.store.now c.make.new.self c.make.ensures.counted (λ n a b. omega (arith, c.make.ensures.grown, b, room, fields))

@@ -1,7 +1,6 @@
 use Rattle.std.proofs.Common.{[], ◌∷◌}
 use Rattle.ang_heap.specs.Stores.{world_of}
 use Rattle.ang_heap.proofs.Storing.{moves_join}
-use Rattle.ang_vm_ask.specs.Counts.{StandCounted}
 use Rattle.ang_vm_ask.proofs.ObjectOperands.{first_known, first_gives, held_stand, stored_stand}
 use Rattle.ang_vm_ask.proofs.StoreOperations.{stored, not_stored}
 use Rattle.ang_vm_ask.proofs.globals.set.Goals as goal

@@ -2,7 +2,7 @@ use Rattle.std.proofs.Common.{rules, refl, ◌≡◌, length}
 use Rattle.ang_host.specs.Boxes.{members}
 use Rattle.ang_engine.specs.Sound.{HaveDrivers}
 use Rattle.asrun_session.specs.Drivers.{NoDriver}
-use Rattle.ang_registry.specs.Roles.{roles_of}
+use Rattle.ang_engine.specs.Roles.{roles_of}
 use Rattle.asremote.proofs.Talking.{talks_taken, stops_taken, talks_refused, stops_refused, stops_untouched}
 use Rattle.asremote.proofs.conversation.run_engine.Goals as goal
 use Rattle.asremote.proofs.conversation.run_engine.Goals.{in-NoDriver, in-Memory}

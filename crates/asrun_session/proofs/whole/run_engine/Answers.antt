@@ -1,6 +1,6 @@
 use Rattle.std.proofs.Common.{◌≡◌, rules, length, map, ap, [], refl, ◌∙◌}
 use Rattle.ang_host.specs.Boxes.{members}
-use Rattle.ang_registry.specs.Roles.{roles_of}
+use Rattle.ang_engine.specs.Roles.{roles_of}
 use Rattle.ang_engine.specs.Engines.{world_in, drivers_in}
 use Rattle.ang_engine.specs.Sound.{HaveDrivers}
 use Rattle.asrun_session.specs.Drivers.{NoDriver}

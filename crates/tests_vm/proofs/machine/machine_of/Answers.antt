@@ -1,5 +1,6 @@
-use Rattle.std.proofs.Common.{sym, arith, []}
-use Rattle.std.specs.Prelude.{vec_len, vec_capacity, map as list_map}
+use Rattle.std.proofs.Common.{sym, ap, length, false, []}
+use Rattle.std.specs.Prelude.{map as list_map}
+use Rattle.ang_host.specs.Logs.{listed_in, log_len, log_capacity}
 use Rattle.ang_host.specs.Boxes.{members}
 use Rattle.ang_host.specs.Members.{states_of}
 use Rattle.ang_meaning.specs.Counting.{counts_by}
@@ -10,19 +11,21 @@ use Rattle.tests_vm.proofs.machine.machine_of.Goals as goal
 
 pub returns : goal.returns
 returns g c = record {
-  begins = λ events e.
+  rest = λ events room.
       let ss = states_of (λ v. (g.dyn-1.0.entry v).1) (members c.args.drivers) in
       record {
         ready = record {
           kept = record {
-            drivers = ready_fresh ss (vec_len c.new-ends.result) (vec_capacity c.new-ends.result) c.requires.fresh c.new-ends.ensures.len;
+            drivers = ready_fresh ss (log_len c.new-ends.result) (log_capacity c.new-ends.result) c.requires.fresh (ap length c.new-ends.ensures.empty);
             alive = sym (live_fresh ss c.requires.fresh);
-            none = c.new-ends.ensures.items;
+            none = c.new-ends.ensures.empty;
+            due = λ e. absurd (let x : ⊥ = cc in x);
+            tallied = c.new-heap.ensures.counted;
           };
-          room = omega (arith, e);
+          room = room;
         };
         counted = nothing_counted
-            (record { objects = objects_of c.new-heap.result; hosts = counts_by ss; globals = list_map (λ v. v.items) c.args.modules.items; events = events.items; inputs = [] })
+            (record { objects = objects_of c.new-heap.result; hosts = counts_by ss; globals = list_map (λ v. v.items) c.args.modules.items; events = listed_in events; spent = false; inputs = [] })
             c.new-heap.ensures.empty (no_counts ss c.requires.fresh) (λ x. empty_globals x c.args.modules.items c.requires.empty);
       };
 }

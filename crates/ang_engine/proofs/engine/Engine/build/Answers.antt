@@ -2,6 +2,8 @@ use Rattle.std.proofs.Common.{refl}
 use Rattle.ang_engine.specs.Engines.{registrations, world_in}
 use Rattle.ang_engine_modules.specs.declared.command.Command.TheVariants.{Build}
 use Rattle.ang_engine.proofs.Whole.{applied-build, applied-memory, sound-asked}
+use Rattle.ang_host.specs.Logs.{listed_in}
+use Rattle.ang_engine.proofs.Limiting.{within_none, within_reply}
 use Rattle.ang_engine.proofs.engine.Engine.build.Goals as goal
 
 pub returns-in_default-clause-applied : goal.returns-in_default-clause-applied
@@ -12,10 +14,19 @@ returns-in_default-clause-applied g c =
 pub returns-clause-applied : goal.returns-clause-applied
 returns-clause-applied g c =
     applied-build (λ v. (g.dyn-1.0.entry v).1) (registrations c.args.self.now) (world_in (λ v. (g.dyn-1.0.entry v).1) c.args.self.now) _
-    c.args.self.now.machine.store c.build-done.new.machine.store c.as_slice.result.now c.args.name c.args.budget _ c.build-done.result c.build-done.new.events.items
+    c.args.self.now.machine.store c.build-done.new.machine.store c.as_slice.result.now c.args.name c.args.budget _ c.build-done.result (listed_in c.build-done.new.events)
     c.as_slice.ensures.same c.build_reply.ensures.exact c.build-done.ensures.done c.build-done.ensures.asked c.build-done.ensures.refused
 
 pub returns-clause-sound : goal.returns-clause-sound
 returns-clause-sound g c =
     sound-asked (λ v. (g.dyn-1.0.entry v).1) c.args.self.now (record c.args.self.now { modules = c.build-done.new.list; machine = c.build-done.new.machine }) _ _
     c.requires.sound refl c.build-done.ensures.sound c.build-done.ensures.globals c.build-done.ensures.asked
+
+pub returns-in_default-clause-within : goal.returns-in_default-clause-within
+returns-in_default-clause-within g c =
+    let s = c.args.self.now.machine.store in
+    within_reply (λ v. (g.dyn-1.0.entry v).1) s s _ _ c.answer.ensures.exact (within_none (λ v. (g.dyn-1.0.entry v).1) s)
+
+pub returns-clause-within : goal.returns-clause-within
+returns-clause-within g c =
+    within_reply (λ v. (g.dyn-1.0.entry v).1) c.args.self.now.machine.store c.build-done.new.machine.store _ _ c.build_reply.ensures.exact c.build-done.ensures.asked.within

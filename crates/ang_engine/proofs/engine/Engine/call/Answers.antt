@@ -6,6 +6,8 @@ use Rattle.ang_engine_modules.specs.Sound.{HaveGlobals}
 use Rattle.ang_engine.specs.Sound.{AreSoundModules}
 use Rattle.ang_engine.proofs.Kept.{run_globals}
 use Rattle.ang_engine.proofs.Whole.{applied-call, applied-memory, sound-asked}
+use Rattle.ang_host.specs.Logs.{listed_in}
+use Rattle.ang_engine.proofs.Limiting.{within_none, within_reply}
 use Rattle.ang_engine.proofs.engine.Engine.call.Goals as goal
 
 pub returns-in_default-clause-applied : goal.returns-in_default-clause-applied
@@ -17,7 +19,7 @@ pub returns-clause-applied : goal.returns-clause-applied
 returns-clause-applied g c =
     applied-call (λ v. (g.dyn-1.0.entry v).1) (registrations c.args.self.now) (world_in (λ v. (g.dyn-1.0.entry v).1) c.args.self.now) _
     c.args.self.now.machine.store c.call_named-done.new.self.machine.store c.as_slice.result.now c.args.name c.as_slice-2.result.now c.args.decl c.as_slice-3.result.now c.args.args c.args.budget _
-    c.call_named-done.result c.call_named-done.new.events.items c.as_slice.ensures.same c.as_slice-2.ensures.same c.as_slice-3.ensures.same
+    c.call_named-done.result (listed_in c.call_named-done.new.events) c.as_slice.ensures.same c.as_slice-2.ensures.same c.as_slice-3.ensures.same
     c.call_reply.ensures.exact c.call_named-done.ensures.done c.call_named-done.ensures.asked c.call_named-done.ensures.refused
 
 pub returns-clause-sound : goal.returns-clause-sound
@@ -28,3 +30,12 @@ returns-clause-sound g c =
     (subst (λ x. AreSoundModules (registrations c.args.self.now) x) (sym c.call_named-done.ensures.modules) c.requires.sound.modules)
     (subst (λ x. HaveGlobals x hs) (sym c.call_named-done.ensures.modules) (run_globals c.args.self.now.modules gs hs c.call_named-done.ensures.globals c.requires.sound.globals))
     c.call_named-done.ensures.asked
+
+pub returns-in_default-clause-within : goal.returns-in_default-clause-within
+returns-in_default-clause-within g c =
+    let s = c.args.self.now.machine.store in
+    within_reply (λ v. (g.dyn-1.0.entry v).1) s s _ _ c.answer.ensures.exact (within_none (λ v. (g.dyn-1.0.entry v).1) s)
+
+pub returns-clause-within : goal.returns-clause-within
+returns-clause-within g c =
+    within_reply (λ v. (g.dyn-1.0.entry v).1) c.args.self.now.machine.store c.call_named-done.new.self.machine.store _ _ c.call_reply.ensures.exact c.call_named-done.ensures.asked.within

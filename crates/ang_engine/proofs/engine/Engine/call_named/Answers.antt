@@ -14,7 +14,8 @@ use Rattle.ang_engine.proofs.Calls.{call-run}
 use Rattle.ang_engine.proofs.Named.{few_families, program_there, takes_chosen, typed_chosen, chosen_refused, calling-unbuilt, calling-unbudgeted, calling-built}
 use Rattle.ang_engine_modules.specs.declared.reply.Outcome.TheVariants.{Refused}
 use Rattle.ang_engine.proofs.Refusing.{refused_anyway, called_ended}
-use Rattle.ang_engine.proofs.Asking.{asked-nothing, asked-run}
+use Rattle.ang_engine.proofs.Asking.{asked-nothing, asked-run, heard-run}
+use Rattle.ang_host.specs.Logs.{listed_in}
 use Rattle.ang_engine.proofs.engine.Engine.call_named.Goals as goal
 
 -- ---- there is no module of that name
@@ -86,7 +87,7 @@ returns-in-Err-clause-done g c =
     let there : IsSome (slice_index_or m.places.items c.in-Some.home None) = subst (λ xs. IsSome (slice_index_or xs c.in-Some.home None)) c.deref.ensures.value c.in-Some.ensures.there in
     let l = c.in-Some-loaded.loaded.now in
     let may : is_budget c.args.budget ≡ true = search rules in
-    calling-built w c.args.name.now c.args.decl.now c.args.args.now c.args.budget c.in-Some.home found (program_in l) (Err c.in-Err.refusal) c.args.events.now.items w
+    calling-built w c.args.name.now c.args.decl.now c.args.args.now c.args.budget c.in-Some.home found (program_in l) (Err c.in-Err.refusal) (listed_in c.args.events.now) w
     (program_there m.places.items m.code c.in-Some.home (Some l) there c.in-Some-loaded.ensures.exact) may
     (chosen_refused c.in-Err.refusal (choice_of (program_in l) c.args.decl.now c.args.args.now) w c.in-Some.home c.args.budget c.in-Err.ensures.chosen)
 
@@ -119,7 +120,7 @@ returns-in-Ok-clause-done g c =
     let there : IsSome (slice_index_or m.places.items c.in-Some.home None) = subst (λ xs. IsSome (slice_index_or xs c.in-Some.home None)) c.deref.ensures.value c.in-Some.ensures.there in
     let l = c.in-Some-loaded.loaded.now in
     let may : is_budget c.args.budget ≡ true = search rules in
-    calling-built w c.args.name.now c.args.decl.now c.args.args.now c.args.budget c.in-Some.home found (program_in l) (Ok c.run_chosen.result) c.run_chosen.new.events.items _
+    calling-built w c.args.name.now c.args.decl.now c.args.args.now c.args.budget c.in-Some.home found (program_in l) (Ok c.run_chosen.result) (listed_in c.run_chosen.new.events) _
     (program_there m.places.items m.code c.in-Some.home (Some l) there c.in-Some-loaded.ensures.exact) may
     (call-run (program_in l) (modules_of m.code) c.args.decl.now c.args.args.now c.in-Some.home c.args.budget c.in-Ok.chosen c.in-Ok.ensures.chosen.0 c.run_chosen.result (states_in m)
     (world_of (λ v. (g.dyn-1.0.entry v).1) (lent c.args.self.now.machine c.args.events.now)) (world_of (λ v. (g.dyn-1.0.entry v).1) (lent c.run_chosen.new.machine c.run_chosen.new.events))
@@ -143,3 +144,9 @@ returns-in-Ok-clause-refused g c =
     (typed_chosen (registrations c.args.self.now) m.places.items m.code c.in-Some.home l c.args.decl.now c.args.args.now c.in-Ok.chosen c.requires.sound.modules.each
     c.in-Some-loaded.ensures.exact c.in-Ok.ensures.chosen) in
     called_ended means.function means.value c.run_chosen.result _ means.ended
+
+pub returns-in-Ok-clause-heard : goal.returns-in-Ok-clause-heard
+returns-in-Ok-clause-heard g c =
+    let m = c.args.self.now.modules in
+    heard-run (λ v. (g.dyn-1.0.entry v).1) (registrations c.args.self.now) c.args.self.now.machine.store c.run_chosen.new.machine.store c.args.events.now c.run_chosen.new.events
+    c.requires.first c.requires.ready c.requires.sound.counted m.places.items m.code c.requires.sound.modules.each c.run_chosen.ensures.asked

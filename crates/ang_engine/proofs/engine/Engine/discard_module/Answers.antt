@@ -2,6 +2,8 @@ use Rattle.std.proofs.Common.{refl}
 use Rattle.ang_engine.specs.Engines.{registrations, world_in}
 use Rattle.ang_engine_modules.specs.declared.command.Command.TheVariants.{Discard}
 use Rattle.ang_engine.proofs.Whole.{applied-discard, applied-memory}
+use Rattle.ang_host.specs.Logs.{listed_in}
+use Rattle.ang_engine.proofs.Limiting.{within_none, within_reply}
 use Rattle.ang_engine.proofs.engine.Engine.discard_module.Goals as goal
 
 pub returns-in_default-clause-applied : goal.returns-in_default-clause-applied
@@ -13,5 +15,14 @@ pub returns-clause-applied : goal.returns-clause-applied
 returns-clause-applied g c =
     let d = c.discard_named-done in
     applied-discard (λ v. (g.dyn-1.0.entry v).1) (registrations c.args.self.now) (world_in (λ v. (g.dyn-1.0.entry v).1) c.args.self.now) _
-    c.args.self.now.machine.store d.new.self.machine.store c.as_slice.result.now c.args.name _ d.result d.new.events.items
+    c.args.self.now.machine.store d.new.self.machine.store c.as_slice.result.now c.args.name _ d.result (listed_in d.new.events)
     c.as_slice.ensures.same c.discard_reply.ensures.exact d.ensures.done d.ensures.asked d.ensures.refused
+
+pub returns-in_default-clause-within : goal.returns-in_default-clause-within
+returns-in_default-clause-within g c =
+    let s = c.args.self.now.machine.store in
+    within_reply (λ v. (g.dyn-1.0.entry v).1) s s _ _ c.answer.ensures.exact (within_none (λ v. (g.dyn-1.0.entry v).1) s)
+
+pub returns-clause-within : goal.returns-clause-within
+returns-clause-within g c =
+    within_reply (λ v. (g.dyn-1.0.entry v).1) c.args.self.now.machine.store c.discard_named-done.new.self.machine.store _ _ c.discard_reply.ensures.exact c.discard_named-done.ensures.asked.within

@@ -1,4 +1,4 @@
-use Rattle.std.proofs.Common.{◌≡◌, Some, refl, inr}
+use Rattle.std.proofs.Common.{◌≡◌, [], Some, refl, inr}
 use Rattle.ang_heap.specs.Globals.{values_in}
 use Rattle.ang_engine_modules.specs.Commands.{discard}
 use Rattle.ang_engine_modules.specs.World.{module_named}
@@ -8,6 +8,7 @@ use Rattle.ang_engine.proofs.Asking.{asked-nothing}
 use Rattle.ang_engine.proofs.Kept.{removed_sound, removed_globals}
 use Rattle.ang_engine.proofs.Removing.{removed-values, removed-leads, removed-asked}
 use Rattle.ang_engine.proofs.Whole.{sound-asked}
+use Rattle.ang_host.specs.Logs.{listed_in}
 use Rattle.ang_engine.proofs.engine.Engine.discard_named.Goals as goal
 
 -- ---- there is no module of that name
@@ -46,9 +47,12 @@ returns-clause-sound g c =
     let s = c.args.self.now.machine.store in
     let t = c.end_globals.new.machine.store in
     let f = record c.args.self.now { modules = y; machine = c.end_globals.new.machine } in
-    sound-asked (λ v. (g.dyn-1.0.entry v).1) c.args.self.now f (world_in (λ v. (g.dyn-1.0.entry v).1) f) c.end_globals.new.events.items c.requires.sound refl
+    sound-asked (λ v. (g.dyn-1.0.entry v).1) c.args.self.now f (world_in (λ v. (g.dyn-1.0.entry v).1) f) (listed_in c.end_globals.new.events) c.requires.sound refl
     (removed_sound x y c.in-Some.home c.remove_module.ensures.places R c.remove_module.ensures.code c.remove_module.ensures.order c.requires.sound.modules)
     (removed_globals x y c.in-Some.home c.remove_module.ensures.places (values_in s.globals) (values_in t.globals)
     (removed-values (λ v. (g.dyn-1.0.entry v).1) R x y c.in-Some.home s t c.args.events.now c.end_globals.new.events c.requires.first c.end_globals.ensures.ended) c.requires.sound.globals)
     (removed-asked (λ v. (g.dyn-1.0.entry v).1) R x y c.in-Some.home s t c.args.events.now c.end_globals.new.events c.requires.first c.end_globals.ensures.ended _ c.requires.ready c.requires.sound.counted
     c.end_globals.ensures.moves)
+
+pub returns-clause-heard : goal.returns-clause-heard
+returns-clause-heard g c = (c.end_globals.ensures.moves []).heard

@@ -4,6 +4,7 @@ use Rattle.ang_heap.specs.Stores.{world_of}
 use Rattle.ang_engine.specs.Engines.{registrations, world_in}
 use Rattle.ang_engine.proofs.Kept.{kept_sound, kept_globals}
 use Rattle.ang_engine.proofs.Whole.{applied-without}
+use Rattle.ang_engine.proofs.Limiting.{within_none, within_reply}
 use Rattle.ang_engine.proofs.engine.Engine.set_mask.Goals as goal
 
 pub returns-clause-applied : goal.returns-clause-applied
@@ -24,3 +25,8 @@ returns-clause-sound g c =
       kept = c.requires.sound.kept;
       counted = c.requires.sound.counted;
     }
+
+pub returns-clause-within : goal.returns-clause-within
+returns-clause-within g c =
+    let s = c.args.self.now.machine.store in
+    within_reply (λ v. (g.dyn-1.0.entry v).1) s s _ _ c.answer.ensures.exact (within_none (λ v. (g.dyn-1.0.entry v).1) s)

@@ -1,6 +1,0 @@
-use Rattle.std.proofs.Common.{◌≡◌, ◌++◌, drop}
-use Rattle.ang_meaning.specs.Hosts.{values_of}
-use Rattle.ang_vm_ask.proofs.rooms.values_from.Given as goal
-
-abbrev pub invariant-loop-i : goal.invariant-loop-i
-invariant-loop-i l = l.values.items ++ values_of l.driver (drop l.i l.types) (drop l.i l.slots) ≡ values_of l.driver l.types l.slots
