@@ -1,11 +1,14 @@
 #!/usr/bin/env python3
 """Measures what a host call over the pipe takes, beside an empty round trip over pipes, and a build in asremote beside one in asrun.
 
-    python3 bench/remote.py ASREMOTE ASRUN [--calls N] [--rounds N]
+    python3 bench/remote.py ASREMOTE ASRUN [--calls N] [--rounds N] [--library FOLDER]
 
 A script asks the host N times (100,000, if left out). A call is the time from one ask to the next: its answer is written, the script
 goes on, and the next ask is read. It is measured twice: by the lines alone, and by a callable of a profile (clients/python). The empty
 round trip is a line to `cat` and back, as often. The median of each is printed, with the lower and the upper tenth.
+
+With --library, of a folder that `make -C clients/c` made (clients/c/out/proved), the same script and an empty command are
+measured with a host in C: with the engine in its process, and with asremote over pipes (bench/inproc.c, which cc compiles).
 
 Then 4,096 functions are built (bench/sections.py), N times (5) in each program, one after the other, and the quickest counts. Seconds
 are those of the clock: of the whole process, and for asremote those of the line `build` alone too.
@@ -67,13 +70,21 @@ def calls_by_lines(asremote, profile, count):
 def calls_by_profile(asremote, count):
     times, profile = [], Profile()
     profile.function("void put(int64)", lambda n: times.append(time.perf_counter_ns()))
-    with Engine(profile, asremote, SECONDS) as engine:
+    with Engine(profile, asremote, SECONDS, events=None) as engine:
         engine.budget(count + 2)
         module = engine.module("m", 1)
         module.section(SCRIPT)
         outcome = module.build().outcome
         module.call("void run(int64)", count)
     return times, [outcome]
+
+
+def in_process(library, asremote, profile, room):
+    """Runs bench/inproc.c over the library and over asremote."""
+    words = ["cc", "-O2", f"-I{library}/include", os.path.join(HERE, "inproc.c"), f"{library}/lib/libbustlebrick.a", "-o", f"{room}/inproc"]
+    subprocess.run(words, check=True)
+    print(flush=True)
+    subprocess.run([f"{room}/inproc", asremote, profile], check=True)
 
 
 def remote_build(asremote, profile, commands):
@@ -104,6 +115,7 @@ def main():
     parser.add_argument("asrun", type=os.path.abspath)
     parser.add_argument("--calls", type=int, default=100000)
     parser.add_argument("--rounds", type=int, default=5)
+    parser.add_argument("--library", type=os.path.abspath, metavar="FOLDER")
     words = parser.parse_args()
     with tempfile.TemporaryDirectory() as room:
         profile, session = os.path.join(room, "profile"), os.path.join(room, "session")
@@ -118,6 +130,8 @@ def main():
             if outcome != ["ok"] or len(times) != words.calls:
                 sys.exit(f"asremote answered {outcome} after {len(times)} calls")
             tenths(name, times)
+        if words.library:
+            in_process(words.library, words.asremote, os.path.join(room, "inproc.profile"), room)
         subprocess.run([sys.executable, os.path.join(HERE, "sections.py"), room], check=True, stdout=subprocess.DEVNULL)
         with open(os.path.join(room, "functions.as")) as file:
             text = file.read()

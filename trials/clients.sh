@@ -9,8 +9,11 @@
 #     game       the example of each client prints clients/game.expected
 #     sessions   each session of crates/examples and crates/asrun, and 1,000 generated ones, over modules, masks, imports,
 #                numbers and objects: with the drivers of asrun written in Python, asremote prints what asrun prints
-#     lines      some 60 lines of wrong forms: what asremote says to each, and that nothing behind the head of a section runs
+#     lines      some 70 lines of wrong forms: what asremote says to each, and that nothing behind the head of a section runs
 #     kills      100 engines of each client are killed at random moments: the host goes on, and the next engine works
+#     limits     a host of each client sets limits, and prints trials/clients/limits.expected
+#     strangers  scripts that take all the memory they can, with the limits that a client sets by itself: other modules go
+#                on, and the process stays below 64 MB; and how long a tick of theirs takes
 #
 # Prints a line or more for each, and what differs. The status is 0 where all went well. Needs python3, cargo and
 # rustc, and a compiler of C++17 (c++, or the one that CXX names); what is built stands in a folder that is removed again.
@@ -28,7 +31,7 @@ asremote=$root/crates/asremote/out/asremote
 asrun=$root/crates/asrun/out/asrun
 [ $# -lt 1 ] || { asremote=$(whole "$1"); shift; }
 [ $# -lt 1 ] || { asrun=$(whole "$1"); shift; }
-[ $# -gt 0 ] || set -- game sessions lines kills
+[ $# -gt 0 ] || set -- game sessions lines kills limits strangers
 for program in "$asremote" "$asrun"; do
     [ -x "$program" ] || { echo "there is no $program: run rt ci, or rt run in its crate, first" >&2; exit 2; }
 done
@@ -39,9 +42,11 @@ bad=0
 built() {
     [ ! -d "$folder/release" ] || return 0
     (cd clients/rust && CARGO_TARGET_DIR="$folder" cargo build -q --offline --release --lib --examples)
-    rustc --edition 2021 -O -L "$folder/release/deps" --extern bustlebrick="$folder/release/libbustlebrick.rlib" \
-        trials/clients/kills.rs -o "$folder/release/examples/kills"
-    for source in clients/cpp/game.cpp trials/clients/kills.cpp; do
+    for source in trials/clients/kills.rs trials/clients/limits.rs; do
+        rustc --edition 2021 -O -L "$folder/release/deps" --extern bustlebrick="$folder/release/libbustlebrick.rlib" \
+            "$source" -o "$folder/release/examples/$(basename "$source" .rs)"
+    done
+    for source in clients/cpp/game.cpp trials/clients/kills.cpp trials/clients/limits.cpp; do
         "${CXX:-c++}" -std=c++17 -O1 -Wall -Wextra -Iclients/cpp "$source" -o "$folder/$(basename "$source" .cpp)"
     done
 }
@@ -55,18 +60,31 @@ host() {
     esac
 }
 
-game() {
+# Whether a host of each client prints what is expected: what it is, where the one in Python stands, and what it is to print.
+prints() {
     built
     for client in Python Rust C++; do
         status=0
-        $(host $client clients/python/game) "$asremote" > "$folder/said" || status=$?
-        if [ "$status" = 0 ] && diff clients/game.expected "$folder/said"; then
-            echo "the example in $client prints what is expected"
+        $(host $client "$2") "$asremote" > "$folder/said" || status=$?
+        if [ "$status" = 0 ] && diff "$3" "$folder/said"; then
+            echo "$1 in $client prints what is expected"
         else
-            echo "the example in $client prints something else, or ends with the status $status"
+            echo "$1 in $client prints something else, or ends with the status $status"
             bad=1
         fi
     done
+}
+
+game() {
+    prints "the example" clients/python/game clients/game.expected
+}
+
+limits() {
+    prints "the host with limits" trials/clients/limits trials/clients/limits.expected
+}
+
+strangers() {
+    python3 trials/clients/strangers.py "$asremote" || bad=1
 }
 
 sessions() {
@@ -87,7 +105,7 @@ kills() {
 
 for part; do
     case $part in
-    game | sessions | lines | kills) "$part" ;;
+    game | sessions | lines | kills | limits | strangers) "$part" ;;
     *) echo "no such part: $part" >&2; exit 2 ;;
     esac
 done

@@ -676,4 +676,5 @@ def main():
     sys.exit(1 if trials.bad else 0)
 
 
-main()
+if __name__ == "__main__":
+    main()

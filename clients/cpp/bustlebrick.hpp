@@ -52,10 +52,54 @@ struct Refused : std::runtime_error {
     using std::runtime_error::runtime_error;
 };
 
-// A call ended with a fault. The text is the fault, as `Host 7`; the cause what a callable threw, if one did.
+// A limit: the most that there may be of something. std::nullopt is no limit.
+using Limit = std::optional<std::uint64_t>;
+
+// What an engine has where nothing else is said; README.md, one folder up, says what that holds.
+struct Limits {
+    Limit events = 10000;  // that a reply lists, with one for the end of each object that is alive
+    Limit slots = 100000;  // of objects of scripts' classes: one for each object, and one for each field
+    Limit objects = 1000;  // of the host, that scripts hold
+
+    static Limits none() { return {std::nullopt, std::nullopt, std::nullopt}; }
+
+    std::vector<std::pair<std::string, Limit>> named() const {
+        return {{"events", events}, {"slots", slots}, {"objects", objects}};
+    }
+};
+
+// What scripts hold: the slots of objects of their classes, and how many objects of the host.
+struct Used {
+    std::uint64_t slots, objects;
+};
+
+// What there was once a call had ended with the fault `Memory`, and the limits. The events are those of the reply, and
+// one for the end of each object that is alive. What only variables of the call held is given up by then, and not counted.
+struct Held {
+    std::uint64_t events;
+    Used used;
+    Limits limits;
+
+    std::string text() const {
+        std::string text;
+        const std::uint64_t held[] = {events, used.slots, used.objects}, *next = held;
+        for (auto& [name, most] : limits.named()) {
+            auto limit = most ? " of " + std::to_string(*most) : "";
+            text += (text.empty() ? "" : ", ") + std::to_string(*next++) + limit + " " + name;
+        }
+        return text;
+    }
+};
+
+// A call ended with a fault, as `Host 7`. The cause is what a callable threw, if one did. The text is the fault. That of
+// `Memory`, which comes of a limit too, goes on with what there was and the limits.
 struct ScriptFault : std::runtime_error {
-    ScriptFault(const std::string& fault, std::exception_ptr thrown) : std::runtime_error(fault), cause(thrown) {}
+    ScriptFault(const std::string& name, std::exception_ptr thrown) : runtime_error(name), fault(name), cause(thrown) {}
+    ScriptFault(const std::string& name, std::exception_ptr thrown, const Held& there)
+        : runtime_error(name + ": " + there.text()), fault(name), cause(thrown), held(there) {}
+    std::string fault;
     std::exception_ptr cause;
+    std::optional<Held> held;
 };
 
 // The engine ended or was killed. Engine::restart makes another one.
@@ -292,6 +336,31 @@ inline std::string mask(std::uint32_t mask) {
     return text;
 }
 
+// As a limit: none.
+constexpr std::uint64_t most_of_all = INT64_MAX;
+
+// The lines that set limits.
+inline Texts lines(const Limits& limits) {
+    Texts lines;
+    for (auto& [name, most] : limits.named())
+        lines.push_back("limit " + name + " " + std::to_string(most.value_or(most_of_all)));
+    return lines;
+}
+
+// Throws where limits can't be said, or leave no room for a host call beside the ends of all objects.
+inline void check(const Limits& limits, std::size_t alive) {
+    using std::to_string;
+    for (auto& [name, most] : limits.named()) {
+        auto refused = "the limit on " + name + ", " + to_string(most.value_or(0)) + ", is not from 0 to ";
+        if (most > most_of_all) throw std::invalid_argument(refused + to_string(most_of_all));
+    }
+    auto ends = std::max<std::uint64_t>(limits.objects.value_or(UINT64_MAX), alive);
+    if (!limits.events || *limits.events > ends) return;
+    auto refused = "a limit of " + to_string(*limits.events) + " events is taken up by the ends of ";
+    refused += limits.objects ? to_string(ends) : "all";
+    throw std::invalid_argument(refused + " objects: it has to be above the limit on objects, and above how many are alive");
+}
+
 }  // namespace detail
 
 // What scripts may use. A registration has the mask that is set when it is made.
@@ -378,8 +447,9 @@ class Engine {
     class Module;
 
     // Starts an engine; `program` is the path of asremote.
-    explicit Engine(Profile profile, std::string program = "asremote")
-        : profile_(std::move(profile)), program_(std::move(program)) {
+    explicit Engine(Profile profile, std::string program = "asremote", const Limits& limits = {})
+        : profile_(std::move(profile)), program_(std::move(program)), limits_(limits) {
+        detail::check(limits, 0);
         restart();
     }
 
@@ -400,18 +470,43 @@ class Engine {
         ticks_ = ticks;
     }
 
+    // The limits that are set.
+    const Limits& limits() const { return limits_; }
+
+    // Sets the limits. One below what scripts hold ends nothing, and lets nothing grow.
+    void set_limits(const Limits& limits) {
+        detail::check(limits, objects());
+        for (auto& line : detail::lines(limits)) done(line);
+        limits_ = limits;
+    }
+
+    // What scripts hold.
+    Used used() {
+        std::map<std::string, std::string> told;
+        Reply reply;
+        for (auto& line : say("used\n")) {
+            auto words = detail::split(line, ' ');
+            if (words.size() == 2) told[words[0]] = words[1];
+            reply.outcome = line;
+        }
+        value(reply);
+        return {std::stoull(told.at("slots")), std::stoull(told.at("objects"))};
+    }
+
     // Makes a module, without scripts.
     Module module(const std::string& name, std::uint32_t mask);
 
-    // Ends the engine, if there is one, and starts another one with the same profile and budget. The modules are gone:
-    // they have to be made, built and bound anew. All objects are given up.
+    // Ends the engine, if there is one, and starts another one with the same profile, budget and limits. The modules are
+    // gone: they have to be made, built and bound anew. All objects are given up.
     void restart() {
         process_ = nullptr;
         objects_ = {};
         auto path = (std::filesystem::temp_directory_path() / "bustlebrick-XXXXXX").string();
         if (close(mkstemp(path.data())) != 0) throw EngineLost("no file for the profile");
         std::shared_ptr<void> removed(nullptr, [&](void*) { unlink(path.c_str()); });
-        if (!(std::ofstream(path) << profile_.text() << std::flush)) throw EngineLost("the profile is not written");
+        auto text = profile_.text();
+        for (auto& line : detail::lines(limits_)) text += line + "\n";
+        if (!(std::ofstream(path) << text << std::flush)) throw EngineLost("the profile is not written");
         auto drivers = std::to_string(1 + profile_.types_.size());
         process_ = std::make_unique<detail::Process>(detail::Texts{program_, "--profile", path, "--drivers", drivers});
         say("");
@@ -443,7 +538,10 @@ class Engine {
     // Does a command of one line, and gives what stands after its `ok`.
     std::string done(const std::string& line) {
         if (line.find('\n') != std::string::npos) throw std::invalid_argument("a line with a line's end: " + line);
-        return value(command(line));
+        auto reply = command(line);
+        if (reply.outcome != "fault Memory") return value(reply);
+        auto used = this->used();
+        throw ScriptFault("Memory", reply.cause, Held{reply.events.size() + used.objects, used, limits_});
     }
 
     static std::string value(const Reply& reply) {
@@ -492,6 +590,7 @@ class Engine {
     std::unique_ptr<detail::Process> process_;
     detail::Objects objects_;
     std::optional<std::uint32_t> ticks_;
+    Limits limits_;
     std::exception_ptr cause_;
 };
 

@@ -28,6 +28,8 @@ from typing import Any, Callable, Dict, List, NamedTuple, Optional, Sequence
 Asked = Callable[..., Any]
 LINE, FIELD, MASK, NUMBER = "[^\n]+", "[^ \n]+", "[0-9a-f]{8}", "[0-9]{1,10}"
 UNEXPECTED = 1  # the number of a script's fault where a callable raised something else than `Fault`
+MOST = 2**63 - 1  # as a limit: none
+UNCHANGED: Any = object()
 
 
 class Fault(Exception):
@@ -41,8 +43,43 @@ class Refused(Exception):
     """A command was not done, or a profile not taken. The text is the refusal, as ``NoFunction``."""
 
 
+class Limits(NamedTuple):
+    """The most that there may be; None is no limit. README.md, one folder up, says what these hold."""
+    events: Optional[int] = 10_000  # that a reply lists, with one for the end of each object that is alive
+    slots: Optional[int] = 100_000  # of objects of scripts' classes: one for each object, and one for each field
+    objects: Optional[int] = 1_000  # of the host, that scripts hold
+
+
+class Used(NamedTuple):
+    """What scripts hold: the slots of objects of their classes, and how many objects of the host."""
+    slots: int
+    objects: int
+
+
+class Held(NamedTuple):
+    """What there was once a call had ended with the fault ``Memory``, and the limits.
+
+    The events are those of the reply, and one for the end of each object that is alive. What only variables of the call
+    held is given up by then, and not counted.
+    """
+    events: int
+    used: Used
+    limits: Limits
+
+    def __str__(self) -> str:
+        parts = zip((self.events, *self.used), self.limits, Limits._fields)
+        return ", ".join(f"{it} {name}" if most is None else f"{it} of {most} {name}" for it, most, name in parts)
+
+
 class ScriptFault(Exception):
-    """A call ended with a fault. The text is the fault, as ``Host 7``; the cause what a callable raised, if one did."""
+    """A call ended with a fault, as ``Host 7``. The cause is what a callable raised, if one did.
+
+    The text is the fault. That of ``Memory``, which comes of a limit too, goes on with what there was and the limits.
+    """
+
+    def __init__(self, fault: str, held: Optional[Held] = None) -> None:
+        super().__init__(f"{fault}: {held}" if held else fault)
+        self.fault, self.held = fault, held
 
 
 class EngineLost(Exception):
@@ -242,20 +279,32 @@ class Type(NamedTuple):
 class Engine(AbstractContextManager["Engine"]):
     """An engine with a profile; `program` is the path of ``asremote``.
 
-    `timeout` is the seconds that a command may take, with those of the callables. It doesn't end a callable.
+    `timeout` is the seconds that a command may take, with those of the callables. It doesn't end a callable. The limits
+    on what there may be are those of `Limits`, where none are given; None is no limit.
     """
 
-    def __init__(self, profile: Profile, program: str = "asremote", timeout: float = 10.0) -> None:
+    def __init__(
+        self,
+        profile: Profile,
+        program: str = "asremote",
+        timeout: float = 10.0,
+        events: Optional[int] = Limits().events,
+        slots: Optional[int] = Limits().slots,
+        objects: Optional[int] = Limits().objects,
+    ) -> None:
         self.profile, self.program, self.timeout = profile, program, timeout
         self.ticks: Optional[int] = None
+        self._limits = _fit(Limits(events, slots, objects), 0)
         self._start()
 
     def _start(self) -> None:
         self.objects: Dict[int, Any] = {}  # what scripts hold, by key
         self._made = 0
         self._cause: Optional[Exception] = None
+        limits = [_limit(name, most) for name, most in self._limits._asdict().items()]
         with tempfile.NamedTemporaryFile("w") as file:
             file.writelines(f"mask {entry.mask:08x}\n{entry.line}\n" for entry in self.profile.entries)
+            file.writelines(f"{line}\n" for line in limits)
             file.flush()
             words = [self.program, "--profile", file.name, "--drivers", str(self.profile.drivers)]
             self._conversation = Conversation(words, self._answer)
@@ -265,11 +314,12 @@ class Engine(AbstractContextManager["Engine"]):
             except EngineLost as lost:
                 found = re.match(r"profile (\d+) (.*)", "".join(lost.said))
                 if found:
-                    raise Refused(f"{found[2]}: {self.profile.entries[int(found[1]) // 2 - 1].declaration}") from lost
+                    declared = [it.declaration for it in self.profile.entries for _ in ("mask", "line")] + limits
+                    raise Refused(f"{found[2]}: {declared[int(found[1]) - 1]}") from lost
                 raise
 
     def restart(self) -> None:
-        """Ends the engine, and starts another one with the same profile and budget.
+        """Ends the engine, and starts another one with the same profile, budget and limits.
 
         The modules are gone: they have to be made, built and bound anew. All objects are given up.
         """
@@ -289,6 +339,27 @@ class Engine(AbstractContextManager["Engine"]):
         self.done(f"budget {_checked(str(ticks), NUMBER)}")
         self.ticks = ticks
 
+    def limits(self, events: Any = UNCHANGED, slots: Any = UNCHANGED, objects: Any = UNCHANGED) -> Limits:
+        """Sets those limits that are named, each a number or None for no limit, and gives all of them.
+
+        One below what scripts hold ends nothing, and lets nothing grow. What no engine should have is a ValueError.
+        """
+        given = {"events": events, "slots": slots, "objects": objects}
+        given = {name: most for name, most in given.items() if most is not UNCHANGED}
+        limits = _fit(self._limits._replace(**given), len(self.objects))
+        for name, most in given.items():
+            self.done(_limit(name, most))
+        self._limits = limits
+        return limits
+
+    def used(self) -> Used:
+        """What scripts hold."""
+        *lines, outcome = self._conversation.say("used\n", self.timeout)
+        if outcome != "ok":
+            raise Refused(outcome.partition(" ")[2])
+        told = dict(line.split(" ", 1) for line in lines)
+        return Used(int(told["slots"]), int(told["objects"]))
+
     def module(self, name: str, mask: int) -> Module:
         """Makes a module, without scripts."""
         self.done(f"module {_checked(name, FIELD)} {_checked(f'{mask:08x}', MASK)}")
@@ -299,7 +370,7 @@ class Engine(AbstractContextManager["Engine"]):
         reply = self.command(text)
         word, _, rest = reply.outcome.partition(" ")
         if word == "fault":
-            raise ScriptFault(rest) from reply.cause
+            raise ScriptFault(rest, self._held(reply) if rest == "Memory" else None) from reply.cause
         if word != "ok":
             raise Refused(rest)
         return rest
@@ -319,6 +390,10 @@ class Engine(AbstractContextManager["Engine"]):
                 del self.objects[int(words[1][1:])]
         reply.events.extend(line for line in lines if line.startswith(("host ", "end ")))
         return reply
+
+    def _held(self, reply: Reply) -> Held:
+        used = self.used()
+        return Held(len(reply.events) + used.objects, used, self._limits)
 
     def _answer(self, line: str) -> str:
         _, _, kind, number, key, values = line.split(" ")
@@ -386,6 +461,23 @@ class Module(NamedTuple):
     def discard(self) -> None:
         """Ends the module."""
         self.engine.done(f"discard {self.name}")
+
+
+def _fit(limits: Limits, alive: int) -> Limits:
+    """The limits, where they can be said and leave room for a host call beside the ends of all objects."""
+    for name, most in limits._asdict().items():
+        if most is not None and not 0 <= index(most) <= MOST:
+            raise ValueError(f"the limit on {name}, {most}, is not from 0 to {MOST}")
+    events, _, objects = limits
+    ends = None if objects is None else max(objects, alive)
+    if events is not None and (ends is None or events <= ends):
+        refused = f"a limit of {events} events is taken up by the ends of {'all' if ends is None else ends} objects"
+        raise ValueError(f"{refused}: it has to be above the limit on objects, and above how many are alive")
+    return limits
+
+
+def _limit(name: str, most: Optional[int]) -> str:
+    return f"limit {name} {MOST if most is None else index(most):d}"
 
 
 def _checked(text: str, pattern: str = LINE) -> str:

@@ -3,9 +3,9 @@
 
     trials/clients/sessions.py ASREMOTE ASRUN [COUNT [SEED]]
 
-The sessions are those of crates/examples and crates/asrun, with the rows of files but for those in which a driver fails, and
-COUNT generated ones (1000, if left out). Of each the text of all replies, and the exit status, have to be the same. Prints each
-session that differs, and how many there were.
+The sessions are those of crates/examples and crates/asrun, with the rows of files but for those in which a driver fails or a
+line stands that conversations alone have, and COUNT generated ones (1000, if left out). Of each the text of all replies, and the
+exit status, have to be the same. Prints each session that differs, and how many there were.
 """
 
 import os
@@ -23,6 +23,7 @@ import sample_drivers  # noqa: E402
 from bustlebrick import Conversation, EngineLost  # noqa: E402
 
 SECONDS = 600  # that a run may take
+OWN = re.compile(r"^(limit|used)\b", re.MULTILINE)  # a line that conversations have, and sessions have not
 
 
 def commands(text):
@@ -87,8 +88,9 @@ def rows():
             name, _, row = row.partition("\n")
             first, _, row = row.partition("-- session\n")
             profile = (first if "-- profile\n" in first else head).partition("-- profile\n")[2]
-            if "-- failing " not in first:
-                yield f"{file}, {name}", profile, row.partition("-- output\n")[0]
+            session = row.partition("-- output\n")[0]
+            if "-- failing " not in first and not OWN.search(session):
+                yield f"{file}, {name}", profile, session
 
 
 class Trial:

@@ -17,7 +17,7 @@ static asINT64 sum(asINT64 a, asINT64 b) {
     printf("(%lld,%lld) ", (long long)a, (long long)b);
     return a + b;
 }
-static asINT64 shade(int color) { return 10 * color; }
+static asINT64 blend(int a, int b) { return (asINT64)a + b; }
 static void audit(asINT64) {}
 static void print(const std::string &) {}
 static asINT64 reg, level;
@@ -55,7 +55,7 @@ static asIScriptEngine *registered() {
     e->RegisterObjectType("Counter", 0, asOBJ_REF);
     enumeration(e, "Color", {{"RED", 1}, {"GREEN", 3}, {"BLUE", -2}});
     enumeration(e, "Light", {{"DIM", 4}, {"BLUE", 5}});
-    e->RegisterGlobalFunction("int64 shade(Color)", asFUNCTION(shade), asCALL_CDECL);
+    e->RegisterGlobalFunction("int64 blend(Color, Color)", asFUNCTION(blend), asCALL_CDECL);
     e->SetDefaultAccessMask(2);
     enumeration(e, "Secret", {{"HIDDEN", 7}, {"GREEN", 8}});
     e->RegisterObjectType("Cell", 0, asOBJ_REF);

@@ -3,10 +3,12 @@
 //! A [`Profile`] says what scripts may use, and which closures answer. An [`Engine`] is the child with that profile, and
 //! a [`Module`] in it holds scripts, which see what the module's mask shows them. README.md has an example.
 
+mod limits;
 mod link;
 mod profile;
 mod values;
 
+pub use limits::{Held, Limits, Used};
 pub use profile::Profile;
 pub use values::{Asked, Fault, Function, Objects, Plain, Typed};
 
@@ -25,12 +27,16 @@ pub enum Error {
     Refused(String),
     /// A call ended with this fault, as `Budget` or `Host 7`.
     Fault(String),
+    /// A call ended with the fault `Memory`, which comes of a limit too.
+    Memory(Held),
     /// The engine ended or was killed, or none could be started. [`Engine::restart`] makes another one.
     Lost(String),
     /// It took longer than the timeout, and the engine was killed, as for `Lost`.
     TimedOut,
     /// A text that can't be said to an engine, or a result of another type than the wanted one.
     Unfit(String),
+    /// Limits that no engine should have, for the reason that is said.
+    Limits(String),
 }
 
 impl fmt::Display for Error {
@@ -38,9 +44,11 @@ impl fmt::Display for Error {
         match self {
             Error::Refused(why) => write!(f, "refused {why}"),
             Error::Fault(fault) => write!(f, "fault {fault}"),
+            Error::Memory(held) => write!(f, "fault Memory: {held}"),
             Error::Lost(said) => write!(f, "the engine ended: {said}"),
             Error::TimedOut => write!(f, "a command took longer than the timeout"),
             Error::Unfit(text) => write!(f, "{text:?} does not fit"),
+            Error::Limits(why) => write!(f, "{why}"),
         }
     }
 }
@@ -114,26 +122,35 @@ pub struct Engine {
     link: Option<Link>,
     objects: Objects,
     ticks: Option<u32>,
+    limits: Limits,
     /// What a command may take, with what closures take meanwhile. It doesn't end a closure.
     pub timeout: Duration,
 }
 
 impl Engine {
-    /// Starts an engine; `program` is the path of `asremote`. A command may take 10 seconds.
+    /// Starts an engine with the limits of `Limits::default`; `program` is the path of `asremote`. A command may take 10
+    /// seconds.
     pub fn start(program: impl Into<PathBuf>, profile: Profile) -> Result<Engine, Error> {
+        Engine::start_with(program, profile, Limits::default())
+    }
+
+    /// Starts an engine with these limits.
+    pub fn start_with(program: impl Into<PathBuf>, profile: Profile, limits: Limits) -> Result<Engine, Error> {
+        limits.check(0)?;
         let (program, objects, timeout) = (program.into(), Objects::default(), Duration::from_secs(10));
-        let mut engine = Engine { program, profile, link: None, objects, ticks: None, timeout };
+        let mut engine = Engine { program, profile, link: None, objects, ticks: None, limits, timeout };
         engine.restart().map(|()| engine)
     }
 
-    /// Ends the engine, if there is one, and starts another one with the same profile and budget. The modules are gone:
-    /// they have to be made, built and bound anew. All objects are given up.
+    /// Ends the engine, if there is one, and starts another one with the same profile, budget and limits. The modules are
+    /// gone: they have to be made, built and bound anew. All objects are given up.
     pub fn restart(&mut self) -> Result<(), Error> {
         self.link = None;
         self.objects = Objects::default();
         let now = SystemTime::now().duration_since(UNIX_EPOCH).unwrap_or_default().as_nanos();
         let path = env::temp_dir().join(format!("bustlebrick-{}-{now}", process::id()));
-        File::create_new(&path)?.write_all(self.profile.text().as_bytes())?;
+        let text = format!("{}{}\n", self.profile.text(), self.limits.lines().join("\n"));
+        File::create_new(&path)?.write_all(text.as_bytes())?;
         let started = Link::start(&self.program, &path, 1 + self.profile.types.len());
         let started = started.map(|link| self.link = Some(link)).map_err(Error::from);
         let said = started.and_then(|()| self.say(""));
@@ -157,6 +174,29 @@ impl Engine {
         self.done(&format!("budget {ticks}"))?;
         self.ticks = Some(ticks);
         Ok(())
+    }
+
+    /// The limits that are set.
+    pub fn limits(&self) -> Limits {
+        self.limits
+    }
+
+    /// Sets the limits. One below what scripts hold ends nothing, and lets nothing grow.
+    pub fn set_limits(&mut self, limits: Limits) -> Result<(), Error> {
+        limits.check(self.objects())?;
+        for line in limits.lines() {
+            self.done(&line)?;
+        }
+        self.limits = limits;
+        Ok(())
+    }
+
+    /// What scripts hold.
+    pub fn used(&mut self) -> Result<Used, Error> {
+        let mut lines = self.say("used\n")?;
+        let reply = Reply { outcome: lines.pop().unwrap_or_default(), ..Reply::default() };
+        reply.value()?;
+        Used::told(&lines).ok_or(Error::Unfit(lines.join("\n")))
     }
 
     /// Makes a module, without scripts.
@@ -235,7 +275,13 @@ impl Engine {
         if line.contains('\n') {
             return Err(Error::Unfit(line.to_owned()));
         }
-        self.command(line)?.value().map(str::to_owned)
+        let reply = self.command(line)?;
+        if reply.outcome == "fault Memory" {
+            let used = self.used()?;
+            let events = reply.events.len() as u64 + used.objects;
+            return Err(Error::Memory(Held { events, used, limits: self.limits }));
+        }
+        reply.value().map(str::to_owned)
     }
 
     /// Sends lines, and answers what is asked meanwhile. Where that fails there is no engine any more.

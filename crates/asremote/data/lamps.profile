@@ -1,4 +1,5 @@
 mask 00000001
+limit objects 2
 type Lamp 0
 factory Lamp 0 Lamp@ f(uint8)
 method Lamp 1 void flash(int, bool)

@@ -39,7 +39,10 @@ use Rattle.asrun_session.proofs.Doing.{follow_nothing, front_none}
 use Rattle.asremote.specs.Commands.{section_lines, lines_told, lines_behind, AreLines, IsCommand, ReadsCommand, most_command}
 use Rattle.asremote.specs.declared.commands.Next.{Next}
 use Rattle.asremote.specs.declared.commands.Next.TheVariants as next
-use Rattle.asremote.specs.Talk.{Says, Nothing, Does, Wrong, Talk, talk_from, behind_turn, ticks_after, Turned, Passed, Did, Unread, says_of, deed_in, deeds_in, is_right, turn_text, turns_text, done_line, status_of}
+use Rattle.asremote.specs.OwnLines.{own_line_of}
+use Rattle.asremote.specs.declared.own_lines.OwnLine.{OwnLine}
+use Rattle.asremote.proofs.OwnLines.{own_is_none}
+use Rattle.asremote.specs.Talk.{Says, Nothing, Does, Owns, Wrong, Talk, talk_from, behind_turn, ticks_after, Turned, Passed, Did, Limited, Told, Unread, says_of, deed_in, deeds_in, is_right, turn_text, turns_text, done_line, status_of}
 use Rattle.asremote.specs.Turns.{said_by, IsSaid, IsEnding, IsTaken, Comes, Goes, Ends, GoesHalf, EndsHalf, Stays, TurnsHalf, TakesHalf, TakesOne}
 use Rattle.asremote.specs.declared.turns.At.{At}
 use Rattle.asremote.specs.Conversation.{but_last, IsHeld, IsTold, IsTooLong, Converses, IsCutShort}
@@ -160,25 +163,30 @@ talk_passed : (n b : ℕ) (l shown : List ℕ) (ls : List (List ℕ)) → shown 
 unfolding talk_from
 talk_passed n b l shown ls s e = rw (← s, e) refl
 
-talk_wrong : (n b : ℕ) (l shown : List ℕ) (ls : List (List ℕ)) → shown ≡ shown_of l → is_skipped shown ≡ false
+talk_own : (n b : ℕ) (l shown : List ℕ) (ls : List (List ℕ)) (o : OwnLine) → shown ≡ shown_of l → is_skipped shown ≡ false → own_line_of shown ≡ Some o
+    → talk_from n b zero (l ∷ ls) ≡ behind_turn (Owns o) (talk_from (n + 1) b zero ls)
+unfolding talk_from
+talk_own n b l shown ls o s e w = rw (← s, e, w) refl
+
+talk_wrong : (n b : ℕ) (l shown : List ℕ) (ls : List (List ℕ)) → shown ≡ shown_of l → is_skipped shown ≡ false → own_line_of shown ≡ None
     → option_and_then (act_of b ls) (session_line_of shown) ≡ None → is_header shown ≡ false
     → talk_from n b zero (l ∷ ls) ≡ behind_turn Wrong (talk_from (n + 1) b zero ls)
 unfolding talk_from
-talk_wrong n b l shown ls s e f h = rw (← s, e, f, h) refl
+talk_wrong n b l shown ls s e w f h = rw (← s, e, w, f, h) refl
 
-talk_bad : (n b : ℕ) (l shown : List ℕ) (ls : List (List ℕ)) → shown ≡ shown_of l → is_skipped shown ≡ false
+talk_bad : (n b : ℕ) (l shown : List ℕ) (ls : List (List ℕ)) → shown ≡ shown_of l → is_skipped shown ≡ false → own_line_of shown ≡ None
     → option_and_then (act_of b ls) (session_line_of shown) ≡ None → is_header shown ≡ true
     → talk_from n b zero (l ∷ ls) ≡ record { turns = []; bad_line = Some n }
 unfolding talk_from
-talk_bad n b l shown ls s e f h = rw (← s, e, f, h) refl
+talk_bad n b l shown ls s e w f h = rw (← s, e, w, f, h) refl
 
-talk_act : (n b : ℕ) (l shown : List ℕ) (ls : List (List ℕ)) (act : Act) → shown ≡ shown_of l → is_skipped shown ≡ false
+talk_act : (n b : ℕ) (l shown : List ℕ) (ls : List (List ℕ)) (act : Act) → shown ≡ shown_of l → is_skipped shown ≡ false → own_line_of shown ≡ None
     → option_and_then (act_of b ls) (session_line_of shown) ≡ Some act → act.lines ≤ length ls
     → talk_from n b zero (l ∷ ls) ≡ behind_turn (Does act.action) (talk_from (n + (1 + act.lines)) (budget_after b act.action) zero (drop act.lines ls))
 unfolding talk_from
-talk_act n b l shown ls act s e f h =
+talk_act n b l shown ls act s e w f h =
     let place : (n + 1) + act.lines ≡ n + (1 + act.lines) = omega arith in
-    rw (← s, e, f) (ap (behind_turn (Does act.action)) (talk_behind (n + 1) (budget_after b act.action) act.lines ls h
+    rw (← s, e, w, f) (ap (behind_turn (Does act.action)) (talk_behind (n + 1) (budget_after b act.action) act.lines ls h
     ∙ ap (λ x. talk_from x (budget_after b act.action) zero (drop act.lines ls)) place))
 
 -- what a line says, whatever follows the lines of its section
@@ -192,19 +200,26 @@ leads_on n b line section future Nothing lines within h =
     ∙ ap (λ ls. behind_turn Nothing (talk_from (n + 1) b zero (ls ++ future))) none
     ∙ ap (λ k. behind_turn Nothing (talk_from k b zero future)) place
 leads_on n b line section future (Does a) lines within h =
-    let told : lines_told (session_line_of (shown_of line)) ≡ lines = option_lines b section (session_line_of (shown_of line)) (record { action = a; lines = lines }) h.1 in
+    let told : lines_told (session_line_of (shown_of line)) ≡ lines = option_lines b section (session_line_of (shown_of line)) (record { action = a; lines = lines }) h.2 in
     let behind : lines_behind (shown_of line) ≡ lines = behind_told (shown_of line) h.0 ∙ told in
-    let whole : length section ≡ lines = omega (arith, within, h.2, behind) in
-    talk_act n b line (shown_of line) (section ++ future) (record { action = a; lines = lines }) refl h.0
-    (option_told b section future (session_line_of (shown_of line)) (record { action = a; lines = lines }) h.1) (omega (arith, whole, length-append section future))
+    let whole : length section ≡ lines = omega (arith, within, h.3, behind) in
+    talk_act n b line (shown_of line) (section ++ future) (record { action = a; lines = lines }) refl h.0 h.1
+    (option_told b section future (session_line_of (shown_of line)) (record { action = a; lines = lines }) h.2) (omega (arith, whole, length-append section future))
     ∙ ap (λ ls. behind_turn (Does a) (talk_from (n + (1 + lines)) (budget_after b a) zero ls)) (drop_at section future lines whole)
+leads_on n b line section future (Owns o) lines within h =
+    let behind : lines_behind (shown_of line) ≡ 0 = behind_told (shown_of line) h.0 ∙ ap lines_told (own_is_none (shown_of line) o h.1) in
+    let none : section ≡ [] = empty section (omega (arith, within, behind)) in
+    let place : n + 1 ≡ n + (1 + lines) = omega (arith, h.2) in
+    talk_own n b line (shown_of line) (section ++ future) o refl h.0 h.1
+    ∙ ap (λ ls. behind_turn (Owns o) (talk_from (n + 1) b zero (ls ++ future))) none
+    ∙ ap (λ k. behind_turn (Owns o) (talk_from k b zero future)) place
 leads_on n b line section future Wrong lines within h =
-    let head : may_head (session_line_of (shown_of line)) ≡ false = no_header (shown_of line) h.2 in
+    let head : may_head (session_line_of (shown_of line)) ≡ false = no_header (shown_of line) h.3 in
     let behind : lines_behind (shown_of line) ≡ 0 = behind_told (shown_of line) h.0 ∙ told_none (session_line_of (shown_of line)) head in
     let none : section ≡ [] = empty section (omega (arith, within, behind)) in
-    let line_is : session_line_of (shown_of line) ≡ None = no_line b section (session_line_of (shown_of line)) head h.1 in
-    let place : n + 1 ≡ n + (1 + lines) = omega (arith, h.3) in
-    talk_wrong n b line (shown_of line) (section ++ future) refl h.0 (ap (λ o. option_and_then (act_of b (section ++ future)) o) line_is) h.2
+    let line_is : session_line_of (shown_of line) ≡ None = no_line b section (session_line_of (shown_of line)) head h.2 in
+    let place : n + 1 ≡ n + (1 + lines) = omega (arith, h.4) in
+    talk_wrong n b line (shown_of line) (section ++ future) refl h.0 h.1 (ap (λ o. option_and_then (act_of b (section ++ future)) o) line_is) h.3
     ∙ ap (λ ls. behind_turn Wrong (talk_from (n + 1) b zero (ls ++ future))) none
     ∙ ap (λ k. behind_turn Wrong (talk_from k b zero future)) place
 
@@ -213,6 +228,8 @@ leads_on n b line section future Wrong lines within h =
 abbrev TurnDoes : RegistrationList → World → Turned → World → Type 0
 TurnDoes R w Passed after = w ≡ after
 TurnDoes R w (Did d) after = DoesDeed R w d after
+TurnDoes R w (Limited limit) after = w ≡ after
+TurnDoes R w (Told held) after = w ≡ after
 TurnDoes R w Unread after = w ≡ after
 
 abbrev DoAll : RegistrationList → World → List Turned → World → Type 0
@@ -226,6 +243,8 @@ do_more R w v after (x ∷ xs) t h e = (h.0, h.1, do_more R h.0 v after xs t h.2
 runs_all : (R : RegistrationList) (w after : World) (ts : List Turned) → DoAll R w ts after → Runs R w (commands_in (deeds_in ts)) (replies_in (deeds_in ts)) after
 runs_all R w after [] h = h
 runs_all R w after (Passed ∷ ts) h = rw h.1 (runs_all R h.0 after ts h.2)
+runs_all R w after (Limited limit ∷ ts) h = rw h.1 (runs_all R h.0 after ts h.2)
+runs_all R w after (Told held ∷ ts) h = rw h.1 (runs_all R h.0 after ts h.2)
 runs_all R w after (Unread ∷ ts) h = rw h.1 (runs_all R h.0 after ts h.2)
 runs_all R w after (Did (Ran c r) ∷ ts) h = (h.0, h.1, runs_all R h.0 after ts h.2)
 runs_all R w after (Did (Set ticks) ∷ ts) h = rw h.1 (runs_all R h.0 after ts h.2)
@@ -237,6 +256,8 @@ text_more (x ∷ xs) t = ap (λ y. turn_text x ++ y) (text_more xs t) ∙ sym (a
 events_more : (ts : List Turned) (t : Turned) → events_in (deeds_in (ts ++ t ∷ [])) ≡ events_in (deeds_in ts) ++ events_in (deed_in t)
 events_more [] t = ap events_in (append-nil (deed_in t))
 events_more (Passed ∷ xs) t = events_more xs t
+events_more (Limited limit ∷ xs) t = events_more xs t
+events_more (Told held ∷ xs) t = events_more xs t
 events_more (Unread ∷ xs) t = events_more xs t
 events_more (Did d ∷ xs) t =
     ap (λ y. deed_events d ++ y) (events_more xs t) ∙ sym (append_assoc (deed_events d) (events_in (deeds_in xs)) (events_in (deed_in t)))
@@ -290,14 +311,20 @@ front_behind old mid new text one p q = (
 module _ {V : Type 0} {P : V → Type 0} (m : Meanings P) (e f : Engine V P) where
   turn_does : (t : Turned) → Comes m e f t → TurnDoes (registrations e) (world_in m e) t (world_in m f)
   turn_does Passed h = ap (λ g. world_in m g) (sym h)
-  turn_does (Did d) h = h.0
+  turn_does (Did d) h = h.does
+  turn_does (Limited limit) h = sym h.world
+  turn_does (Told held) h = ap (λ g. world_in m g) (sym h.0)
   turn_does Unread h = ap (λ g. world_in m g) (sym h)
 
   turn_follows : (t : Turned) → Comes m e f t → DriversFollow m (roles_of (registrations e)) (drivers_in e) (events_in (deed_in t)) (drivers_in f)
   turn_follows Passed h =
       subst (λ g. DriversFollow m (roles_of (registrations e)) (drivers_in e) [] (drivers_in g)) (sym h) (follow_nothing m (registrations e) (drivers_in e))
   turn_follows (Did d) h =
-      subst (λ es. DriversFollow m (roles_of (registrations e)) (drivers_in e) es (drivers_in f)) (sym (append-nil (deed_events d))) h.1
+      subst (λ es. DriversFollow m (roles_of (registrations e)) (drivers_in e) es (drivers_in f)) (sym (append-nil (deed_events d))) h.follow
+  turn_follows (Limited limit) h =
+      subst (λ ys. DriversFollow m (roles_of (registrations e)) (drivers_in e) [] ys) (sym h.drivers) (follow_nothing m (registrations e) (drivers_in e))
+  turn_follows (Told held) h =
+      subst (λ g. DriversFollow m (roles_of (registrations e)) (drivers_in e) [] (drivers_in g)) (sym h.0) (follow_nothing m (registrations e) (drivers_in e))
   turn_follows Unread h =
       subst (λ g. DriversFollow m (roles_of (registrations e)) (drivers_in e) [] (drivers_in g)) (sym h) (follow_nothing m (registrations e) (drivers_in e))
 
@@ -481,7 +508,7 @@ module _ {V : Type 0} {P : V → Type 0} (m : Meanings P) (R : RegistrationList)
 
     -- or it ends the conversation
     ended_by : IsEnding ticks line section → talk_from number ticks zero (line ∷ section) ≡ record { turns = []; bad_line = Some number }
-    ended_by k = talk_bad number ticks line (shown_of line) section refl k.told k.said k.header
+    ended_by k = talk_bad number ticks line (shown_of line) section refl k.told k.own k.said k.header
 
     bad_line_is : IsEnding ticks line section → (talk_from 1 budget 0 (lines_of (text ++ c))).bad_line ≡ Some number
     bad_line_is k = ap (λ ls. (talk_from 1 budget 0 ls).bad_line) cut ∙ h.ends (line ∷ section) ∙ ap (λ s. s.bad_line) (ended_by k)

@@ -1,6 +1,7 @@
 pub mod CommandLine
 pub mod Lining
 pub mod Turning
+pub mod OwnLines
 pub mod Coming
 pub mod AsSession
 pub mod Talking

@@ -15,11 +15,13 @@ use Rattle.asrun_session.specs.Engines.{Prints, HalfPrints}
 use Rattle.asrun_session.specs.Session.{Act, act_of}
 use Rattle.asrun_session.specs.Writing.{HasFront}
 use Rattle.asrun_session.proofs.Appending.{appends_both}
-use Rattle.asremote.specs.Talk.{Does, Turned, Passed, Did, Unread, says_of, ticks_after, answer_text, turn_text, done_line}
+use Rattle.asremote.specs.OwnLines.{own_line_of}
+use Rattle.asremote.specs.declared.own_lines.OwnLine.{OwnLine}
+use Rattle.asremote.specs.Talk.{Does, Owns, Turned, Passed, Did, Unread, says_of, ticks_after, answer_text, turn_text, done_line}
 use Rattle.asremote.specs.declared.turns.At.{At}
 use Rattle.asremote.specs.declared.turns.Turn.{Turn}
 use Rattle.asremote.specs.declared.turns.Turn.TheVariants as turn
-use Rattle.asremote.specs.Turns.{said_by, Refuses, RefusesHalf, IsSaid, IsTaken, Answers, Goes, GoesHalf, TurnsHalf, Turns, TakesTurn, TakesHalf, TakesOne}
+use Rattle.asremote.specs.Turns.{said_by, Obeys, ObeysHalf, Refuses, RefusesHalf, IsSaid, IsTaken, Answers, Goes, GoesHalf, TurnsHalf, Turns, TakesTurn, TakesHalf, TakesOne}
 
 abbrev first_of : List (List ℕ) → List ℕ → List ℕ
 first_of [] d = d
@@ -77,37 +79,69 @@ module _ {V : Type 0} {P : V → Type 0} (m : Meanings P) (e f : Engine V P) (ol
   pub performed : (l : List ℕ) (ls : List (List ℕ)) (a : Act) (ok : Bool) (next : ℕ) → IsSaid ticks l ls (Does a.action) a.lines → next ≡ ticks_after ticks (Does a.action)
       → Prints m e f a.action old new ok → Answers m e f old new ticks l ls ok next a.lines
   performed l ls a ok next said budget p = record {
-    did = Did p.deed;
+    did = Did p.done.deed;
     taken = record {
-      said = subst (λ x. IsSaid ticks l ls (Does x) a.lines) (sym p.action) said;
-      budget = budget ∙ ap (λ x. ticks_after ticks (Does x)) (sym p.action);
-      comes = (p.does, p.follow);
+      said = subst (λ x. IsSaid ticks l ls (Does x) a.lines) (sym p.done.action) said;
+      budget = budget ∙ ap (λ x. ticks_after ticks (Does x)) (sym p.done.action);
+      comes = record { does = p.done.does; follow = p.done.follow; within = p.within };
     };
-    is_ok = p.ended;
-    printed = p.printed;
+    is_ok = p.done.ended;
+    printed = p.done.printed;
   }
 
   -- or printed in part
   pub half_performed : (l : List ℕ) (ls : List (List ℕ)) (a : Act) → IsSaid ticks l ls (Does a.action) a.lines
       → HalfPrints m e f a.action old new → GoesHalf m e f old new ticks l ls
   half_performed l ls a said p = record {
-    did = Did p.deed;
+    did = Did p.done.deed;
     next = ticks_after ticks (Does a.action);
     lines = a.lines;
     taken = record {
-      said = subst (λ x. IsSaid ticks l ls (Does x) a.lines) (sym p.action) said;
-      budget = ap (λ x. ticks_after ticks (Does x)) (sym p.action);
-      comes = (p.does, p.follow);
+      said = subst (λ x. IsSaid ticks l ls (Does x) a.lines) (sym p.done.action) said;
+      budget = ap (λ x. ticks_after ticks (Does x)) (sym p.done.action);
+      comes = record { does = p.done.does; follow = p.done.follow; within = p.within };
     };
-    front = front_of_turn old new (Did p.deed) p.front;
+    front = front_of_turn old new (Did p.done.deed) p.done.front;
+  }
+
+  -- a line that no session has was done, and answered
+  pub obeyed : (l : List ℕ) (ls : List (List ℕ)) (o : OwnLine) → is_skipped (shown_of l) ≡ false → own_line_of (shown_of l) ≡ Some o
+      → Obeys m e f old new o → Answers m e f old new ticks l ls true ticks 0
+  obeyed l ls o told own p = record {
+    did = p.did;
+    taken = record {
+      said = subst (λ x. IsSaid ticks l ls x 0) (sym p.says) (told, own, refl);
+      budget = ap (ticks_after ticks) (sym p.says);
+      comes = p.comes;
+    };
+    is_ok = sym p.right;
+    printed = p.printed;
+  }
+
+  -- or answered in part
+  pub half_obeyed : (l : List ℕ) (ls : List (List ℕ)) (o : OwnLine) → is_skipped (shown_of l) ≡ false → own_line_of (shown_of l) ≡ Some o
+      → ObeysHalf m e f old new o → GoesHalf m e f old new ticks l ls
+  half_obeyed l ls o told own p = record {
+    did = p.did;
+    next = ticks;
+    lines = 0;
+    taken = record {
+      said = subst (λ x. IsSaid ticks l ls x 0) (sym p.says) (told, own, refl);
+      budget = ap (ticks_after ticks) (sym p.says);
+      comes = p.comes;
+    };
+    front = front_of_turn old new p.did p.front;
   }
 
 -- ---- a line of another form
 
 module _ {V : Type 0} {P : V → Type 0} (m : Meanings P) (e : Engine V P) (old new : Option (List ℕ)) (number ticks : ℕ) (l shown : List ℕ) (ls : List (List ℕ))
-    (is : shown ≡ shown_of l) (told : is_skipped shown ≡ false) (said : option_and_then (act_of ticks ls) (session_line_of shown) ≡ None) where
+    (is : shown ≡ shown_of l) (told : is_skipped shown ≡ false) (own : own_line_of shown ≡ None) (said : option_and_then (act_of ticks ls) (session_line_of shown) ≡ None) where
   told_of : is_skipped (shown_of l) ≡ false
   told_of = ap is_skipped (sym is) ∙ told
+
+  own_of : own_line_of (shown_of l) ≡ None
+  own_of = ap own_line_of (sym is) ∙ own
 
   said_of : said_by ticks l ls ≡ None
   said_of = ap (λ s. option_and_then (act_of ticks ls) (session_line_of s)) (sym is) ∙ said
@@ -115,12 +149,12 @@ module _ {V : Type 0} {P : V → Type 0} (m : Meanings P) (e : Engine V P) (old 
   pub refused : (t : Turn) → Refuses (is_header shown) old new number ticks t → Turns m e e old new number ticks l ls t
   refused (turn.Done ok next lines) h = record {
     did = Unread;
-    taken = record { said = (told_of, said_of, ap is_header (sym is) ∙ h.0, h.3); budget = h.2; comes = refl };
+    taken = record { said = (told_of, own_of, said_of, ap is_header (sym is) ∙ h.0, h.3); budget = h.2; comes = refl };
     is_ok = h.1;
     printed = h.4;
   }
   refused turn.Bad h = record {
-    ending = record { told = told_of; said = said_of; header = ap is_header (sym is) ∙ h.0 };
+    ending = record { told = told_of; own = own_of; said = said_of; header = ap is_header (sym is) ∙ h.0 };
     same = refl;
     printed = h.1;
   }
@@ -130,11 +164,11 @@ module _ {V : Type 0} {P : V → Type 0} (m : Meanings P) (e : Engine V P) (old 
     did = Unread;
     next = ticks;
     lines = 0;
-    taken = record { said = (told_of, said_of, ap is_header (sym is) ∙ h.0, refl); budget = refl; comes = refl };
+    taken = record { said = (told_of, own_of, said_of, ap is_header (sym is) ∙ h.0, refl); budget = refl; comes = refl };
     front = front_of_turn old new Unread h.1;
   })
   half_refused (inr h) = inr (inl (record {
-    ending = record { told = told_of; said = said_of; header = ap is_header (sym is) ∙ h.0 };
+    ending = record { told = told_of; own = own_of; said = said_of; header = ap is_header (sym is) ∙ h.0 };
     same = refl;
     front = h.1;
   }))
@@ -196,3 +230,7 @@ ok_turn (Err e) S T f h = tt
 pub err_turn : {A E : Type 0} (r : Result A E) (S T : Type 0) → (S → T) → OnErr r S → OnErr r T
 err_turn (Ok a) S T f h = tt
 err_turn (Err e) S T f h = f h
+
+pub done_turn : {A E : Type 0} (r : Result A E) (S T : Type 0) → (S → T) → OnOk r S → OnOk r T
+done_turn (Ok a) S T f h = f h
+done_turn (Err e) S T f h = tt

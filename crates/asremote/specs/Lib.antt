@@ -1,6 +1,6 @@
-pub mod Exit
 pub mod Options
 pub mod Commands
+pub mod OwnLines
 pub mod Talk
 pub mod Turns
 pub mod Conversation

@@ -4,18 +4,26 @@ use Rattle.std.specs.Prelude.{ℕ, zero, suc, ◌+◌, ◌≡◌, Bool, true, fa
 use Rattle.std.specs.List.{list_all}
 use Rattle.asrun_lines.specs.Lines.{shown_of, is_skipped}
 use Rattle.asrun_lines.specs.SessionLines.{session_line_of, is_header}
+use Rattle.asrun_lines.specs.declared.limits.LimitLine.{LimitLine}
+use Rattle.ang_heap.specs.declared.limits.Held.{Held}
 use Rattle.asrun_session.specs.Deeds.{Deed, action_of, deed_text, is_ok}
+use Rattle.asrun_session.specs.Limits.{held_text}
 use Rattle.asrun_session.specs.Session.{Act, act_of, budget_after, session_from}
 use Rattle.asrun_session.specs.declared.action.Action.{Action}
 use Rattle.asrun_session.specs.declared.ending.Status.{Status}
 use Rattle.asrun_session.specs.declared.ending.Status.TheVariants.{AllOk, SomeRefused, BadInput}
+use Rattle.asremote.specs.OwnLines.{own_line_of}
+use Rattle.asremote.specs.declared.own_lines.OwnLine.{OwnLine}
+use Rattle.asremote.specs.declared.own_lines.OwnLine.TheVariants as own
 
 -- ---- what is said
 
--- One turn of the host: a line that says nothing, a command, or a line of another form.
+-- One turn of the host: a line that says nothing, one that a session has, one that none has, or a
+-- line of another form.
 pub data Says : Type 0 where
   Nothing : Says
   Does : Action → Says
+  Owns : OwnLine → Says
   Wrong : Says
 
 -- the turns of a conversation, and the line of another form that ends it, where one does
@@ -30,6 +38,7 @@ behind_turn s t = record { turns = s ∷ t.turns; bad_line = t.bad_line }
 abbrev pub ticks_after : ℕ → Says → ℕ
 ticks_after budget Nothing = budget
 ticks_after budget (Does a) = budget_after budget a
+ticks_after budget (Owns o) = budget
 ticks_after budget Wrong = budget
 
 -- Line n is of another form: the conversation goes on after it, but not where it was meant for the
@@ -38,9 +47,10 @@ abbrev pub after_wrong : ℕ → Bool → Talk → Talk
 after_wrong n true more = record { turns = []; bad_line = Some n }
 after_wrong n false more = behind_turn Wrong more
 
-abbrev pub taken_as : ℕ → ℕ → Bool → Option Act → (ℕ → ℕ → Talk) → Talk
-taken_as n budget header None more = after_wrong n header (more budget 0)
-taken_as n budget header (Some a) more =
+abbrev pub taken_as : ℕ → ℕ → Bool → Option OwnLine → Option Act → (ℕ → ℕ → Talk) → Talk
+taken_as n budget header (Some o) act more = behind_turn (Owns o) (more budget 0)
+taken_as n budget header None None more = after_wrong n header (more budget 0)
+taken_as n budget header None (Some a) more =
     behind_turn (Does a.action) (more (budget_after budget a.action) a.lines)
 
 -- The conversation from line n on, with the budget that holds there. The next `lines` lines are the
@@ -51,26 +61,33 @@ talk_from n budget (suc lines) (l ∷ ls) = talk_from (n + 1) budget lines ls
 talk_from n budget zero (l ∷ ls) =
     if is_skipped (shown_of l)
     then behind_turn Nothing (talk_from (n + 1) budget zero ls)
-    else taken_as n budget (is_header (shown_of l))
+    else taken_as n budget (is_header (shown_of l)) (own_line_of (shown_of l))
     (option_and_then (act_of budget ls) (session_line_of (shown_of l)))
     (λ b lines. talk_from (n + 1) b lines ls)
 
 -- ---- what is answered
 
--- a turn that was taken: a line passed over, a command that was done, a line of another form
+-- a turn that was taken: a line passed over, a command that was done, a limit that was set, what is
+-- held that was told, a line of another form
 pub data Turned : Type 0 where
   Passed : Turned
   Did : Deed → Turned
+  Limited : LimitLine → Turned
+  Told : Held → Turned
   Unread : Turned
 
 abbrev pub says_of : Turned → Says
 says_of Passed = Nothing
 says_of (Did d) = Does (action_of d)
+says_of (Limited limit) = Owns (own.Limit limit)
+says_of (Told held) = Owns own.Used
 says_of Unread = Wrong
 
 abbrev pub deed_in : Turned → List Deed
 deed_in Passed = []
 deed_in (Did d) = d ∷ []
+deed_in (Limited limit) = []
+deed_in (Told held) = []
 deed_in Unread = []
 
 abbrev pub deeds_in : List Turned → List Deed
@@ -79,7 +96,12 @@ deeds_in = flat_map deed_in
 abbrev pub is_right : Turned → Bool
 is_right Passed = true
 is_right (Did d) = is_ok d
+is_right (Limited limit) = true
+is_right (Told held) = true
 is_right Unread = false
+
+abbrev pub ok_text : List ℕ
+ok_text = codes "ok\n"
 
 abbrev pub bad_form_text : List ℕ
 bad_form_text = codes "refused BadLine\n"
@@ -88,6 +110,8 @@ bad_form_text = codes "refused BadLine\n"
 abbrev pub answer_text : Turned → List ℕ
 answer_text Passed = []
 answer_text (Did d) = deed_text d
+answer_text (Limited limit) = ok_text
+answer_text (Told held) = held_text held
 answer_text Unread = bad_form_text
 
 abbrev pub done_line : List ℕ
@@ -106,21 +130,24 @@ status_of None turns = if list_all is_right turns then AllOk else SomeRefused
 
 -- ---- and in a session
 
-abbrev pub is_read : Says → Bool
-is_read Nothing = true
-is_read (Does a) = true
-is_read Wrong = false
+-- whether a session has such a line
+abbrev pub is_sessions : Says → Bool
+is_sessions Nothing = true
+is_sessions (Does a) = true
+is_sessions (Owns o) = false
+is_sessions Wrong = false
 
 abbrev pub actions_in : Says → List Action
 actions_in Nothing = []
 actions_in (Does a) = a ∷ []
+actions_in (Owns o) = []
 actions_in Wrong = []
 
--- Where no line is of another form but the one that ends it, a conversation says what the session of
--- the same lines says.
+-- Where each line but the one that ends it is one of a session, a conversation says what the session
+-- of the same lines says.
 abbrev pub SaysAsSession : Type 0
 SaysAsSession =
-    (budget : ℕ) (lines : List (List ℕ)) → list_all is_read (talk_from 1 budget 0 lines).turns ≡ true
+    (budget : ℕ) (lines : List (List ℕ)) → list_all is_sessions (talk_from 1 budget 0 lines).turns ≡ true
     → session_from 1 budget 0 lines ≡ record {
       actions = flat_map actions_in (talk_from 1 budget 0 lines).turns;
       bad_line = (talk_from 1 budget 0 lines).bad_line;

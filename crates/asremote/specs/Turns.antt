@@ -4,15 +4,20 @@ use Rattle.std.specs.Option.{option_and_then}
 use Rattle.std.specs.Io.KnownBytes.{Appends}
 use Rattle.ang_host.specs.Events.{DriversFollow}
 use Rattle.ang_host.specs.Meanings.{Meanings}
-use Rattle.ang_engine.specs.Engines.{registrations, world_in, drivers_in}
+use Rattle.ang_engine.specs.Engines.{registrations, world_in, drivers_in, limits_in, held_in}
 use Rattle.ang_engine.specs.declared.engine.Engine.{Engine}
+use Rattle.ang_engine.specs.Limited.{StaysWithin}
 use Rattle.ang_engine.specs.Roles.{roles_of}
 use Rattle.asrun_lines.specs.Lines.{lines_of, shown_of, is_skipped}
 use Rattle.asrun_lines.specs.SessionLines.{session_line_of, is_header}
-use Rattle.asrun_session.specs.Deeds.{Does as DoesDeed, deed_events, bad_line_text}
+use Rattle.asrun_lines.specs.declared.limits.LimitLine.{LimitLine}
+use Rattle.asrun_session.specs.Deeds.{Deed, Does as DoesDeed, deed_events, bad_line_text}
+use Rattle.asrun_session.specs.Limits.{with_limit}
 use Rattle.asrun_session.specs.Session.{Act, act_of}
 use Rattle.asrun_session.specs.Writing.{HasFront}
-use Rattle.asremote.specs.Talk.{Says, Nothing, Does, Wrong, ticks_after, Turned, Passed, Did, Unread, says_of, is_right, bad_form_text, answer_text, turn_text}
+use Rattle.asremote.specs.OwnLines.{own_line_of}
+use Rattle.asremote.specs.Talk.{Says, Nothing, Does, Owns, Wrong, ticks_after, Turned, Passed, Did, Limited, Told, Unread, says_of, is_right, bad_form_text, answer_text, turn_text}
+use Rattle.asremote.specs.declared.own_lines.OwnLine.{OwnLine}
 use Rattle.asremote.specs.declared.turns.At.{At}
 use Rattle.asremote.specs.declared.turns.Turn.{Turn}
 use Rattle.asremote.specs.declared.turns.Turn.TheVariants as turn
@@ -26,16 +31,19 @@ said_by ticks line section =
 abbrev pub IsSaid : ℕ → List ℕ → List (List ℕ) → Says → ℕ → Type 0
 IsSaid ticks line section Nothing lines = (is_skipped (shown_of line) ≡ true) × (lines ≡ 0)
 IsSaid ticks line section (Does a) lines =
-    (is_skipped (shown_of line) ≡ false)
+    (is_skipped (shown_of line) ≡ false) × (own_line_of (shown_of line) ≡ None)
     × (said_by ticks line section ≡ Some (record { action = a; lines = lines }))
     × (lines ≤ length section)
+IsSaid ticks line section (Owns o) lines =
+    (is_skipped (shown_of line) ≡ false) × (own_line_of (shown_of line) ≡ Some o) × (lines ≡ 0)
 IsSaid ticks line section Wrong lines =
-    (is_skipped (shown_of line) ≡ false) × (said_by ticks line section ≡ None)
-    × (is_header (shown_of line) ≡ false) × (lines ≡ 0)
+    (is_skipped (shown_of line) ≡ false) × (own_line_of (shown_of line) ≡ None)
+    × (said_by ticks line section ≡ None) × (is_header (shown_of line) ≡ false) × (lines ≡ 0)
 
 -- It is of another form, and ends the conversation.
 pub record IsEnding (ticks : ℕ) (line : List ℕ) (section : List (List ℕ)) : Type 0 where
   pub told : is_skipped (shown_of line) ≡ false
+  pub own : own_line_of (shown_of line) ≡ None
   pub said : said_by ticks line section ≡ None
   pub header : is_header (shown_of line) ≡ true
 
@@ -54,13 +62,41 @@ RefusesHalf header old new number =
     ⊎ ((header ≡ true) × HasFront old new (bad_line_text (Some number)))
 
 module _ {V : Type 0} {P : V → Type 0} (m : Meanings P) (e f : Engine V P) where
-  -- A command was done: the drivers followed its events. Of other turns the engine has no part.
+  -- A command was done, under the limits that hold and stay: the drivers followed its events.
+  pub record HasDone (d : Deed) : Type 0 where
+    pub does : DoesDeed (registrations e) (world_in m e) d (world_in m f)
+    pub follow : DriversFollow m (roles_of (registrations e)) (drivers_in e) (deed_events d)
+        (drivers_in f)
+    pub within : StaysWithin m e.machine.store (deed_events d) f.machine.store
+
+  -- A limit was set, and nothing else changed.
+  pub record HasLimited (limit : LimitLine) : Type 0 where
+    pub limits : limits_in f ≡ with_limit (limits_in e) limit
+    pub world : world_in m f ≡ world_in m e
+    pub drivers : drivers_in f ≡ drivers_in e
+
+  -- What a turn did to the engine. What was told to be held is what it holds.
   abbrev pub Comes : Turned → Type 0
   Comes Passed = f ≡ e
-  Comes (Did d) =
-      DoesDeed (registrations e) (world_in m e) d (world_in m f)
-      × DriversFollow m (roles_of (registrations e)) (drivers_in e) (deed_events d) (drivers_in f)
+  Comes (Did d) = HasDone d
+  Comes (Limited limit) = HasLimited limit
+  Comes (Told held) = (f ≡ e) × (held ≡ held_in m e)
   Comes Unread = f ≡ e
+
+  -- a line that no session has was done, and answered
+  pub record Obeys (old new : Option (List ℕ)) (o : OwnLine) : Type 0 where
+    pub did : Turned
+    pub says : says_of did ≡ Owns o
+    pub comes : Comes did
+    pub right : is_right did ≡ true
+    pub printed : Appends old new (answer_text did)
+
+  -- or answered in part
+  pub record ObeysHalf (old new : Option (List ℕ)) (o : OwnLine) : Type 0 where
+    pub did : Turned
+    pub says : says_of did ≡ Owns o
+    pub comes : Comes did
+    pub front : HasFront old new (answer_text did)
 
   -- a turn was taken with a line, after which the next command may take `next` ticks
   pub record IsTaken (ticks : ℕ) (line : List ℕ) (section : List (List ℕ)) (t : Turned)

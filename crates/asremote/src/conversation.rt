@@ -17,10 +17,9 @@ use crate::commands::{Next, read_command};
 use crate::turns::{one_turn, print_done};
 use ang_engine::{Engine, NewError, NewRefused};
 use ang_host::{Driver, Drivers};
-use ang_registry::Registry;
 use asrun_session::{
-    IoFault, ReplyBuffer, SessionEnd, SessionError, Status, load_profile, outcome_of,
-    print_drivers_error, print_no_driver, write_text,
+    IoFault, LoadedProfile, ReplyBuffer, SessionEnd, SessionError, Status, limited_engine,
+    load_profile, outcome_of, print_drivers_error, print_no_driver, write_text,
 };
 use std::alloc::Global;
 use std::io::{Read, Write};
@@ -131,25 +130,25 @@ fn run_turns<S: Read, W: Write>(
     turns_on(alloc, input, writer, buffer, engine, budget)
 }
 
-/// Makes the engine, holds the conversation and discards the engine.
+/// Makes the engine, under the profile's limits, holds the conversation and discards the engine.
 fn run_engine<S: Read, W: Write>(
     alloc: Global,
     input: &mut S,
     writer: &mut W,
     buffer: &mut ReplyBuffer,
-    registry: Registry,
+    profile: LoadedProfile,
     drivers: Drivers,
     budget: u64,
 ) -> (Result<Status, SessionError>, Vec<Box<dyn Driver>>)
     requires listed { AreListed ⟦<dyn Driver as Driver>⟧ (members drivers) }
     ensures done { IfOk result.0 (TalksOver ⟦<dyn Driver as Driver>⟧ (members drivers)
         result.1.items budget (S.remaining input.old) (S.remaining input.new)
-        (W.contents writer.old) (W.contents writer.new) registry.entries) }
+        (W.contents writer.old) (W.contents writer.new) profile.registry.entries) }
     ensures cut { OnErr result.0 (StopsOver ⟦<dyn Driver as Driver>⟧ (members drivers)
         result.1.items budget (S.remaining input.old) (S.remaining input.new)
-        (W.contents writer.old) (W.contents writer.new) registry.entries) }
+        (W.contents writer.old) (W.contents writer.new) profile.registry.entries) }
 {
-    match Engine::new(alloc, registry, drivers) {
+    match limited_engine(alloc, profile, drivers) {
         Ok(mut engine) => {
             let ended = run_turns(alloc, input, writer, buffer, &mut engine, budget);
             (ended, engine.discard())
@@ -177,22 +176,22 @@ fn run_drivers<S: Read, W: Write>(
     input: &mut S,
     writer: &mut W,
     buffer: &mut ReplyBuffer,
-    registry: Registry,
+    profile: LoadedProfile,
     drivers: Vec<Box<dyn Driver>>,
     budget: u64,
 ) -> (Result<Status, SessionError>, Vec<Box<dyn Driver>>)
     requires few { length drivers.items < 2 ^ 60 }
     ensures done { IfOk result.0 (TalksOver ⟦<dyn Driver as Driver>⟧ drivers.items
         result.1.items budget (S.remaining input.old) (S.remaining input.new)
-        (W.contents writer.old) (W.contents writer.new) registry.entries) }
+        (W.contents writer.old) (W.contents writer.new) profile.registry.entries) }
     ensures cut { OnErr result.0 (StopsOver ⟦<dyn Driver as Driver>⟧ drivers.items
         result.1.items budget (S.remaining input.old) (S.remaining input.new)
-        (W.contents writer.old) (W.contents writer.new) registry.entries) }
+        (W.contents writer.old) (W.contents writer.new) profile.registry.entries) }
 {
     match Drivers::new(drivers) {
-        Ok(drivers) => run_engine(alloc, input, writer, buffer, registry, drivers, budget),
+        Ok(drivers) => run_engine(alloc, input, writer, buffer, profile, drivers, budget),
         Err((why, drivers)) => {
-            drop(registry);
+            drop(profile);
             (print_drivers_error(writer, why), drivers)
         }
     }
@@ -222,8 +221,8 @@ pub fn converse<P: Read, S: Read, W: Write>(
             drivers,
         };
     };
-    let mut registry = Registry::new(alloc);
-    match load_profile(alloc, profile, out, &mut buffer, &mut registry) {
+    let mut loaded = LoadedProfile::new(alloc);
+    match load_profile(alloc, profile, out, &mut buffer, &mut loaded) {
         Ok(true) => {}
         Ok(false) => {
             return SessionEnd {
@@ -238,7 +237,7 @@ pub fn converse<P: Read, S: Read, W: Write>(
             };
         }
     }
-    let (ended, drivers) = run_drivers(alloc, input, out, &mut buffer, registry, drivers, budget);
+    let (ended, drivers) = run_drivers(alloc, input, out, &mut buffer, loaded, drivers, budget);
     SessionEnd {
         outcome: outcome_of(ended),
         drivers,

@@ -6,49 +6,36 @@ mod command;
 mod commands;
 mod conversation;
 mod echo;
-mod ending;
 pub mod laws;
 mod options;
+mod own_lines;
 mod shared;
 mod turns;
 
 use crate::command::RemoteOptions;
 use crate::conversation::converse;
 use crate::echo::Echo;
-use crate::ending::{RemoteExit, code_of};
 use crate::shared::Shared;
 use ang_host::Driver;
 use ang_remote::Remote;
-use asrun_session::{IoFault, SessionEnd, Status};
+use asrun_session::{ProgramExit, SessionEnd, exit_status, print_no_memory, print_outcome};
 use std::alloc::AllocError;
 use std::fs::File;
 use std::process::ExitCode;
 use std::{env, io};
 
-fn print_no_memory(rt: &impl Eprint) {
-    let _ = eprintln!(rt; "asremote: no memory");
-}
-
-/// Says on standard error what the conversation's outcome is, if it is one that it can't print.
-fn print_outcome(rt: &impl Eprint, outcome: Result<Status, IoFault>) {
-    match outcome {
-        Ok(Status::Memory) => print_no_memory(rt),
-        Ok(_) => {}
-        Err(fault) => {
-            let _ = eprintln!(rt; "asremote: {fault}");
-        }
-    }
-}
+/// The program's name, which stands in front of what it says on standard error.
+const NAME: &str = "asremote";
 
 /// Opens the profile and holds the conversation. The commands and the drivers share standard input, and what was read of
 /// it ahead.
 ///
 /// # Errors
 /// A growth of memory was refused before the conversation.
-fn run_file(rt: &HostRuntime, options: &RemoteOptions) -> Result<RemoteExit, AllocError> {
+fn run_file(rt: &HostRuntime, options: &RemoteOptions) -> Result<ProgramExit, AllocError> {
     let Ok(mut profile) = File::open(rt, options.profile.as_str()) else {
         let _ = eprintln!(rt; "asremote: cannot open {}", options.profile);
-        return Ok(RemoteExit::CannotOpen);
+        return Ok(ProgramExit::CannotOpen);
     };
     let alloc = rt.alloc();
     let shared = Shared::new(alloc, rt.stdin())?;
@@ -59,7 +46,7 @@ fn run_file(rt: &HostRuntime, options: &RemoteOptions) -> Result<RemoteExit, All
     }
     // There are as many boxes as drivers. That they are few is what `converse` asks for.
     if boxes.len() > 64 {
-        return Ok(RemoteExit::BadCommandLine);
+        return Ok(ProgramExit::BadCommandLine);
     }
     let mut input = Echo::new(shared, rt.stdout(), options.echo);
     let mut out = rt.stdout();
@@ -72,21 +59,21 @@ fn run_file(rt: &HostRuntime, options: &RemoteOptions) -> Result<RemoteExit, All
         options.budget,
     );
     drop(drivers);
-    print_outcome(rt, outcome);
-    Ok(RemoteExit::Ran(outcome))
+    print_outcome(rt, NAME, outcome);
+    Ok(ProgramExit::Ran(outcome))
 }
 
 /// Reads the command line, and holds the conversation that it asks for.
 ///
 /// # Errors
 /// A growth of memory was refused before the conversation.
-fn run_words(rt: &HostRuntime) -> io::Result<RemoteExit> {
+fn run_words(rt: &HostRuntime) -> io::Result<ProgramExit> {
     let alloc = rt.alloc();
     let words: Vec<String> = match env::args(rt) {
         Ok(words) => words.collect(alloc)?,
         Err(error) if error.kind() == io::ErrorKind::InvalidData => {
             let _ = eprintln!(rt; "asremote: an argument is not text in UTF-8");
-            return Ok(RemoteExit::BadCommandLine);
+            return Ok(ProgramExit::BadCommandLine);
         }
         Err(error) => return Err(error),
     };
@@ -94,15 +81,15 @@ fn run_words(rt: &HostRuntime) -> io::Result<RemoteExit> {
     match options::options(alloc, words.as_slice()) {
         Ok(options) => Ok(run_file(rt, &options)?),
         Err(error) if error.kind() == clap::error::ErrorKind::OutOfMemory => {
-            print_no_memory(rt);
-            Ok(RemoteExit::NoMemory)
+            print_no_memory(rt, NAME);
+            Ok(ProgramExit::NoMemory)
         }
         Err(error) => {
             let _ = error.print(rt);
             Ok(if error.use_stderr() {
-                RemoteExit::BadCommandLine
+                ProgramExit::BadCommandLine
             } else {
-                RemoteExit::Helped
+                ProgramExit::Helped
             })
         }
     }
@@ -112,9 +99,9 @@ fn main(rt: HostRuntime) -> ExitCode {
     let ending = match run_words(&rt) {
         Ok(ending) => ending,
         Err(_) => {
-            print_no_memory(&rt);
-            RemoteExit::NoMemory
+            print_no_memory(&rt, NAME);
+            ProgramExit::NoMemory
         }
     };
-    ExitCode::from(code_of(ending))
+    ExitCode::from(exit_status(ending))
 }

@@ -7,13 +7,15 @@ ghost use Rattle.asrun_session.specs.Drivers.{kinds_of};
 ghost use Rattle.asrun_session.specs.Writing.{HasFront};
 ghost use Rattle.asremote.specs.Talk.{done_line};
 ghost use Rattle.asrun_lines.specs.SessionLines.{is_header};
-ghost use Rattle.asremote.specs.Turns.{Refuses, RefusesHalf, TakesTurn, TakesHalf, TakesOne};
+ghost use Rattle.asremote.specs.Turns.{Obeys, ObeysHalf, Refuses, RefusesHalf, TakesTurn, TakesHalf, TakesOne};
 
+use crate::own_lines::{OwnLine, own_line};
 use ang_engine::Engine;
 use ang_host::Driver;
 use asrun_lines::{LineError, first_line, is_header, is_skipped, shown};
 use asrun_session::{
-    IoFault, ReplyBuffer, SessionError, perform, print_bad_line, read_act, write_text,
+    IoFault, ReplyBuffer, SessionError, perform, print_bad_line, print_held, read_act, with_limit,
+    write_text,
 };
 use std::alloc::Global;
 use std::io::Write;
@@ -64,6 +66,36 @@ fn refuse<W: Write>(
     Ok(Turn::Done(false, ticks, 0))
 }
 
+/// Does a line that no session has, and prints its answer.
+///
+/// # Errors
+/// A write fault, and want of memory.
+fn obey<W: Write>(
+    engine: &mut Engine,
+    writer: &mut W,
+    buffer: &mut ReplyBuffer,
+    line: OwnLine,
+) -> Result<(), SessionError>
+    requires sound { IsSound ⟦<dyn Driver as Driver>⟧ engine.old }
+    ensures sound { IsSound ⟦<dyn Driver as Driver>⟧ engine.new }
+    ensures registrations { registrations engine.new ≡ registrations engine.old }
+    ensures order { kinds_of (drivers_in engine.new) ≡ kinds_of (drivers_in engine.old) }
+    ensures obeyed { OnOk result (Obeys ⟦<dyn Driver as Driver>⟧ engine.old engine.new
+        (W.contents writer.old) (W.contents writer.new) line) }
+    ensures cut { OnErr result (ObeysHalf ⟦<dyn Driver as Driver>⟧ engine.old engine.new
+        (W.contents writer.old) (W.contents writer.new) line) }
+{
+    match line {
+        OwnLine::Limit(limit) => {
+            let limits = with_limit(engine.limits(), limit);
+            engine.set_limits(limits);
+            write_text(writer, b"ok\n")?;
+            Ok(())
+        }
+        OwnLine::Used => print_held(writer, buffer, engine.held()),
+    }
+}
+
 /// Does the command of this text, whose line has this number, and prints its reply. A line of another form is answered
 /// `refused BadLine`, or ends the conversation.
 ///
@@ -92,6 +124,10 @@ pub fn take_turn<W: Write>(
     };
     let line = shown(line);
     if is_skipped(line) {
+        return Ok(Turn::Done(true, ticks, 0));
+    }
+    if let Some(own) = own_line(line) {
+        obey(engine, writer, buffer, own)?;
         return Ok(Turn::Done(true, ticks, 0));
     }
     match read_act(alloc, ticks, line, after) {

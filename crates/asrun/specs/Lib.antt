@@ -1,2 +1,1 @@
-pub mod Exit
 pub mod Options

@@ -3,33 +3,20 @@
 #![tactic(auto)]
 
 mod command;
-mod ending;
 mod options;
 
 use crate::command::RunOptions;
-use crate::ending::{ProgramExit, code_of};
 use ang_drivers::{Cell, Console, Counter};
 use ang_host::Driver;
 pub use asrun_session::{IoFault, SessionEnd, Status, session};
+use asrun_session::{ProgramExit, exit_status, print_no_memory, print_outcome};
 use std::alloc::AllocError;
 use std::fs::File;
 use std::process::ExitCode;
 use std::{env, io};
 
-fn print_no_memory(rt: &impl Eprint) {
-    let _ = eprintln!(rt; "asrun: no memory");
-}
-
-/// Says on standard error what a session's outcome is, if it is one that the session can't print.
-fn print_outcome(rt: &impl Eprint, outcome: Result<Status, IoFault>) {
-    match outcome {
-        Ok(Status::Memory) => print_no_memory(rt),
-        Ok(_) => {}
-        Err(fault) => {
-            let _ = eprintln!(rt; "asrun: {fault}");
-        }
-    }
-}
+/// The program's name, which stands in front of what it says on standard error.
+const NAME: &str = "asrun";
 
 /// Opens a file to read it, or says on standard error that it can't be opened.
 fn open_or_say(rt: &HostRuntime, path: &str) -> Option<File> {
@@ -68,7 +55,7 @@ fn run_files(rt: &HostRuntime, options: &RunOptions) -> Result<ProgramExit, Allo
         options.budget,
     );
     drop(drivers);
-    print_outcome(rt, outcome);
+    print_outcome(rt, NAME, outcome);
     Ok(ProgramExit::Ran(outcome))
 }
 
@@ -90,7 +77,7 @@ fn run_words(rt: &HostRuntime) -> io::Result<ProgramExit> {
     match options::options(alloc, words.as_slice()) {
         Ok(options) => Ok(run_files(rt, &options)?),
         Err(error) if error.kind() == clap::error::ErrorKind::OutOfMemory => {
-            print_no_memory(rt);
+            print_no_memory(rt, NAME);
             Ok(ProgramExit::NoMemory)
         }
         Err(error) => {
@@ -108,9 +95,9 @@ fn main(rt: HostRuntime) -> ExitCode {
     let ending = match run_words(&rt) {
         Ok(ending) => ending,
         Err(_) => {
-            print_no_memory(&rt);
+            print_no_memory(&rt, NAME);
             ProgramExit::NoMemory
         }
     };
-    ExitCode::from(code_of(ending))
+    ExitCode::from(exit_status(ending))
 }

@@ -1,15 +1,19 @@
--- The lines of a profile: what a host registers (docs/EMBEDDING.md, "The program").
+-- The lines of a profile: what a host registers, and how much scripts may hold (docs/FORMATS.md,
+-- "Profile").
 use Rattle.std.specs.Prelude.{ℕ, ℤ, List, Option, Some, None, codes, if◌then◌else◌}
 use Rattle.std.specs.Option.{option_map}
 use Rattle.std.specs.Str.{bytes_eq}
 use Rattle.ang_kinds.specs.declared.mask.Mask.{Mask}
 use Rattle.asrun_lines.specs.Fields.{◌>>=◌, field_of, last_field_of, rest_of, number_of, signed_of, mask_of}
+use Rattle.asrun_lines.specs.Limits.{limit_of}
+use Rattle.asrun_lines.specs.declared.limits.LimitLine.{LimitLine}
 use Rattle.asrun_lines.specs.declared.profile_lines.ProfileLine.{ProfileLine}
 use Rattle.asrun_lines.specs.declared.profile_lines.ProfileLine.TheVariants as line
 
 -- what a line says, without where it lies in memory
 pub data Entry : Type 0 where
   DefaultMask : Mask → Entry
+  Limit : LimitLine → Entry
   HostType : List ℕ → ℕ → Entry
   Factory : List ℕ → ℕ → List ℕ → Entry
   Method : List ℕ → ℕ → List ℕ → Entry
@@ -22,6 +26,7 @@ pub data Entry : Type 0 where
 
 abbrev pub entry : ProfileLine → Entry
 entry (line.Mask m) = DefaultMask m
+entry (line.Limit limit) = Limit limit
 entry (line.HostType name driver) = HostType name.now driver
 entry (line.Factory type_name f decl) = Factory type_name.now f decl.now
 entry (line.Method type_name f decl) = Method type_name.now f decl.now
@@ -74,6 +79,7 @@ enum_value_of text = do
 unfoldable pub entry_behind : List ℕ → List ℕ → Option Entry
 entry_behind word text =
     if bytes_eq word (codes "mask") then option_map DefaultMask (mask_of text)
+    else (if bytes_eq word (codes "limit") then option_map Limit (limit_of text)
     else (if bytes_eq word (codes "type") then type_of text
     else (if bytes_eq word (codes "factory")
     then option_map (λ m. Factory m.0 m.1 m.2) (member_of text)
@@ -87,7 +93,7 @@ entry_behind word text =
     then option_map (λ o. Global o.0 o.1 o.2) (own_of text)
     else (if bytes_eq word (codes "enum") then enumeration_of text
     else (if bytes_eq word (codes "value") then enum_value_of text
-    else None))))))))
+    else None)))))))))
 
 -- one of these lines, or `blank` alone
 unfoldable pub entry_of : List ℕ → Option Entry

@@ -4,6 +4,7 @@
 
 mod budget;
 mod fields;
+mod limits;
 mod lines;
 mod profile_lines;
 mod session_lines;
@@ -12,6 +13,7 @@ mod values;
 
 pub use budget::budget_of;
 pub use fields::{decimal, field, number};
+pub use limits::{LimitKind, LimitLine, limit};
 pub use lines::{first_line, first_lines, is_skipped, shown};
 pub use profile_lines::{ProfileLine, profile_line};
 pub use session_lines::{LineError, SessionLine, is_header, session_line};

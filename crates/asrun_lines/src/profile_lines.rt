@@ -3,6 +3,7 @@ ghost use Rattle.std.specs.Prelude.{◌≡◌, option_map};
 ghost use Rattle.asrun_lines.specs.ProfileLines.{entry, type_of, member_of, own_of, enumeration_of, enum_value_of, entry_behind, entry_of};
 
 use crate::fields::{field, last_field, mask, number, rest, signed};
+use crate::limits::{LimitLine, limit};
 use ang_kinds::Mask;
 
 /// A line of a profile that is neither empty nor a comment. A declaration is the rest of its line.
@@ -10,6 +11,8 @@ use ang_kinds::Mask;
 pub enum ProfileLine<'a> {
     /// `mask M`: the default mask of what is registered next.
     Mask(Mask),
+    /// `limit KIND N`: how much scripts may hold, or a command may list.
+    Limit(LimitLine),
     /// `type NAME DRIVER`: a type of host objects.
     HostType {
         /// The type's name.
@@ -144,6 +147,10 @@ fn line_behind<'a>(word: &[u8], text: &'a [u8]) -> Option<ProfileLine<'a>>
     if word == b"mask".as_slice() {
         let mask = mask(text)?;
         return Some(ProfileLine::Mask(mask));
+    }
+    if word == b"limit".as_slice() {
+        let limit = limit(text)?;
+        return Some(ProfileLine::Limit(limit));
     }
     if word == b"type".as_slice() {
         return type_line(text);

@@ -5,7 +5,9 @@ use Rattle.ang_kinds.specs.declared.mask.EntityNo.{EntityNo}
 use Rattle.ang_registry.specs.declared.error.RegError.{RegError}
 use Rattle.ang_registry.specs.declared.error.RegError.TheVariants.{Memory as NoMemory}
 use Rattle.ang_registry.specs.Registrations.{Registrations}
+use Rattle.ang_heap.specs.declared.limits.Limits.{Limits}
 use Rattle.asrun_lines.specs.Lines.{shown_of}
+use Rattle.asrun_session.specs.Limits.{limits_of, line_limits}
 use Rattle.asrun_session.specs.Profile.{loaded, line_entered, Loads, registered, IsJudged}
 use Rattle.asrun_session.specs.declared.profile.ProfileFault.{ProfileFault}
 use Rattle.asrun_session.specs.declared.profile.ProfileFault.TheVariants.{Refused}
@@ -30,6 +32,17 @@ pub loads_all : (n : ℕ) (r : Registrations) (all : List (List ℕ)) (whole : R
     → all ≡ [] → loaded n r all ≡ whole → whole ≡ Ok r
 unfolding loaded
 loads_all n r all whole a h = sym (rw a at h)
+
+-- the same of the limits: a line was taken
+pub limits_more : (l k : Limits) (line : List ℕ) (all lines : List (List ℕ)) (whole : Limits)
+    → all ≡ line ∷ lines → k ≡ line_limits l (shown_of line) → limits_of l all ≡ whole → limits_of k lines ≡ whole
+unfolding limits_of
+limits_more l k line all lines whole a e h = ap (λ x. limits_of x lines) e ∙ sym (ap (limits_of l) a) ∙ h
+
+-- no line is left
+pub limits_all : (l : Limits) (all : List (List ℕ)) (whole : Limits) → all ≡ [] → limits_of l all ≡ whole → l ≡ whole
+unfolding limits_of
+limits_all l all whole a h = sym (ap (limits_of l) a) ∙ h
 
 -- what a registration answered, where it adds where nothing refuses it, and else answers the refusal
 pub loads_judged : {U : Type 0} (r : Result U ProfileStop) (n : ℕ) (answer : Result EntityNo RegError) (refusal : Option RegError) (after now : Registrations)

@@ -5,8 +5,9 @@ use Rattle.ang_host.specs.Meanings.{Meanings}
 use Rattle.ang_host.specs.declared.event.HostEvent.{HostEvent}
 use Rattle.ang_engine.specs.declared.engine.Engine.{Engine}
 use Rattle.ang_engine.specs.Engines.{registrations, world_in, drivers_in}
+use Rattle.ang_engine.specs.Limited.{StaysWithin}
 use Rattle.ang_engine_modules.specs.World.{World}
-use Rattle.asrun_session.specs.Deeds.{IsPrinted, IsHalfPrinted, IsDone, IsCut}
+use Rattle.asrun_session.specs.Deeds.{deed_events, IsPrinted, IsHalfPrinted, IsDone, IsCut}
 use Rattle.asrun_session.specs.Drivers.{ByEvents}
 use Rattle.asrun_session.specs.Session.{Session}
 use Rattle.asrun_session.specs.Whole.{RunsSession, StopsSession}
@@ -18,17 +19,17 @@ module _ {V : Type 0} {P : V → Type 0} (m : Meanings P) (e f : Engine V P) whe
   abbrev pub Comes : (List HostEvent → World → Type 0) → Type 0
   Comes S = ByEvents m (registrations e) (drivers_in e) (λ es. S es (world_in m f)) (drivers_in f)
 
-  -- one action is done, and its text is printed
-  abbrev pub Prints : Action → Option (List ℕ) → Option (List ℕ) → Bool → Type 0
-  Prints a old new ok =
-      IsPrinted m (registrations e) (world_in m e) (drivers_in e) a old new ok (world_in m f)
-      (drivers_in f)
+  -- One action is done, under the limits that hold and stay, and its text is printed.
+  pub record Prints (a : Action) (old new : Option (List ℕ)) (ok : Bool) : Type 0 where
+    pub done : IsPrinted m (registrations e) (world_in m e) (drivers_in e) a old new ok
+        (world_in m f) (drivers_in f)
+    pub within : StaysWithin m e.machine.store (deed_events done.deed) f.machine.store
 
-  -- one action is done, and a front of its text is printed
-  abbrev pub HalfPrints : Action → Option (List ℕ) → Option (List ℕ) → Type 0
-  HalfPrints a old new =
-      IsHalfPrinted m (registrations e) (world_in m e) (drivers_in e) a old new (world_in m f)
-      (drivers_in f)
+  -- One action is done so, and a front of its text is printed.
+  pub record HalfPrints (a : Action) (old new : Option (List ℕ)) : Type 0 where
+    pub done : IsHalfPrinted m (registrations e) (world_in m e) (drivers_in e) a old new
+        (world_in m f) (drivers_in f)
+    pub within : StaysWithin m e.machine.store (deed_events done.deed) f.machine.store
 
   -- the lines of a session are done
   abbrev pub RunsLines : Session → Option (List ℕ) → Option (List ℕ) → Status → Type 0

@@ -2,7 +2,9 @@ pub mod Acts
 pub mod Deeds
 pub mod Drivers
 pub mod Engines
+pub mod Exit
 pub mod LastEnds
+pub mod Limits
 pub mod Pieces
 pub mod Profile
 pub mod Reading

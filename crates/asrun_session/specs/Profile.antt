@@ -7,7 +7,7 @@ use Rattle.ang_registry.specs.Declarations.{declared_type, declared_factory, dec
 use Rattle.ang_registry.specs.Refusals.{refusal_of_type, with_type, refusal_of_factory, with_factory, refusal_of_method, with_method, refusal_of_property, with_property, refusal_of_function, with_function, refusal_of_global, with_global, refusal_of_enumeration, with_enumeration, refusal_of_value, with_value, refusal_of_blank, with_blank}
 use Rattle.ang_registry.specs.declared.error.RegError.TheVariants.{Memory as NoMemory}
 use Rattle.asrun_lines.specs.Lines.{shown_of, is_skipped}
-use Rattle.asrun_lines.specs.ProfileLines.{Entry, DefaultMask, HostType, Factory, Method, Property, Function, Global, Enumeration, EnumValue, Blank, entry_of}
+use Rattle.asrun_lines.specs.ProfileLines.{Entry, DefaultMask, Limit, HostType, Factory, Method, Property, Function, Global, Enumeration, EnumValue, Blank, entry_of}
 use Rattle.asrun_session.specs.declared.profile.ProfileFault.{ProfileFault}
 use Rattle.asrun_session.specs.declared.profile.ProfileFault.TheVariants.{BadLine, Refused}
 use Rattle.asrun_session.specs.declared.profile.ProfileStop.{ProfileStop}
@@ -26,6 +26,7 @@ registered n (Some why) after = Err (Refused n why)
 abbrev pub entered : ℕ → Registrations → Option Entry → Result Registrations ProfileFault
 entered n r None = Err (BadLine n)
 entered n r (Some (DefaultMask m)) = Ok (record r { default_mask = m })
+entered n r (Some (Limit limit)) = Ok r
 entered n r (Some (HostType name driver)) =
     registered n (refusal_of_type r driver (declared_type name))
     (with_type r driver (declared_type name))

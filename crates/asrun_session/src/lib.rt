@@ -2,12 +2,14 @@
 //! replies goes to a writer (docs/EMBEDDING.md, "The program").
 //!
 //! What each line says is read by `asrun_lines`. `specs/` has what the lines of both texts do (`Profile.antt`,
-//! `Session.antt`), what was done with the replies (`Deeds.antt`), and what a whole session writes and how it ends
+//! `Limits.antt`, `Session.antt`), what was done with the replies (`Deeds.antt`), and what a whole session writes and how it ends
 //! (`Whole.antt`).
 #![tactic(auto)]
 
 mod action;
 mod ending;
+mod exit;
+mod limits;
 mod printing;
 mod profile;
 mod reading;
@@ -18,7 +20,10 @@ mod writing;
 
 pub use action::{Act, Action, read_act};
 pub use ending::{IoFault, SessionError, Status};
-pub use printing::{ReplyBuffer, print_bad_line};
+pub use exit::{ProgramExit, exit_status, print_no_memory, print_outcome};
+pub use limits::{limited_engine, with_limit};
+pub use printing::{ReplyBuffer, print_bad_line, print_held};
+pub use profile::LoadedProfile;
 pub use run::perform;
 pub use whole::{
     SessionEnd, load_profile, outcome_of, print_drivers_error, print_no_driver, session,

@@ -1,12 +1,40 @@
 //! Registering what a profile says.
-ghost use Rattle.std.specs.Prelude.{◌<◌, ◌^◌, length};
+ghost use Rattle.std.specs.Prelude.{◌≡◌, ◌<◌, ◌^◌, length, OnOk};
+ghost use Rattle.ang_engine.specs.Limited.{no_limits};
 ghost use Rattle.asrun_lines.specs.Lines.{lines_of};
+ghost use Rattle.asrun_session.specs.Limits.{entry_limits, line_limits, limits_of};
 ghost use Rattle.asrun_session.specs.Profile.{line_entered, loaded, Loads, entered, IsJudged};
+ghost use Rattle.asrun_session.specs.Whole.{fresh};
 ghost use Rattle.asrun_lines.specs.ProfileLines.{entry_of};
 
+use crate::limits::with_limit;
+use ang_engine::Limits;
 use ang_kinds::EntityNo;
 use ang_registry::{RegError, Registry};
 use asrun_lines::{ProfileLine, first_line, is_skipped, profile_line, shown};
+use std::alloc::Global;
+
+/// What a profile says.
+#[derive(Drop)]
+pub struct LoadedProfile {
+    /// What the host registers.
+    pub registry: Registry,
+    /// How much scripts may hold, and a command may list.
+    pub limits: Limits,
+}
+
+impl LoadedProfile {
+    /// That of a profile without lines: nothing is registered, and there are no limits.
+    pub fn new(alloc: Global) -> LoadedProfile
+        ensures registry { result.registry ≡ fresh }
+        ensures limits { result.limits ≡ no_limits }
+    {
+        LoadedProfile {
+            registry: Registry::new(alloc),
+            limits: Limits::none(),
+        }
+    }
+}
 
 /// What ends a run at a line of a profile. Lines are numbered from 1.
 #[derive(Clone, Copy)]
@@ -37,63 +65,81 @@ fn judged(number: u64, answer: Result<EntityNo, RegError>) -> Result<(), Profile
     }
 }
 
-/// Registers what line `number` says.
+/// Registers what line `number` says, or sets the limit that it says.
 #[tactic(auto, using(crate::proofs::Loading::loads_judged))]
-fn enter(registry: &mut Registry, number: u64, line: &[u8]) -> Result<(), ProfileStop>
-    ensures exact { Loads result registry.new (entered number registry.old (entry_of line.now)) }
+fn enter(profile: &mut LoadedProfile, number: u64, line: &[u8]) -> Result<(), ProfileStop>
+    ensures exact { Loads result profile.new.registry
+        (entered number profile.old.registry (entry_of line.now)) }
+    ensures limits { OnOk result
+        (profile.new.limits ≡ entry_limits profile.old.limits (entry_of line.now)) }
 {
     let Some(line) = profile_line(line) else {
         return Err(ProfileStop::Fault(ProfileFault::BadLine(number)));
     };
     match line {
         ProfileLine::Mask(mask) => {
-            registry.set_default_mask(mask);
+            profile.registry.set_default_mask(mask);
             Ok(())
         }
-        ProfileLine::HostType { name, driver } => judged(number, registry.type_(name, driver)),
+        ProfileLine::Limit(limit) => {
+            profile.limits = with_limit(profile.limits, limit);
+            Ok(())
+        }
+        ProfileLine::HostType { name, driver } => judged(
+            number,
+            profile.registry.type_(name, driver),
+        ),
         ProfileLine::Factory { type_name, f, decl } => {
-            judged(number, registry.factory(type_name, f, decl))
+            judged(number, profile.registry.factory(type_name, f, decl))
         }
         ProfileLine::Method { type_name, f, decl } => {
-            judged(number, registry.method(type_name, f, decl))
+            judged(number, profile.registry.method(type_name, f, decl))
         }
         ProfileLine::Property { type_name, f, decl } => {
-            judged(number, registry.property(type_name, f, decl))
+            judged(number, profile.registry.property(type_name, f, decl))
         }
         ProfileLine::Function { driver, f, decl } => {
-            judged(number, registry.function(driver, f, decl))
+            judged(number, profile.registry.function(driver, f, decl))
         }
         ProfileLine::Global { driver, f, decl } => {
-            judged(number, registry.global_property(driver, f, decl))
+            judged(number, profile.registry.global_property(driver, f, decl))
         }
-        ProfileLine::Enumeration { name } => judged(number, registry.enum_(name)),
+        ProfileLine::Enumeration { name } => judged(number, profile.registry.enum_(name)),
         ProfileLine::EnumValue {
             enumeration,
             name,
             value,
-        } => judged(number, registry.enum_value(enumeration, name, value)),
-        ProfileLine::Blank => judged(number, registry.blank()),
+        } => judged(
+            number,
+            profile.registry.enum_value(enumeration, name, value),
+        ),
+        ProfileLine::Blank => judged(number, profile.registry.blank()),
     }
 }
 
-fn enter_line(registry: &mut Registry, number: u64, line: &[u8]) -> Result<(), ProfileStop>
-    ensures exact { Loads result registry.new (line_entered number registry.old line.now) }
+fn enter_line(profile: &mut LoadedProfile, number: u64, line: &[u8]) -> Result<(), ProfileStop>
+    ensures exact { Loads result profile.new.registry
+        (line_entered number profile.old.registry line.now) }
+    ensures limits { OnOk result (profile.new.limits ≡ line_limits profile.old.limits line.now) }
 {
     if is_skipped(line) {
         return Ok(());
     }
-    enter(registry, number, line)
+    enter(profile, number, line)
 }
 
-/// Registers what the profile says, line by line, until one of them ends the run.
-pub fn load(registry: &mut Registry, text: &[u8]) -> Result<(), ProfileStop>
+/// Registers what the profile says and sets its limits, line by line, until one of them ends the run.
+pub fn load(profile: &mut LoadedProfile, text: &[u8]) -> Result<(), ProfileStop>
     requires few { length text.now < 2 ^ 32 }
-    ensures exact { Loads result registry.new (loaded 1 registry.old (lines_of text.now)) }
+    ensures exact { Loads result profile.new.registry
+        (loaded 1 profile.old.registry (lines_of text.now)) }
+    ensures limits { OnOk result
+        (profile.new.limits ≡ limits_of profile.old.limits (lines_of text.now)) }
 {
     let mut rest = text;
     let mut number = 1;
     while let Some((line, after)) = first_line(rest) {
-        enter_line(registry, number, shown(line))?;
+        enter_line(profile, number, shown(line))?;
         number += 1;
         rest = after;
     }

@@ -1,9 +1,11 @@
-//! The texts of lines that end the run.
+//! The texts of lines that end the run, and of what is held.
 ghost use Rattle.std.specs.Prelude.{◌≡◌, ◌++◌, OnOk, Some};
 ghost use Rattle.asrun_session.specs.Deeds.{bad_line_text};
+ghost use Rattle.asrun_session.specs.Limits.{held_text};
 ghost use Rattle.asrun_session.specs.Whole.{why_text, profile_fault_text};
 
 use crate::profile::ProfileFault;
+use ang_engine::Held;
 use ang_registry::RegError;
 use asrun_lines::{push_number, push_text};
 use std::alloc::AllocError;
@@ -51,4 +53,16 @@ pub fn push_profile_fault(out: &mut Vec<u8>, fault: ProfileFault) -> Result<(), 
             push_text(out, "\n")
         }
     }
+}
+
+/// `slots N`, `objects N` and `ok`, put after what stands in `out`.
+#[tactic(auto, using(crate::proofs::Texts::texts), unfolding(crate::specs::Limits::held_text))]
+pub fn push_held(out: &mut Vec<u8>, held: Held) -> Result<(), AllocError>
+    ensures added { OnOk result (out.new.items ≡ out.old.items ++ held_text held) }
+{
+    push_text(out, "slots ")?;
+    push_number(out, held.slots as u64)?;
+    push_text(out, "\nobjects ")?;
+    push_number(out, held.objects as u64)?;
+    push_text(out, "\nok\n")
 }

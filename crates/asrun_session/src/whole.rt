@@ -1,27 +1,28 @@
 //! A whole run: a profile, a session, and the text of the replies.
-ghost use Rattle.std.specs.Prelude.{◌≡◌, ◌≢◌, ◌<◌, ◌^◌, ◌⊎◌, length, Ok, IfOk, IfErr, IfSome, OnOk, OnErr};
+ghost use Rattle.std.specs.Prelude.{◌≡◌, ◌≢◌, ◌<◌, ◌^◌, ◌⊎◌, true, length, Ok, IfOk, IfErr, IfSome, OnOk, OnErr};
 ghost use Rattle.std.specs.Io.KnownBytes.{Appends};
 ghost use Rattle.ang_host.specs.Boxes.{members};
-ghost use Rattle.ang_engine.specs.Engines.{world_in, drivers_in};
+ghost use Rattle.ang_engine.specs.Engines.{world_in, drivers_in, limits_in};
 ghost use Rattle.ang_engine.specs.Sound.{IsSound};
 ghost use Rattle.ang_engine_modules.specs.World.{no_modules};
 ghost use Rattle.asrun_session.specs.Drivers.{kinds_of, AreListed, AreRefused, AreBack, NotListed, NoDriver, engine_text};
 ghost use Rattle.asrun_session.specs.Engines.{RunsText, StopsText};
 ghost use Rattle.asrun_lines.specs.Lines.{lines_of};
+ghost use Rattle.asrun_session.specs.Limits.{limits_of};
 ghost use Rattle.asrun_session.specs.Profile.{loaded};
 ghost use Rattle.asrun_session.specs.Reading.{unread, IsReadThrough};
 ghost use Rattle.asrun_session.specs.Whole.{registered_by, most_profile, most_session, start_of, Starts, Tells, StartStops, Ends, Stops, Unread, outcome_of, fresh};
 ghost use Rattle.asrun_session.specs.Writing.{HasFront, unwritten};
 
 use crate::ending::{IoFault, SessionError, Status};
+use crate::limits::limited_engine;
 use crate::printing::{ReplyBuffer, print_profile_fault};
-use crate::profile::{ProfileStop, load};
+use crate::profile::{LoadedProfile, ProfileStop, load};
 use crate::reading::{BoundedText, read_text};
 use crate::run::run_session;
 use crate::writing::write_text;
 use ang_engine::{Engine, NewError, NewRefused};
 use ang_host::{Driver, Drivers, DriversError};
-use ang_registry::Registry;
 use std::alloc::Global;
 use std::io::{Read, Write};
 
@@ -39,24 +40,27 @@ pub struct SessionEnd {
     pub drivers: Vec<Box<dyn Driver>>,
 }
 
-/// Registers what the profile says. False where the profile was not taken, which is printed then.
+/// Registers what the profile says, and sets its limits. False where the profile was not taken, which is printed then.
 fn load_text<W: Write>(
     writer: &mut W,
     buffer: &mut ReplyBuffer,
-    registry: &mut Registry,
+    profile: &mut LoadedProfile,
     text: &[u8],
 ) -> Result<bool, SessionError>
     requires few { length text.now < 2 ^ 32 }
-    ensures done { IfOk result (Starts (registered_by (loaded 1 registry.old (lines_of text.now)))
-        registry.new.entries (W.contents writer.old) (W.contents writer.new)) }
+    ensures done { IfOk result (Starts
+        (registered_by (loaded 1 profile.old.registry (lines_of text.now)))
+        profile.new.registry.entries (W.contents writer.old) (W.contents writer.new)) }
+    ensures limits { IfOk result (λ ok. ok ≡ true
+        → profile.new.limits ≡ limits_of profile.old.limits (lines_of text.now)) }
     ensures cut { OnErr result (StartStops
-        (registered_by (loaded 1 registry.old (lines_of text.now))) (W.contents writer.old)
-        (W.contents writer.new)) }
+        (registered_by (loaded 1 profile.old.registry (lines_of text.now)))
+        (W.contents writer.old) (W.contents writer.new)) }
     ensures refused { IfErr result (λ e. e ≡ unwritten
-        → IfOk (registered_by (loaded 1 registry.old (lines_of text.now))) (λ _. ⊥)) }
+        → IfOk (registered_by (loaded 1 profile.old.registry (lines_of text.now))) (λ _. ⊥)) }
     ensures fault { IfErr result (λ e. e ≢ unread) }
 {
-    match load(registry, text) {
+    match load(profile, text) {
         Ok(()) => Ok(true),
         Err(ProfileStop::Memory) => Err(SessionError::Memory),
         Err(ProfileStop::Fault(fault)) => {
@@ -66,18 +70,21 @@ fn load_text<W: Write>(
     }
 }
 
-/// Reads the profile whole and registers what it says. False where it was not taken, which is printed then.
+/// Reads the profile whole, registers what it says and sets its limits. False where it was not taken, which is printed
+/// then.
 pub fn load_profile<R: Read, W: Write>(
     alloc: Global,
     reader: &mut R,
     writer: &mut W,
     buffer: &mut ReplyBuffer,
-    registry: &mut Registry,
+    profile: &mut LoadedProfile,
 ) -> Result<bool, SessionError>
-    requires new { registry.old ≡ fresh }
+    requires new { profile.old.registry ≡ fresh }
     ensures done { IfOk result (λ ok. IfSome (R.remaining reader.old) (λ text.
-        Starts (start_of text) registry.new.entries (W.contents writer.old)
+        Starts (start_of text) profile.new.registry.entries (W.contents writer.old)
         (W.contents writer.new) ok)) }
+    ensures limits { IfOk result (λ ok. IfSome (R.remaining reader.old) (λ text. ok ≡ true
+        → profile.new.limits ≡ limits_of profile.old.limits (lines_of text))) }
     ensures cut { OnErr result (IfSome (R.remaining reader.old)
         (λ text. StartStops (start_of text) (W.contents writer.old) (W.contents writer.new))) }
     ensures through { IfOk result
@@ -89,7 +96,7 @@ pub fn load_profile<R: Read, W: Write>(
     ensures fault { IfErr result (λ e. e ≡ unread → W.contents writer.new ≡ W.contents writer.old) }
 {
     match read_text(alloc, reader, MOST_PROFILE)? {
-        BoundedText::Whole(text) => load_text(writer, buffer, registry, &text),
+        BoundedText::Whole(text) => load_text(writer, buffer, profile, &text),
         BoundedText::TooLong => {
             write_text(writer, b"profile 0 TooLong\n")?;
             Ok(false)
@@ -109,6 +116,7 @@ fn run_text<R: Read, W: Write>(
     requires sound { IsSound ⟦<dyn Driver as Driver>⟧ engine.old }
     requires new { world_in ⟦<dyn Driver as Driver>⟧ engine.old ≡ no_modules }
     ensures sound { IsSound ⟦<dyn Driver as Driver>⟧ engine.new }
+    ensures limits { limits_in engine.new ≡ limits_in engine.old }
     ensures order { kinds_of (drivers_in engine.new) ≡ kinds_of (drivers_in engine.old) }
     ensures done { IfOk result (λ status. IfSome (R.remaining reader.old) (λ text.
         RunsText ⟦<dyn Driver as Driver>⟧ engine.old engine.new
@@ -162,34 +170,35 @@ pub fn print_no_driver<W: Write>(writer: &mut W) -> Result<Status, SessionError>
     Ok(Status::BadInput)
 }
 
-/// Makes the engine, runs the session and discards the engine.
+/// Makes the engine, under the profile's limits, runs the session and discards the engine.
 fn run_engine<R: Read, W: Write>(
     alloc: Global,
     reader: &mut R,
     writer: &mut W,
     buffer: &mut ReplyBuffer,
-    registry: Registry,
+    profile: LoadedProfile,
     drivers: Drivers,
     budget: u64,
 ) -> (Result<Status, SessionError>, Vec<Box<dyn Driver>>)
     requires listed { AreListed ⟦<dyn Driver as Driver>⟧ (members drivers) }
     ensures done { IfOk result.0 (λ status. IfSome (R.remaining reader.old) (λ text.
         Ends ⟦<dyn Driver as Driver>⟧ (members drivers) result.1.items
-        (W.contents writer.old) (W.contents writer.new) (Ok registry.entries) text budget status)) }
+        (W.contents writer.old) (W.contents writer.new) (Ok profile.registry.entries) text budget
+        status)) }
     ensures cut { OnErr result.0 (IfSome (R.remaining reader.old) (λ text.
         Stops ⟦<dyn Driver as Driver>⟧ (members drivers) result.1.items
-        (W.contents writer.old) (W.contents writer.new) (Ok registry.entries) text budget)) }
+        (W.contents writer.old) (W.contents writer.new) (Ok profile.registry.entries) text budget)) }
     ensures read { IfErr result.0 (λ e. e ≡ unwritten →
         IsReadThrough most_session (R.remaining reader.old) (R.remaining reader.new)
-        ⊎ AreRefused ⟦<dyn Driver as Driver>⟧ registry.entries (members drivers)) }
+        ⊎ AreRefused ⟦<dyn Driver as Driver>⟧ profile.registry.entries (members drivers)) }
     ensures order { kinds_of result.1.items ≡ kinds_of (members drivers) }
     ensures returned { (result.1.items ≡ members drivers)
         ⊎ AreBack ⟦<dyn Driver as Driver>⟧ result.1.items }
     ensures fault { IfErr result.0 (λ e. e ≡ unread →
         Unread ⟦<dyn Driver as Driver>⟧ (members drivers) result.1.items
-        (W.contents writer.old) (W.contents writer.new) (Ok registry.entries)) }
+        (W.contents writer.old) (W.contents writer.new) (Ok profile.registry.entries)) }
 {
-    match Engine::new(alloc, registry, drivers) {
+    match limited_engine(alloc, profile, drivers) {
         Ok(mut engine) => {
             let ended = run_text(alloc, reader, writer, buffer, &mut engine, budget);
             (ended, engine.discard())
@@ -217,32 +226,33 @@ fn run_drivers<R: Read, W: Write>(
     reader: &mut R,
     writer: &mut W,
     buffer: &mut ReplyBuffer,
-    registry: Registry,
+    profile: LoadedProfile,
     drivers: Vec<Box<dyn Driver>>,
     budget: u64,
 ) -> (Result<Status, SessionError>, Vec<Box<dyn Driver>>)
     requires few { length drivers.items < 2 ^ 60 }
     ensures done { IfOk result.0 (λ status. IfSome (R.remaining reader.old) (λ text.
         Ends ⟦<dyn Driver as Driver>⟧ drivers.items result.1.items
-        (W.contents writer.old) (W.contents writer.new) (Ok registry.entries) text budget status)) }
+        (W.contents writer.old) (W.contents writer.new) (Ok profile.registry.entries) text budget
+        status)) }
     ensures cut { OnErr result.0 (IfSome (R.remaining reader.old) (λ text.
         Stops ⟦<dyn Driver as Driver>⟧ drivers.items result.1.items
-        (W.contents writer.old) (W.contents writer.new) (Ok registry.entries) text budget)) }
+        (W.contents writer.old) (W.contents writer.new) (Ok profile.registry.entries) text budget)) }
     ensures read { IfErr result.0 (λ e. e ≡ unwritten →
         IsReadThrough most_session (R.remaining reader.old) (R.remaining reader.new)
-        ⊎ AreRefused ⟦<dyn Driver as Driver>⟧ registry.entries drivers.items) }
+        ⊎ AreRefused ⟦<dyn Driver as Driver>⟧ profile.registry.entries drivers.items) }
     ensures order { kinds_of result.1.items ≡ kinds_of drivers.items }
     ensures returned { (result.1.items ≡ drivers.items)
         ⊎ (AreListed ⟦<dyn Driver as Driver>⟧ drivers.items
         × AreBack ⟦<dyn Driver as Driver>⟧ result.1.items) }
     ensures fault { IfErr result.0 (λ e. e ≡ unread →
         Unread ⟦<dyn Driver as Driver>⟧ drivers.items result.1.items
-        (W.contents writer.old) (W.contents writer.new) (Ok registry.entries)) }
+        (W.contents writer.old) (W.contents writer.new) (Ok profile.registry.entries)) }
 {
     match Drivers::new(drivers) {
-        Ok(drivers) => run_engine(alloc, reader, writer, buffer, registry, drivers, budget),
+        Ok(drivers) => run_engine(alloc, reader, writer, buffer, profile, drivers, budget),
         Err((why, drivers)) => {
-            drop(registry);
+            drop(profile);
             (print_drivers_error(writer, why), drivers)
         }
     }
@@ -261,8 +271,8 @@ pub fn outcome_of(ended: Result<Status, SessionError>) -> Result<Status, IoFault
 /// Runs a session over a profile with these drivers, and writes the text of each reply before the next
 /// command (docs/EMBEDDING.md, "The program").
 ///
-/// It reads the profile whole (at most 1,048,576 bytes) and runs its lines, makes the engine, reads the
-/// session whole (at most 16,777,216 bytes) and runs its lines. A line of the profile that is not taken,
+/// It reads the profile whole (at most 1,048,576 bytes) and runs its lines, makes the engine, under the limits that
+/// the profile sets, reads the session whole (at most 16,777,216 bytes) and runs its lines. A line of the profile that is not taken,
 /// drivers that no engine takes, and a line of the session of another form are written as one line, and end
 /// the run with `Status::BadInput`. The drivers come back in their order; on every exit the engine, where
 /// there was one, has been discarded.
@@ -307,8 +317,8 @@ pub fn session<P: Read, S: Read, W: Write>(
             drivers,
         };
     };
-    let mut registry = Registry::new(alloc);
-    match load_profile(alloc, profile, out, &mut buffer, &mut registry) {
+    let mut loaded = LoadedProfile::new(alloc);
+    match load_profile(alloc, profile, out, &mut buffer, &mut loaded) {
         Ok(true) => {}
         Ok(false) => {
             return SessionEnd {
@@ -323,7 +333,7 @@ pub fn session<P: Read, S: Read, W: Write>(
             };
         }
     }
-    let (ended, drivers) = run_drivers(alloc, session, out, &mut buffer, registry, drivers, budget);
+    let (ended, drivers) = run_drivers(alloc, session, out, &mut buffer, loaded, drivers, budget);
     SessionEnd {
         outcome: outcome_of(ended),
         drivers,

@@ -10,26 +10,26 @@ use Rattle.asremote.proofs.conversation.run_engine.Goals.{in-NoDriver, in-Memory
 pub returns-in-Ok : goal.returns-in-Ok
 returns-in-Ok g c = record {
   done =
-      talks_taken (λ v. (g.dyn-1.0.entry v).1) c.args.budget _ _ _ _ c.args.registry.entries _ _ _ _ _ _ c.in-Ok.ensures.registrations c.in-Ok.ensures.drivers c.requires.listed c.in-Ok.ensures.sound.in_list refl
-      (c.discard.ensures.ended (roles_of c.args.registry.entries)) (record { balanced = c.discard.ensures.balanced; fresh = c.discard.ensures.fresh })
+      talks_taken (λ v. (g.dyn-1.0.entry v).1) c.args.budget _ _ _ _ c.args.profile.registry.entries _ _ _ _ _ _ c.in-Ok.ensures.registrations c.in-Ok.ensures.drivers c.requires.listed c.in-Ok.ensures.sound.in_list refl
+      (c.discard.ensures.ended (roles_of c.args.profile.registry.entries)) (record { balanced = c.discard.ensures.balanced; fresh = c.discard.ensures.fresh })
       _ c.in-Ok.ensures.world c.run_turns-ended.result c.run_turns-ended.ensures.done;
   cut =
-      stops_taken (λ v. (g.dyn-1.0.entry v).1) c.args.budget _ _ _ _ c.args.registry.entries _ _ _ _ _ _ c.in-Ok.ensures.registrations c.in-Ok.ensures.drivers c.requires.listed c.in-Ok.ensures.sound.in_list refl
-      (c.discard.ensures.ended (roles_of c.args.registry.entries)) (record { balanced = c.discard.ensures.balanced; fresh = c.discard.ensures.fresh })
+      stops_taken (λ v. (g.dyn-1.0.entry v).1) c.args.budget _ _ _ _ c.args.profile.registry.entries _ _ _ _ _ _ c.in-Ok.ensures.registrations c.in-Ok.ensures.drivers c.requires.listed c.in-Ok.ensures.sound.in_list refl
+      (c.discard.ensures.ended (roles_of c.args.profile.registry.entries)) (record { balanced = c.discard.ensures.balanced; fresh = c.discard.ensures.fresh })
       _ c.in-Ok.ensures.world c.run_turns-ended.result c.run_turns-ended.ensures.cut;
 }
 
 pub returns-after-why : goal.returns-after-why
 returns-after-why g c = elim c.match-why.branch [
   | in-NoDriver w ↦
-      let no : HaveDrivers c.args.registry.entries (length (members c.args.drivers)) → ⊥ = search rules in
+      let no : HaveDrivers c.args.profile.registry.entries (length (members c.args.drivers)) → ⊥ = search rules in
       let back : c.into_boxes.result.items ≡ members c.args.drivers = search rules in
       record {
         done =
-            rw (w.ended-is, w.writer-is) (talks_refused (λ v. (g.dyn-1.0.entry v).1) c.args.budget _ _ (g.W.Write.contents c.args.writer.now) (g.W.Write.contents w.print_no_driver-ended.new.writer) c.args.registry.entries _ _
+            rw (w.ended-is, w.writer-is) (talks_refused (λ v. (g.dyn-1.0.entry v).1) c.args.budget _ _ (g.W.Write.contents c.args.writer.now) (g.W.Write.contents w.print_no_driver-ended.new.writer) c.args.profile.registry.entries _ _
             NoDriver back (c.requires.listed, no) w.print_no_driver-ended.result w.print_no_driver-ended.ensures.whole w.print_no_driver-ended.ensures.status);
         cut =
-            rw (w.ended-is, w.writer-is) (stops_refused (λ v. (g.dyn-1.0.entry v).1) c.args.budget _ _ (g.W.Write.contents c.args.writer.now) (g.W.Write.contents w.print_no_driver-ended.new.writer) c.args.registry.entries _ _
+            rw (w.ended-is, w.writer-is) (stops_refused (λ v. (g.dyn-1.0.entry v).1) c.args.budget _ _ (g.W.Write.contents c.args.writer.now) (g.W.Write.contents w.print_no_driver-ended.new.writer) c.args.profile.registry.entries _ _
             NoDriver back (c.requires.listed, no) w.print_no_driver-ended.result w.print_no_driver-ended.ensures.front);
       }
   | in-Memory w ↦
@@ -37,7 +37,7 @@ returns-after-why g c = elim c.match-why.branch [
       record {
         done = rw w.ended-is tt;
         cut =
-            rw w.writer-is (stops_untouched (λ v. (g.dyn-1.0.entry v).1) c.args.budget _ _ (g.W.Write.contents c.args.writer.now) (g.W.Write.contents c.args.writer.now) c.args.registry.entries _ _
+            rw w.writer-is (stops_untouched (λ v. (g.dyn-1.0.entry v).1) c.args.budget _ _ (g.W.Write.contents c.args.writer.now) (g.W.Write.contents c.args.writer.now) c.args.profile.registry.entries _ _
             c.match-why.ended back refl);
       }
 ]

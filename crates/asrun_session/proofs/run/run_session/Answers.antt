@@ -5,7 +5,7 @@ use Rattle.asrun_session.proofs.Turns.{session_end, session_skipped, session_bad
 use Rattle.asrun_session.proofs.run.run_session.Goals as goal
 
 pub loop-line-init : goal.loop-line-init
-loop-line-init g c = record { lines = omega arith; sound = c.requires.sound; list = refl; order = refl; done = done_nothing _ _ _ _ _ _ }
+loop-line-init g c = record { lines = omega arith; sound = c.requires.sound; limits = refl; list = refl; order = refl; done = done_nothing _ _ _ _ _ _ }
 
 pub loop-line-preserved-then-is_skipped : goal.loop-line-preserved-then-is_skipped
 loop-line-preserved-then-is_skipped g c =
@@ -14,6 +14,7 @@ loop-line-preserved-then-is_skipped g c =
     record {
       lines = omega (arith, c.in-Some.ensures.shorter);
       sound = c.loop-line.invariant.sound;
+      limits = c.loop-line.invariant.limits;
       list = c.loop-line.invariant.list;
       order = c.loop-line.invariant.order;
       done = rw next at c.loop-line.invariant.done;
@@ -24,17 +25,18 @@ returns-in_err-ok-in-Ok-clause-cut g c =
     let p = err_from_is_err_and c.from_residual.result c.from_residual.ensures.1 in
     let next = session_act c.loop-line.number c.loop-line.ticks c.in-Some.line.now c.shown-line.result.now _ _ (record { action = c.in-Ok.act.action; lines = c.in-Ok.act.lines })
     c.in-Some.ensures.some c.shown-line.ensures.exact (sym c.is_skipped.ensures.exact ∙ c.if-is_skipped.false) c.in-Ok.ensures.exact.0 c.in-Ok.ensures.exact.2 in
-    let half = rw c.loop-line.invariant.list at c.in_err-ok-in-Ok.ensures.cut in
+    let half = rw c.loop-line.invariant.list at c.in_err-ok-in-Ok.ensures.cut.done in
     rw p.1 (done_half _ _ _ _ _ _ _ _ _ _ _ _ _ _ _ _ c.loop-line.invariant.done next half)
 
 pub loop-line-preserved : goal.loop-line-preserved
 loop-line-preserved g c =
     let next = session_act c.loop-line.number c.loop-line.ticks c.in-Some.line.now c.shown-line.result.now _ _ (record { action = c.in-Ok.act.action; lines = c.in-Ok.act.lines })
     c.in-Some.ensures.some c.shown-line.ensures.exact (sym c.is_skipped.ensures.exact ∙ c.if-is_skipped.false) c.in-Ok.ensures.exact.0 c.in-Ok.ensures.exact.2 in
-    let printed = rw c.loop-line.invariant.list at c.in_ok-ok-in-Ok.ensures.done in
+    let printed = rw c.loop-line.invariant.list at c.in_ok-ok-in-Ok.ensures.done.done in
     record {
       lines = omega (arith, c.in-Some.ensures.shorter, c.in-Ok.ensures.room);
       sound = c.in_ok-ok-in-Ok.ensures.sound;
+      limits = c.in_ok-ok-in-Ok.ensures.limits ∙ c.loop-line.invariant.limits;
       list = c.in_ok-ok-in-Ok.ensures.registrations ∙ c.loop-line.invariant.list;
       order = c.in_ok-ok-in-Ok.ensures.order ∙ c.loop-line.invariant.order;
       done = rw (c.in_ok-ok-in-Ok.ensures.budget, c.in-Ok.ensures.exact.1) (done_more _ _ _ _ _ _ _ _ _ _ _ _ _ _ _ _ _ c.loop-line.invariant.done next printed);

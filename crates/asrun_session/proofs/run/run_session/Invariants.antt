@@ -1,5 +1,5 @@
 use Rattle.std.proofs.Common.{◌≡◌, ◌+◌, ◌≤◌, length}
-use Rattle.ang_engine.specs.Engines.{registrations, world_in, drivers_in}
+use Rattle.ang_engine.specs.Engines.{registrations, world_in, drivers_in, limits_in}
 use Rattle.ang_engine.specs.Sound.{IsSound}
 use Rattle.asrun_session.specs.Drivers.{kinds_of}
 use Rattle.asrun_lines.specs.Lines.{lines_of}
@@ -12,6 +12,7 @@ invariant-loop-line g l =
     record {
       lines : l.number + length l.rest ≤ length l.text + 1;
       sound : IsSound (λ v. (g.dyn-1.0.entry v).1) l.engine;
+      limits : limits_in l.engine ≡ limits_in l.initial.engine;
       list : registrations l.engine ≡ registrations l.initial.engine;
       order : kinds_of (drivers_in l.engine) ≡ kinds_of (drivers_in l.initial.engine);
       done : HasDone (λ v. (g.dyn-1.0.entry v).1) (registrations l.initial.engine) (world_in (λ v. (g.dyn-1.0.entry v).1) l.initial.engine) (drivers_in l.initial.engine)

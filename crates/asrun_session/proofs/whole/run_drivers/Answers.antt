@@ -11,13 +11,13 @@ returns-in-Ok-clause-cut g c = rw c.in-Ok.ensures.kept at c.run_engine.ensures.c
 
 pub returns-in-Err-clause-done : goal.returns-in-Err-clause-done
 returns-in-Err-clause-done g c =
-    ends_refused (λ v. (g.dyn-1.0.entry v).1) c.args.registry.entries _ _ (g.W.Write.contents c.args.writer.now)
+    ends_refused (λ v. (g.dyn-1.0.entry v).1) c.args.profile.registry.entries _ _ (g.W.Write.contents c.args.writer.now)
     (g.W.Write.contents c.print_drivers_error.new.writer) (g.R.Read.remaining c.args.reader.now) c.args.budget (NotListed c.in-Err.why)
     c.print_drivers_error.result c.in-Err.ensures.given_back c.in-Err.ensures.why c.print_drivers_error.ensures.whole c.print_drivers_error.ensures.status
 
 pub returns-in-Err-clause-cut : goal.returns-in-Err-clause-cut
 returns-in-Err-clause-cut g c =
-    stops_refused (λ v. (g.dyn-1.0.entry v).1) c.args.registry.entries _ _ (g.W.Write.contents c.args.writer.now)
+    stops_refused (λ v. (g.dyn-1.0.entry v).1) c.args.profile.registry.entries _ _ (g.W.Write.contents c.args.writer.now)
     (g.W.Write.contents c.print_drivers_error.new.writer) (g.R.Read.remaining c.args.reader.now) c.args.budget (NotListed c.in-Err.why)
     c.print_drivers_error.result c.in-Err.ensures.given_back c.in-Err.ensures.why c.print_drivers_error.ensures.front
 
@@ -29,7 +29,7 @@ returns-in-Ok-clause-read g c = rw c.in-Ok.ensures.kept at c.run_engine.ensures.
 
 pub returns-in-Err-clause-read : goal.returns-in-Err-clause-read
 returns-in-Err-clause-read g c =
-    read_refused (λ v. (g.dyn-1.0.entry v).1) c.args.registry.entries c.args.drivers.items _ (NotListed c.in-Err.why) c.print_drivers_error.result
+    read_refused (λ v. (g.dyn-1.0.entry v).1) c.args.profile.registry.entries c.args.drivers.items _ (NotListed c.in-Err.why) c.print_drivers_error.result
     c.in-Err.ensures.why
 
 pub run_engine-requires : goal.run_engine-requires

@@ -11,13 +11,13 @@ use Rattle.asrun_session.proofs.whole.run_engine.Goals.{in-NoDriver, in-Memory}
 pub returns-in-Ok-clause-done : goal.returns-in-Ok-clause-done
 returns-in-Ok-clause-done g c =
     ends_taken (λ v. (g.dyn-1.0.entry v).1) _ _ _ _ _ _ _ c.in-Ok.ensures.registrations c.in-Ok.ensures.drivers c.requires.listed c.in-Ok.ensures.sound.in_list refl
-    (c.discard.ensures.ended (roles_of c.args.registry.entries)) (record { balanced = c.discard.ensures.balanced; fresh = c.discard.ensures.fresh })
+    (c.discard.ensures.ended (roles_of c.args.profile.registry.entries)) (record { balanced = c.discard.ensures.balanced; fresh = c.discard.ensures.fresh })
     _ _ _ _ _ c.run_text-ended.ensures.done
 
 pub returns-in-Ok-clause-cut : goal.returns-in-Ok-clause-cut
 returns-in-Ok-clause-cut g c =
     stops_taken (λ v. (g.dyn-1.0.entry v).1) _ _ _ _ _ _ _ c.in-Ok.ensures.registrations c.in-Ok.ensures.drivers c.requires.listed c.in-Ok.ensures.sound.in_list refl
-    (c.discard.ensures.ended (roles_of c.args.registry.entries)) (record { balanced = c.discard.ensures.balanced; fresh = c.discard.ensures.fresh })
+    (c.discard.ensures.ended (roles_of c.args.profile.registry.entries)) (record { balanced = c.discard.ensures.balanced; fresh = c.discard.ensures.fresh })
     _ _ _ _ _ c.run_text-ended.ensures.cut
 
 pub returns-in-Ok-clause-order : goal.returns-in-Ok-clause-order
@@ -28,15 +28,15 @@ pub returns-in-Ok-clause-fault : goal.returns-in-Ok-clause-fault
 returns-in-Ok-clause-fault g c =
     unread_taken (λ v. (g.dyn-1.0.entry v).1) _ _ _ _ _ _ _ (λ is.
     unused (λ v. (g.dyn-1.0.entry v).1) _ _ _ _ _ _ _ c.in-Ok.ensures.registrations c.in-Ok.ensures.drivers c.requires.listed c.in-Ok.ensures.sound.in_list refl
-    (c.discard.ensures.ended (roles_of c.args.registry.entries)) (record { balanced = c.discard.ensures.balanced; fresh = c.discard.ensures.fresh })
+    (c.discard.ensures.ended (roles_of c.args.profile.registry.entries)) (record { balanced = c.discard.ensures.balanced; fresh = c.discard.ensures.fresh })
     (ap (world_in (λ v. (g.dyn-1.0.entry v).1)) is ∙ c.in-Ok.ensures.world) (ap drivers_in is))
     c.run_text-ended.ensures.fault c.run_text-ended.ensures.unused
 
 pub returns-after-why-clause-read : goal.returns-after-why-clause-read
 returns-after-why-clause-read g c = elim c.match-why.branch [
   | in-NoDriver w ↦
-      let no : HaveDrivers c.args.registry.entries (length (members c.args.drivers)) → ⊥ = search rules in
-      rw w.ended-is (read_refused (λ v. (g.dyn-1.0.entry v).1) c.args.registry.entries (members c.args.drivers) _ NoDriver
+      let no : HaveDrivers c.args.profile.registry.entries (length (members c.args.drivers)) → ⊥ = search rules in
+      rw w.ended-is (read_refused (λ v. (g.dyn-1.0.entry v).1) c.args.profile.registry.entries (members c.args.drivers) _ NoDriver
       w.print_no_driver-ended.result (c.requires.listed, no))
   | in-Memory w ↦ read_memory _ _ w.ended-is
 ]
@@ -44,23 +44,23 @@ returns-after-why-clause-read g c = elim c.match-why.branch [
 pub returns-after-why-clause-done : goal.returns-after-why-clause-done
 returns-after-why-clause-done g c = elim c.match-why.branch [
   | in-NoDriver w ↦
-      let no : HaveDrivers c.args.registry.entries (length (members c.args.drivers)) → ⊥ = search rules in
+      let no : HaveDrivers c.args.profile.registry.entries (length (members c.args.drivers)) → ⊥ = search rules in
       let back : c.into_boxes.result.items ≡ members c.args.drivers = search rules in
-      rw (w.ended-is, w.writer-is) (refused_done (λ v. (g.dyn-1.0.entry v).1) c.args.registry.entries _ _ _ _ _ c.args.budget back
+      rw (w.ended-is, w.writer-is) (refused_done (λ v. (g.dyn-1.0.entry v).1) c.args.profile.registry.entries _ _ _ _ _ c.args.budget back
       w.print_no_driver-ended.result (c.requires.listed, no) w.print_no_driver-ended.ensures.whole w.print_no_driver-ended.ensures.status)
   | in-Memory w ↦
       let back : c.into_boxes.result.items ≡ members c.args.drivers = search rules in
-      memory_done (λ v. (g.dyn-1.0.entry v).1) c.args.registry.entries _ _ _ _ _ c.args.budget back _ w.ended-is
+      memory_done (λ v. (g.dyn-1.0.entry v).1) c.args.profile.registry.entries _ _ _ _ _ c.args.budget back _ w.ended-is
 ]
 
 pub returns-after-why-clause-cut : goal.returns-after-why-clause-cut
 returns-after-why-clause-cut g c = elim c.match-why.branch [
   | in-NoDriver w ↦
-      let no : HaveDrivers c.args.registry.entries (length (members c.args.drivers)) → ⊥ = search rules in
+      let no : HaveDrivers c.args.profile.registry.entries (length (members c.args.drivers)) → ⊥ = search rules in
       let back : c.into_boxes.result.items ≡ members c.args.drivers = search rules in
-      rw (w.ended-is, w.writer-is) (refused_cut (λ v. (g.dyn-1.0.entry v).1) c.args.registry.entries _ _ _ _ _ c.args.budget back
+      rw (w.ended-is, w.writer-is) (refused_cut (λ v. (g.dyn-1.0.entry v).1) c.args.profile.registry.entries _ _ _ _ _ c.args.budget back
       w.print_no_driver-ended.result (c.requires.listed, no) w.print_no_driver-ended.ensures.front)
   | in-Memory w ↦
       let back : c.into_boxes.result.items ≡ members c.args.drivers = search rules in
-      memory_cut (λ v. (g.dyn-1.0.entry v).1) c.args.registry.entries _ _ _ _ _ c.args.budget back _ (search rules)
+      memory_cut (λ v. (g.dyn-1.0.entry v).1) c.args.profile.registry.entries _ _ _ _ _ c.args.budget back _ (search rules)
 ]

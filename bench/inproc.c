@@ -1,0 +1,262 @@
+/* What a host call and a command take in C: with the engine in this process (clients/c), and with asremote over pipes.
+
+       inproc ASREMOTE PROFILE [CALLS [ROUNDS]]
+
+   PROFILE is a path, where the profile of both is written. In each round each row is done CALLS times (20,000), and the
+   time of one counts; prints the median of ROUNDS rounds (25) and the lower tenth, as a table. bench/remote.py
+   --library runs it. */
+#define _GNU_SOURCE
+#include "bustlebrick.h"
+
+#include <stdio.h>
+#include <stdlib.h>
+#include <string.h>
+#include <sys/wait.h>
+#include <time.h>
+#include <unistd.h>
+
+static const char profile[] = "mask 00000001\nfunction 0 0 void put(int64)\nfunction 0 1 int64 sum(int64, int64)\n";
+
+static const char script[] =
+    "section m 4\n"
+    "void run(int64 n) { for (int64 i = 0; i < n; i++) put(i); }\n"
+    "int64 sums(int64 n) { int64 s = 0; for (int64 i = 0; i < n; i++) s = sum(s, i); return s; }\n"
+    "int64 idle(int64 n) { int64 s = 0; for (int64 i = 0; i < n; i++) s += i; return s; }\n"
+    "void nothing() {}\n";
+
+static int64_t total;
+static uint64_t asked;
+
+static double now_us(void)
+{
+    struct timespec now;
+    clock_gettime(CLOCK_MONOTONIC, &now);
+    return (double)now.tv_sec * 1e6 + (double)now.tv_nsec / 1e3;
+}
+
+static void fail(const char *what)
+{
+    fprintf(stderr, "inproc: %s\n", what);
+    exit(1);
+}
+
+/* ---- In this process */
+
+static void host(void *data, const bb_ask *ask, bb_answer *answer)
+{
+    (void)data;
+    asked++;
+    if (ask->function == 0) {
+        total += ask->values[0].as.i64;
+        return;
+    }
+    answer->kind = BB_GAVE;
+    answer->value.kind = BB_INT;
+    answer->value.as.i64 = ask->values[0].as.i64 + ask->values[1].as.i64;
+}
+
+static void here(bb_engine *engine, const char *text)
+{
+    size_t bytes;
+    if (bb_command(engine, text, strlen(text)) != BB_DONE || memcmp(bb_outcome(engine, &bytes), "ok", 2) != 0)
+        fail(text);
+}
+
+static void by_steps(bb_engine *engine, const char *text)
+{
+    bb_state state = bb_begin(engine, text, strlen(text));
+    while (state == BB_ASKS) {
+        bb_answer answer = {BB_VOID, 0, {BB_NULL, {0}}};
+        host(NULL, bb_asked(engine), &answer);
+        state = bb_resume(engine, &answer);
+    }
+    if (state != BB_DONE)
+        fail(text);
+}
+
+/* ---- Over pipes */
+
+static struct {
+    int to, from;
+    pid_t child;
+    char bytes[1 << 16];
+    size_t at, end;
+} pipes;
+
+static void start(const char *program, const char *path)
+{
+    int in[2], out[2];
+    if (pipe(in) || pipe(out))
+        fail("no pipe");
+    pipes.child = fork();
+    if (!pipes.child) {
+        dup2(in[0], 0);
+        dup2(out[1], 1);
+        close(in[1]);
+        close(out[0]);
+        execl(program, program, "--profile", path, "--budget", "2147483647", (char *)NULL);
+        _exit(9);
+    }
+    close(in[0]);
+    close(out[1]);
+    pipes.to = in[1];
+    pipes.from = out[0];
+}
+
+static void put(const char *text, size_t bytes)
+{
+    while (bytes) {
+        ssize_t some = write(pipes.to, text, bytes);
+        if (some <= 0)
+            fail("asremote takes nothing");
+        text += some;
+        bytes -= (size_t)some;
+    }
+}
+
+/* The next line, with its LF; it holds until the next call. */
+static const char *line(void)
+{
+    char *end;
+    while (!(end = memchr(pipes.bytes + pipes.at, '\n', pipes.end - pipes.at))) {
+        memmove(pipes.bytes, pipes.bytes + pipes.at, pipes.end - pipes.at);
+        pipes.end -= pipes.at;
+        pipes.at = 0;
+        ssize_t some = read(pipes.from, pipes.bytes + pipes.end, sizeof pipes.bytes - pipes.end);
+        if (some <= 0)
+            fail("asremote ended");
+        pipes.end += (size_t)some;
+    }
+    const char *begin = pipes.bytes + pipes.at;
+    pipes.at = (size_t)(end + 1 - pipes.bytes);
+    return begin;
+}
+
+/* `ask 0 call F - (V,V)` */
+static void answer(const char *ask)
+{
+    char text[32], *at = strchr(ask, '(') + 1;
+    long long one = strtoll(at, &at, 10);
+    asked++;
+    if (ask[11] == '0') {
+        total += one;
+        put("void\n", 5);
+    } else {
+        put(text, (size_t)snprintf(text, sizeof text, "%lld\n", one + strtoll(at + 1, NULL, 10)));
+    }
+}
+
+static void there(const char *text)
+{
+    put(text, strlen(text));
+    for (const char *next = line(); memcmp(next, "done\n", 5) != 0; next = line())
+        if (memcmp(next, "ask ", 4) == 0)
+            answer(next);
+        else if (memcmp(next, "refused", 7) == 0 || memcmp(next, "fault", 5) == 0)
+            fail(text);
+}
+
+/* ---- Rows */
+
+enum { CALLBACK, STEPS, CALLBACK_SUM, COMMAND, TURN, REMOTE, REMOTE_SUM, REMOTE_COMMAND, REMOTE_TURN, ROWS };
+
+static const char *const names[ROWS] = {
+    "in process, `void put(int64)` by a callback", "in process, the same by steps",
+    "in process, `int64 sum(int64, int64)`",       "in process, a command",
+    "in process, a turn of an empty loop",         "asremote, `void put(int64)`",
+    "asremote, `int64 sum(int64, int64)`",         "asremote, a command",
+    "asremote, a turn of an empty loop",
+};
+
+static void do_row(int row, bb_engine *engine, long calls)
+{
+    static const char nothing[] = "call m () void nothing()\n";
+    char run[64], sums[64], idle[64];
+    snprintf(run, sizeof run, "call m (%ld) void run(int64)\n", calls);
+    snprintf(sums, sizeof sums, "call m (%ld) int64 sums(int64)\n", calls);
+    snprintf(idle, sizeof idle, "call m (%ld) int64 idle(int64)\n", calls);
+    switch (row) {
+    case CALLBACK:
+        here(engine, run);
+        break;
+    case STEPS:
+        by_steps(engine, run);
+        break;
+    case CALLBACK_SUM:
+        here(engine, sums);
+        break;
+    case COMMAND:
+        for (long at = 0; at < calls; at++)
+            here(engine, nothing);
+        break;
+    case TURN:
+        here(engine, idle);
+        break;
+    case REMOTE:
+        there(run);
+        break;
+    case REMOTE_SUM:
+        there(sums);
+        break;
+    case REMOTE_COMMAND:
+        for (long at = 0; at < calls; at++)
+            there(nothing);
+        break;
+    case REMOTE_TURN:
+        there(idle);
+        break;
+    }
+}
+
+static int compare(const void *one, const void *other)
+{
+    double a = *(const double *)one, b = *(const double *)other;
+    return (a > b) - (a < b);
+}
+
+static bb_engine *prepared(const char *program, const char *path)
+{
+    bb_options options = {.profile = profile, .profile_bytes = sizeof profile - 1, .budget = 2147483647, .host = host};
+    bb_engine *engine = bb_new(&options);
+    FILE *file = fopen(path, "w");
+    if (!engine || !file)
+        fail("no engine, or no profile");
+    fputs(profile, file);
+    fclose(file);
+    start(program, path);
+    line(); /* the first `done` */
+    static const char *const commands[] = {"module m 00000001\n", script, "build m\n"};
+    for (int at = 0; at < 3; at++) {
+        here(engine, commands[at]);
+        there(commands[at]);
+    }
+    return engine;
+}
+
+int main(int count, char **words)
+{
+    enum { MOST_ROUNDS = 1000 };
+    static double times[ROWS][MOST_ROUNDS];
+    long calls = count > 3 ? atol(words[3]) : 20000, rounds = count > 4 ? atol(words[4]) : 25;
+    if (count < 3 || calls < 1 || rounds < 1 || rounds > MOST_ROUNDS)
+        fail("ASREMOTE PROFILE [CALLS [ROUNDS]]");
+    bb_engine *engine = prepared(words[1], words[2]);
+    for (long round = 0; round < rounds; round++)
+        for (int row = 0; row < ROWS; row++) {
+            double before = now_us();
+            do_row(row, engine, calls);
+            times[row][round] = (now_us() - before) / (double)calls;
+        }
+    if (asked != (uint64_t)(5 * calls * rounds))
+        fail("asks are missing");
+    printf("%ld calls in each of %ld rounds, in microseconds, with a host in C (%s)\n\n", calls, rounds, bb_version());
+    printf("| | median | lower tenth |\n|---|---|---|\n");
+    for (int row = 0; row < ROWS; row++) {
+        qsort(times[row], (size_t)rounds, sizeof(double), compare);
+        printf("| %s | %.3f | %.3f |\n", names[row], times[row][rounds / 2], times[row][rounds / 10]);
+    }
+    bb_free(engine);
+    close(pipes.to);
+    waitpid(pipes.child, NULL, 0);
+    return 0;
+}

@@ -1,0 +1,106 @@
+/* What the files of the library share. None of these names leaves it (build.sh). */
+#ifndef BB_ENGINE_H
+#define BB_ENGINE_H
+
+#include "bustlebrick.h"
+
+#include <pthread.h>
+#include <stdatomic.h>
+
+enum {
+    MOST_ARGUMENTS = 32,
+    MOST_PIECES = 5,
+    MOST_ANSWER = 64,       /* bytes of an answer's line */
+    MOST_COMMAND = 16777216 /* bytes of a command */
+};
+
+/* ---- Two stacks in one thread (stack.c) */
+
+struct bb_stack {
+    void *engine, *host; /* the stack pointers of both sides, of which the one that does not run holds */
+    char *mapping;       /* the guard, and above it the engine's stack */
+    size_t bytes;        /* without the guard */
+    void *fake;          /* for the address sanitizer alone, as are the next two */
+    const void *host_bottom;
+    size_t host_bytes;
+};
+
+/* Maps a stack of so many bytes, on which `run` is begun by the first bb_to_engine. It never returns. False, with
+   errno, where it can't be mapped. */
+bool bb_map_stack(struct bb_stack *stack, size_t bytes, void (*run)(void));
+void bb_unmap_stack(struct bb_stack *stack);
+size_t bb_stack_in_memory(const struct bb_stack *stack);
+
+/* Goes over to the other side, and returns when it comes back. */
+void bb_to_engine(struct bb_stack *stack);
+void bb_to_host(struct bb_stack *stack);
+
+/* Called once by `run`, first of all. */
+void bb_arrived(struct bb_stack *stack);
+
+/* ---- Lines (lines.c) */
+
+/* The ask that a line spells, with its LF; the values are put where `values` is. False where it spells none. */
+bool bb_read_ask(const char *line, size_t bytes, bb_ask *ask, bb_value values[MOST_ARGUMENTS]);
+
+/* Writes the line of an answer, with its LF, and gives its bytes. */
+size_t bb_write_answer(char line[MOST_ANSWER], const bb_answer *answer);
+
+/* Whether a text is one command, with or without its last LF. */
+bool bb_is_command(const char *text, size_t bytes);
+
+/* How many lines a text has. */
+size_t bb_count_lines(const char *text, size_t bytes);
+
+/* ---- An engine, and what its program calls of the system (program.c) */
+
+struct piece {
+    const char *at;
+    size_t left;
+};
+
+struct bb_engine {
+    struct bb_stack stack;
+    bb_state state; /* BB_BUSY while its program runs */
+    int status;
+    bool in_host; /* its callback runs */
+    pthread_t thread;
+    bb_host host;
+    void *data;
+    uint32_t drivers;
+    uint64_t budget;
+
+    struct piece profile;
+    struct piece input[MOST_PIECES]; /* what is left of a command, or of an answer */
+    size_t input_at, input_count;
+    bool input_ended;
+
+    char *output; /* what the program wrote since the command began, but for the asks that were read */
+    size_t output_bytes, output_room;
+    int error; /* the program's errno */
+
+    bb_ask ask;
+    bb_value values[MOST_ARGUMENTS];
+    char answer[MOST_ANSWER];
+
+    size_t memory_used;
+    size_t memory_most; /* the host's limit */
+    size_t memory_now;  /* that of the command */
+    size_t growths;     /* of the heap, since the command began */
+    atomic_bool cancelled;
+#ifdef BB_TRIAL
+    size_t refuse_at; /* the growth of a command that is refused, from 1; 0 for none */
+#endif
+};
+
+/* Lets the program run until it waits for the host, or has ended; `state` says which. */
+void bb_run(bb_engine *engine);
+
+/* The function that the engine's stack begins with. */
+void bb_begin_program(void);
+
+/* Takes the last line of the output away where it is an ask or `done`, and says which: BB_ASKS, BB_DONE, or BB_ENDED
+   for neither. */
+bb_state bb_take_last_line(bb_engine *engine);
+
+#endif

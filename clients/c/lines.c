@@ -1,0 +1,241 @@
+/* The lines of a conversation: asks, answers, and the form of commands (docs/FORMATS.md). */
+#include "engine.h"
+
+#include <string.h>
+#include <strings.h>
+
+/* ---- Reading asks */
+
+/* What is left to read of a line. */
+struct reader {
+    const char *at, *end;
+};
+
+/* Goes past a text, if it is next. */
+static bool take(struct reader *reader, const char *text)
+{
+    size_t bytes = strlen(text);
+    if ((size_t)(reader->end - reader->at) < bytes || memcmp(reader->at, text, bytes) != 0)
+        return false;
+    reader->at += bytes;
+    return true;
+}
+
+static bool is_digit(char byte)
+{
+    return '0' <= byte && byte <= '9';
+}
+
+static bool take_number(struct reader *reader, uint64_t *number)
+{
+    const char *from = reader->at;
+    *number = 0;
+    for (; reader->at < reader->end && is_digit(*reader->at); reader->at++)
+        *number = *number * 10 + (uint64_t)(*reader->at - '0');
+    return reader->at > from;
+}
+
+static bool take_small_number(struct reader *reader, uint32_t *number)
+{
+    uint64_t whole;
+    bool is_one = take_number(reader, &whole) && whole <= UINT32_MAX;
+    *number = (uint32_t)whole;
+    return is_one;
+}
+
+/* `7`, `-7`, `7u` */
+static bool take_integer(struct reader *reader, bb_value *value)
+{
+    bool is_negative = take(reader, "-");
+    uint64_t number;
+    if (!take_number(reader, &number))
+        return false;
+    value->kind = !is_negative && take(reader, "u") ? BB_UINT : BB_INT;
+    value->as.u64 = is_negative ? 0 - number : number;
+    return true;
+}
+
+static bool take_value(struct reader *reader, bb_value *value)
+{
+    value->as.u64 = 0;
+    if (take(reader, "#")) {
+        value->kind = BB_KEY;
+        return take_number(reader, &value->as.key);
+    }
+    if (take(reader, "null")) {
+        value->kind = BB_NULL;
+        return true;
+    }
+    value->kind = BB_BOOL;
+    value->as.truth = take(reader, "true");
+    if (value->as.truth || take(reader, "false"))
+        return true;
+    return take_integer(reader, value);
+}
+
+/* `(V,V)` */
+static bool take_values(struct reader *reader, bb_ask *ask, bb_value *values)
+{
+    ask->count = 0;
+    ask->values = values;
+    if (!take(reader, "("))
+        return false;
+    if (take(reader, ")"))
+        return true;
+    do {
+        if (ask->count == MOST_ARGUMENTS || !take_value(reader, &values[ask->count]))
+            return false;
+        ask->count++;
+    } while (take(reader, ","));
+    return take(reader, ")");
+}
+
+static bool take_ask_kind(struct reader *reader, bb_ask_kind *kind)
+{
+    static const char *const words[] = {" make ", " call ", " read ", " write "};
+    for (int at = 0; at < 4; at++)
+        if (take(reader, words[at])) {
+            *kind = (bb_ask_kind)at;
+            return true;
+        }
+    return false;
+}
+
+/* `#7`, or `-` for none */
+static bool take_object(struct reader *reader, bb_ask *ask)
+{
+    ask->has_object = take(reader, "#");
+    ask->object = 0;
+    return ask->has_object ? take_number(reader, &ask->object) : take(reader, "-");
+}
+
+/* `ask DRIVER KIND F OBJECT (V,V)` */
+bool bb_read_ask(const char *line, size_t bytes, bb_ask *ask, bb_value values[MOST_ARGUMENTS])
+{
+    struct reader reader = {line, line + bytes};
+    return take(&reader, "ask ") && take_small_number(&reader, &ask->driver) && take_ask_kind(&reader, &ask->kind) &&
+           take_small_number(&reader, &ask->function) && take(&reader, " ") && take_object(&reader, ask) &&
+           take(&reader, " ") && take_values(&reader, ask, values) && take(&reader, "\n") && reader.at == reader.end;
+}
+
+/* ---- Writing answers, each of which has room: the longest, a key, has 28 bytes */
+
+static char *put_text(char *to, const char *text)
+{
+    size_t bytes = strlen(text);
+    memcpy(to, text, bytes);
+    return to + bytes;
+}
+
+static char *put_number(char *to, uint64_t number)
+{
+    char digits[20];
+    int count = 0;
+    do
+        digits[count++] = (char)('0' + number % 10);
+    while (number /= 10);
+    while (count)
+        *to++ = digits[--count];
+    return to;
+}
+
+static char *put_signed(char *to, int64_t number)
+{
+    if (number >= 0)
+        return put_number(to, (uint64_t)number);
+    *to++ = '-';
+    return put_number(to, 0 - (uint64_t)number);
+}
+
+/* A kind that is none becomes a line that is no answer. */
+static char *put_value(char *to, const bb_value *value)
+{
+    switch (value->kind) {
+    case BB_INT:
+        return put_signed(to, value->as.i64);
+    case BB_UINT:
+        return put_text(put_number(to, value->as.u64), "u");
+    case BB_BOOL:
+        return put_text(to, value->as.truth ? "true" : "false");
+    case BB_KEY:
+        return put_number(put_text(to, "#"), value->as.key);
+    case BB_NULL:
+        return put_text(to, "null");
+    }
+    return put_text(to, "?");
+}
+
+static char *put_answer(char *to, const bb_answer *answer)
+{
+    switch (answer->kind) {
+    case BB_VOID:
+        return put_text(to, "void");
+    case BB_GAVE:
+        return put_value(to, &answer->value);
+    case BB_MADE:
+        return put_number(put_text(to, "made #"), answer->value.as.key);
+    case BB_NOTHING:
+        return put_text(to, "nothing");
+    case BB_FAULT:
+        return put_number(put_text(to, "fault "), answer->fault);
+    case BB_MEMORY:
+        return put_text(to, "memory");
+    }
+    return put_text(to, "?");
+}
+
+size_t bb_write_answer(char line[MOST_ANSWER], const bb_answer *answer)
+{
+    return (size_t)(put_text(put_answer(line, answer), "\n") - line);
+}
+
+/* ---- The form of commands */
+
+size_t bb_count_lines(const char *text, size_t bytes)
+{
+    size_t count = 0;
+    const char *end = text + bytes;
+    while (text < end) {
+        const char *line_end = memchr(text, '\n', (size_t)(end - text));
+        text = line_end ? line_end + 1 : end;
+        count++;
+    }
+    return count;
+}
+
+/* Whether the first letters of a line are `section`, in either case: only a head of a section may have these, since
+   what follows another one could be the text of a script (docs/FORMATS.md, "The conversation of asremote"). */
+static bool is_like_head(const char *line, size_t bytes)
+{
+    size_t at = 0;
+    while (at < bytes && !('a' <= (line[at] | 0x20) && (line[at] | 0x20) <= 'z'))
+        at++;
+    return bytes - at >= 7 && strncasecmp(line + at, "section", 7) == 0;
+}
+
+/* `section NAME N`: how many lines follow it. */
+static bool is_head(const char *line, size_t bytes, uint64_t *lines)
+{
+    struct reader reader = {line, line + bytes};
+    if (!take(&reader, "section "))
+        return false;
+    const char *space = memchr(reader.at, ' ', (size_t)(reader.end - reader.at));
+    if (!space || space == reader.at)
+        return false;
+    reader.at = space + 1;
+    return reader.end - reader.at <= 10 && take_number(&reader, lines) && reader.at == reader.end;
+}
+
+bool bb_is_command(const char *text, size_t bytes)
+{
+    const char *lf = bytes ? memchr(text, '\n', bytes) : NULL;
+    size_t line = lf ? (size_t)(lf - text) : bytes, first = lf ? line + 1 : bytes;
+    size_t whole = bytes + (!bytes || text[bytes - 1] != '\n');
+    uint64_t lines = 0;
+    if (line && text[line - 1] == '\r')
+        line--;
+    bool is_comment = line && text[0] == '#';
+    if (!is_comment && is_like_head(text, line) && !is_head(text, line, &lines))
+        return false;
+    return whole <= MOST_COMMAND && bb_count_lines(text + first, bytes - first) == lines;
+}

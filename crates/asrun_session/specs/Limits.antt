@@ -1,0 +1,47 @@
+-- The limits that a profile sets, and what is told of what is held (docs/FORMATS.md, "Profile" and
+-- "The conversation of asremote").
+use Rattle.std.specs.Prelude.{ℕ, List, [], ◌∷◌, ◌++◌, Option, Some, None, codes, decimal, if◌then◌else◌}
+use Rattle.ang_heap.specs.declared.limits.Limits.{Limits}
+use Rattle.ang_heap.specs.declared.limits.Held.{Held}
+use Rattle.asrun_lines.specs.Lines.{shown_of, is_skipped}
+use Rattle.asrun_lines.specs.ProfileLines.{Entry, DefaultMask, Limit, HostType, Factory, Method, Property, Function, Global, Enumeration, EnumValue, Blank, entry_of}
+use Rattle.asrun_lines.specs.declared.limits.LimitKind.{LimitKind}
+use Rattle.asrun_lines.specs.declared.limits.LimitKind.TheVariants.{Events, Slots, Objects}
+use Rattle.asrun_lines.specs.declared.limits.LimitLine.{LimitLine}
+
+abbrev pub limit_put : Limits → ℕ → LimitKind → Limits
+limit_put l most Events = record l { events = most }
+limit_put l most Slots = record l { slots = most }
+limit_put l most Objects = record l { objects = most }
+
+-- one of the limits is another
+abbrev pub with_limit : Limits → LimitLine → Limits
+with_limit l limit = limit_put l limit.most limit.kind
+
+-- the limits after a line
+abbrev pub entry_limits : Limits → Option Entry → Limits
+entry_limits l None = l
+entry_limits l (Some (DefaultMask m)) = l
+entry_limits l (Some (Limit limit)) = with_limit l limit
+entry_limits l (Some (HostType name driver)) = l
+entry_limits l (Some (Factory t f decl)) = l
+entry_limits l (Some (Method t f decl)) = l
+entry_limits l (Some (Property t f decl)) = l
+entry_limits l (Some (Function driver f decl)) = l
+entry_limits l (Some (Global driver f decl)) = l
+entry_limits l (Some (Enumeration name)) = l
+entry_limits l (Some (EnumValue enumeration name value)) = l
+entry_limits l (Some Blank) = l
+
+abbrev pub line_limits : Limits → List ℕ → Limits
+line_limits l line = if is_skipped line then l else entry_limits l (entry_of line)
+
+-- the limits after some lines, each of which may set one: the last of a kind counts
+unfoldable pub limits_of : Limits → List (List ℕ) → Limits
+limits_of l [] = l
+limits_of l (line ∷ lines) = limits_of (line_limits l (shown_of line)) lines
+
+-- `slots N` and `objects N`, and then `ok`
+unfoldable pub held_text : Held → List ℕ
+held_text h =
+    codes "slots " ++ decimal h.slots ++ codes "\nobjects " ++ decimal h.objects ++ codes "\nok\n"
