@@ -9,19 +9,19 @@ ghost use Rattle.std.specs.Prelude.{◌≡◌};
 ghost use Rattle.bench_build.specs.Speed.{speed};
 
 use ang_check::check;
-use ang_engine_build::{Program, build_sections};
+use ang_engine_build::{NoProgram, Program, build_sections};
 use ang_kinds::{List, Mask};
 use ang_lex::lex;
 use ang_names::declare;
 use ang_parse::parse;
-use ang_registry::{RegError, Registry};
+use ang_registry::{Registry, View};
 use ang_tree::Script;
-use std::alloc::{AllocError, Global};
-use std::env;
+use std::alloc::Global;
 use std::fs::File;
 use std::io::{self, Read};
 use std::process::ExitCode;
 use std::time::Instant;
+use std::{env, slice};
 
 const SMALL: &str = "void first() { put(1); put(2 - 3); }\nvoid second() {}\n";
 
@@ -46,59 +46,92 @@ const STAGES: [(Stage, &str); 4] = [
     (Stage::Built, "built"),
 ];
 
-/// What the scripts see: `void put(int)`.
-fn registry(alloc: Global) -> Result<Registry, RegError> {
-    let mut registry = Registry::new(alloc);
-    let _ = registry.function(0, 0, b"void put(int)")?;
-    Ok(registry)
+/// Registers what the scripts see: `void put(int)`.
+fn is_put_registered(registry: &mut Registry) -> bool {
+    registry.function(0, 0, b"void put(int)").is_ok()
 }
 
-/// The program of one section, or nothing where it is refused.
-fn built(alloc: Global, registry: &Registry, text: &[u8]) -> Option<Program> {
-    let section = Vec::from_slice(alloc, text).ok()?;
-    let sections = [List::from_vec(section)];
-    let Ok(view) = registry.seen(alloc, MASK) else {
+fn functions_of(built: Result<Program, NoProgram>) -> Option<usize> {
+    match built {
+        Ok(program) => Some(program.names.functions().len()),
+        Err(_) => None,
+    }
+}
+
+/// Builds sections. The number of their functions, or nothing where they are refused.
+fn functions_built(alloc: Global, registry: &Registry, sections: &[List<u8>]) -> Option<usize> {
+    if sections.len() != 1 {
         return None;
-    };
-    build_sections(alloc, registry, MASK, &view, &sections).ok()
+    }
+    match registry.seen(alloc, MASK) {
+        Ok(view) => functions_of(build_sections(alloc, registry, MASK, &view, sections)),
+        Err(_) => None,
+    }
+}
+
+/// Builds one section. The number of its functions, or nothing where it is refused.
+fn built(alloc: Global, registry: &Registry, text: &[u8]) -> Option<usize> {
+    let section = List::from_vec(Vec::from_slice(alloc, text).ok()?);
+    functions_built(alloc, registry, slice::from_ref(&section))
+}
+
+/// The tree of a section, and how many tokens it has; nothing where it is refused.
+fn parsed(alloc: Global, text: &[u8]) -> Option<(Script, usize)> {
+    let tokens = lex(alloc, text, 0).ok()?;
+    match parse(alloc, text, tokens.as_slice()) {
+        Ok(script) => Some((script, tokens.len())),
+        Err(_) => None,
+    }
 }
 
 /// How many tokens and declarations a section has, or nothing where it is refused.
 fn counts(alloc: Global, text: &[u8]) -> Option<(usize, usize)> {
-    let tokens = lex(alloc, text, 0).ok()?;
-    let script = parse(alloc, text, tokens.as_slice()).ok()?;
-    Some((tokens.len(), script.declarations.len()))
-}
-
-/// Declares what scripts declare. Nothing where a declaration is refused.
-fn declared(alloc: Global, registry: &Registry, scripts: &[Script]) -> Option<()> {
-    let view = registry.seen(alloc, MASK).ok()?;
-    let _ = declare(alloc, &view, scripts).ok()?;
-    Some(())
-}
-
-/// Declares what scripts declare, and checks their bodies. Nothing where something is refused.
-fn checked(alloc: Global, registry: &Registry, scripts: &[Script]) -> Option<()> {
-    let view = registry.seen(alloc, MASK).ok()?;
-    let Ok(names) = declare(alloc, &view, scripts) else {
-        return None;
-    };
-    let _ = check(alloc, &view, &names, scripts).ok()?;
-    Some(())
-}
-
-/// Goes through a section up to a stage. Nothing where it is refused.
-fn turn(alloc: Global, registry: &Registry, text: &[u8], stage: Stage) -> Option<()> {
-    if stage == Stage::Built {
-        let _ = built(alloc, registry, text)?;
-        return Some(());
+    match parsed(alloc, text) {
+        Some((script, tokens)) => Some((tokens, script.declarations.len())),
+        None => None,
     }
-    let tokens = lex(alloc, text, 0).ok()?;
-    let scripts = [parse(alloc, text, tokens.as_slice()).ok()?];
+}
+
+/// Whether what scripts declare is accepted.
+fn is_declared(alloc: Global, view: &View, scripts: &[Script]) -> bool {
+    declare(alloc, view, scripts).is_ok()
+}
+
+/// Whether what scripts declare is accepted, and their bodies too.
+fn is_checked(alloc: Global, view: &View, scripts: &[Script]) -> bool {
+    match declare(alloc, view, scripts) {
+        Ok(names) => check(alloc, view, &names, scripts).is_ok(),
+        Err(_) => false,
+    }
+}
+
+/// Goes from a tree up to a stage. Whether nothing is refused.
+fn is_accepted(alloc: Global, registry: &Registry, scripts: &[Script], stage: Stage) -> bool {
+    match registry.seen(alloc, MASK) {
+        Ok(view) => match stage {
+            Stage::Parsed => true,
+            Stage::Declared => is_declared(alloc, &view, scripts),
+            Stage::Checked | Stage::Built => is_checked(alloc, &view, scripts),
+        },
+        Err(_) => false,
+    }
+}
+
+/// Goes through a section up to a stage before the last. Whether nothing is refused.
+fn is_read(alloc: Global, registry: &Registry, text: &[u8], stage: Stage) -> bool {
+    match parsed(alloc, text) {
+        Some((script, _)) => {
+            stage == Stage::Parsed || is_accepted(alloc, registry, slice::from_ref(&script), stage)
+        }
+        None => false,
+    }
+}
+
+/// Goes through a section up to a stage. Whether nothing is refused.
+fn turn(alloc: Global, registry: &Registry, text: &[u8], stage: Stage) -> bool {
     match stage {
-        Stage::Parsed => Some(()),
-        Stage::Declared => declared(alloc, registry, &scripts),
-        Stage::Checked | Stage::Built => checked(alloc, registry, &scripts),
+        Stage::Built => built(alloc, registry, text).is_some(),
+        _ => is_read(alloc, registry, text, stage),
     }
 }
 
@@ -123,7 +156,7 @@ fn time_of(
 ) -> io::Result<Option<u128>> {
     let start = Instant::now(rt)?;
     for _ in 0..turns {
-        if turn(rt.alloc(), registry, text, stage).is_none() {
+        if !turn(rt.alloc(), registry, text, stage) {
             return Ok(None);
         }
     }
@@ -155,10 +188,9 @@ fn refuse(rt: &HostRuntime, name: &str) -> io::Result<u8> {
 
 /// Prints what a section builds to.
 fn print_built(rt: &HostRuntime, registry: &Registry, name: &str, text: &[u8]) -> io::Result<u8> {
-    let Some(program) = built(rt.alloc(), registry, text) else {
+    let Some(functions) = built(rt.alloc(), registry, text) else {
         return refuse(rt, name);
     };
-    let functions = program.names.functions().len();
     println!(rt; "{name}: {} bytes, {functions} functions", text.len())?;
     Ok(0)
 }
@@ -202,6 +234,27 @@ fn measure_builds(
     Ok(0)
 }
 
+/// Measures a section: its parsing, and builds where there are to be any.
+fn measure_text(
+    rt: &HostRuntime,
+    registry: &Registry,
+    name: &str,
+    text: &[u8],
+    turns: u32,
+    builds: u32,
+) -> io::Result<u8> {
+    let status = measure_parsing(rt, registry, name, text, turns)?;
+    if status != 0 || builds == 0 {
+        return Ok(status);
+    }
+    measure_builds(rt, registry, name, text, builds)
+}
+
+fn read_file(rt: &HostRuntime, path: &str, text: &mut Vec<u8>) -> io::Result<()> {
+    let _ = File::open(rt, path)?.read_to_end(text)?;
+    Ok(())
+}
+
 /// Measures the section of a file.
 fn measure_file(
     rt: &HostRuntime,
@@ -217,12 +270,8 @@ fn measure_file(
         return show_use(rt);
     };
     let mut text = Vec::new(rt.alloc());
-    File::open(rt, path)?.read_to_end(&mut text)?;
-    let status = measure_parsing(rt, registry, path, text.as_slice(), turns)?;
-    if status != 0 || builds == 0 {
-        return Ok(status);
-    }
-    measure_builds(rt, registry, path, text.as_slice(), builds)
+    read_file(rt, path, &mut text)?;
+    measure_text(rt, registry, path, text.as_slice(), turns, builds)
 }
 
 fn show_use(rt: &HostRuntime) -> io::Result<u8> {
@@ -230,18 +279,27 @@ fn show_use(rt: &HostRuntime) -> io::Result<u8> {
     Ok(2)
 }
 
-fn run(rt: &HostRuntime) -> io::Result<u8> {
-    let alloc = rt.alloc();
-    let Ok(registry) = registry(alloc) else {
-        return Ok(3);
-    };
-    let words: Vec<String> = env::args(rt)?.collect(alloc)?;
-    match words.as_slice() {
-        [_] => print_built(rt, &registry, "small", SMALL.as_bytes()),
-        [_, path, turns] => measure_file(rt, &registry, path, turns, None),
-        [_, path, turns, builds] => measure_file(rt, &registry, path, turns, Some(builds.as_str())),
+fn obey(rt: &HostRuntime, registry: &Registry, words: &[String]) -> io::Result<u8> {
+    match words {
+        [_] => print_built(rt, registry, "small", SMALL.as_bytes()),
+        [_, path, turns] => measure_file(rt, registry, path, turns, None),
+        [_, path, turns, builds] => measure_file(rt, registry, path, turns, Some(builds.as_str())),
         _ => show_use(rt),
     }
+}
+
+fn run_words(rt: &HostRuntime, words: &[String]) -> io::Result<u8> {
+    let mut registry = Registry::new(rt.alloc());
+    if is_put_registered(&mut registry) {
+        obey(rt, &registry, words)
+    } else {
+        Ok(3)
+    }
+}
+
+fn run(rt: &HostRuntime) -> io::Result<u8> {
+    let words: Vec<String> = env::args(rt)?.collect(rt.alloc())?;
+    run_words(rt, words.as_slice())
 }
 
 fn main(rt: HostRuntime) -> ExitCode {
