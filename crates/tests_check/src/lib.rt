@@ -7,12 +7,14 @@ mod denials;
 #[cfg(test)]
 mod enumerations;
 #[cfg(test)]
-mod errors;
+mod host;
 #[cfg(test)]
 mod limits;
 #[cfg(test)]
 mod objects;
 #[cfg(test)]
 mod operators;
+#[cfg(test)]
+mod outcomes;
 #[cfg(test)]
 mod rows;

@@ -1,116 +1,120 @@
-//! How many functions, globals and parameters a module's scripts may have.
+//! How many functions, globals, parameters and locals scripts may have.
 
-use crate::errors::{Want, is_only_error, scripts_of};
-use ang_kinds::{ErrorKind, Mask, Unbuilt};
-use ang_names::{Names, declare};
-use ang_registry::Registry;
-use ang_tree::Script;
+use crate::host::view_of;
+use crate::outcomes::Outcome::{Built, Declared, Refused, Undeclared};
+use crate::outcomes::{Outcome, becomes};
+use ang_kinds::ErrorKind;
+use ang_registry::View;
 use std::alloc::{AllocError, Global};
 
-/// What is declared by scripts of which any module sees an empty list.
-fn declared(alloc: Global, scripts: &[Script]) -> Result<Names, Unbuilt> {
-    match Registry::new(alloc).seen(alloc, Mask(1)) {
-        Ok(view) => declare(alloc, &view, scripts),
-        Err(_) => Err(Unbuilt::Memory),
-    }
+/// A text that repeats a part with a number in it.
+#[derive(Clone, Copy)]
+struct Repeated {
+    first: &'static str,
+    before: &'static str,
+    from: usize,
+    after: &'static str,
+    last: &'static str,
 }
 
-/// Whether a section is declared, which has to be read.
-fn is_declared(alloc: Global, text: &str) -> bool {
-    match scripts_of(alloc, text.as_bytes()) {
-        Some(scripts) => declared(alloc, &scripts).is_ok(),
-        None => false,
-    }
+const FUNCTIONS: &Repeated = &Repeated {
+    first: "",
+    before: "void f",
+    from: 0,
+    after: "(){}\n",
+    last: "",
+};
+
+const GLOBALS: &Repeated = &Repeated {
+    first: "",
+    before: "int g",
+    from: 0,
+    after: ";\n",
+    last: "",
+};
+
+const PARAMETERS: &Repeated = &Repeated {
+    first: "void f(int p",
+    before: ", int p",
+    from: 1,
+    after: "",
+    last: ") {}",
+};
+
+const LOCALS: &Repeated = &Repeated {
+    first: "void m(int p) {\n",
+    before: "int a",
+    from: 0,
+    after: ";\n",
+    last: "}",
+};
+
+fn put_part(
+    alloc: Global,
+    out: &mut String,
+    text: &Repeated,
+    number: usize,
+) -> Result<(), AllocError> {
+    let (before, after) = (text.before, text.after);
+    let part = format!(in alloc; "{before}{number}{after}")?;
+    out.push_str(part.as_str())
 }
 
-fn is_want(declared: Result<Names, Unbuilt>, want: Want) -> bool {
-    match declared {
-        Err(Unbuilt::Errors(errors)) => is_only_error(errors.as_slice(), want),
-        _ => false,
+fn put(alloc: Global, out: &mut String, text: &Repeated, to: usize) -> Result<(), AllocError> {
+    out.push_str(text.first)?;
+    for number in text.from..to {
+        put_part(alloc, out, text, number)?;
     }
+    out.push_str(text.last)
 }
 
-/// Whether that is the only error of a section, which has to be read.
-fn is_refused(alloc: Global, text: &str, want: Want) -> bool {
-    match scripts_of(alloc, text.as_bytes()) {
-        Some(scripts) => is_want(declared(alloc, &scripts), want),
-        None => false,
-    }
+fn holds(alloc: Global, view: &View, limit: &Limit) -> bool {
+    let (text, to, outcome) = limit;
+    let mut out = String::new(alloc);
+    put(alloc, &mut out, text, *to).is_ok() && becomes(alloc, view, out.as_str(), outcome)
 }
 
-/// That number of functions, each on a line of its own.
-fn functions(alloc: Global, times: usize) -> Result<String, AllocError> {
-    let mut text = String::new(alloc);
-    for number in 0..times {
-        let line = format!(in alloc; "void f{number}(){{}}\n")?;
-        text.push_str(line.as_str())?;
+/// A text, the number that it ends before, and what becomes of it.
+type Limit = (&'static Repeated, usize, Outcome);
+
+/// Texts up to a limit and past it.
+const LIMITS: [Limit; 8] = [
+    (FUNCTIONS, 4096, Declared),
+    (
+        FUNCTIONS,
+        4097,
+        Undeclared(ErrorKind::Limit, 4097, 6, "f4096"),
+    ),
+    (GLOBALS, 4096, Declared),
+    (
+        GLOBALS,
+        4097,
+        Undeclared(ErrorKind::Limit, 4097, 5, "g4096"),
+    ),
+    (PARAMETERS, 32, Declared),
+    (PARAMETERS, 33, Undeclared(ErrorKind::Limit, 1, 6, "f")),
+    (LOCALS, 1024, Built),
+    (LOCALS, 1025, Refused(ErrorKind::Limit, 1026, 5, "a1024")),
+];
+
+/// The number of the first text of which something else becomes.
+fn first_wrong(alloc: Global, view: &View) -> Option<usize> {
+    for (at, limit) in LIMITS.iter().enumerate() {
+        if !holds(alloc, view, limit) {
+            return Some(at);
+        }
     }
-    Ok(text)
+    None
 }
 
-/// That number of globals, each on a line of its own.
-fn globals(alloc: Global, times: usize) -> Result<String, AllocError> {
-    let mut text = String::new(alloc);
-    for number in 0..times {
-        let line = format!(in alloc; "int g{number};\n")?;
-        text.push_str(line.as_str())?;
+fn wrong_limit(alloc: Global) -> Option<usize> {
+    match view_of(alloc, &[], 1) {
+        Some(view) => first_wrong(alloc, &view),
+        None => Some(LIMITS.len()),
     }
-    Ok(text)
-}
-
-/// A function with that number of parameters, at least one.
-fn parameters(alloc: Global, times: usize) -> Result<String, AllocError> {
-    let mut text = String::new(alloc);
-    text.push_str("void f(int p")?;
-    for number in 1..times {
-        let next = format!(in alloc; ", int p{number}")?;
-        text.push_str(next.as_str())?;
-    }
-    text.push_str(") {}")?;
-    Ok(text)
 }
 
 #[test]
-fn a_module_may_have_4096_functions(rt: HostRuntime) -> Result<(), AllocError> {
-    let alloc = rt.alloc();
-    let is_declared = is_declared(alloc, functions(alloc, 4096)?.as_str());
-    assert!(rt; is_declared);
-    Ok(())
-}
-
-#[test]
-fn a_module_has_4096_functions_at_most(rt: HostRuntime) -> Result<(), AllocError> {
-    let alloc = rt.alloc();
-    let want = (ErrorKind::Limit, 4097, 6, "f4096");
-    let is_refused = is_refused(alloc, functions(alloc, 4097)?.as_str(), want);
-    assert!(rt; is_refused);
-    Ok(())
-}
-
-#[test]
-fn a_module_may_have_4096_globals(rt: HostRuntime) -> Result<(), AllocError> {
-    let alloc = rt.alloc();
-    let is_declared = is_declared(alloc, globals(alloc, 4096)?.as_str());
-    assert!(rt; is_declared);
-    Ok(())
-}
-
-#[test]
-fn a_module_has_4096_globals_at_most(rt: HostRuntime) -> Result<(), AllocError> {
-    let alloc = rt.alloc();
-    let want = (ErrorKind::Limit, 4097, 5, "g4096");
-    let is_refused = is_refused(alloc, globals(alloc, 4097)?.as_str(), want);
-    assert!(rt; is_refused);
-    Ok(())
-}
-
-#[test]
-fn a_function_has_32_parameters_at_most(rt: HostRuntime) -> Result<(), AllocError> {
-    let alloc = rt.alloc();
-    let is_declared = is_declared(alloc, parameters(alloc, 32)?.as_str());
-    let want = (ErrorKind::Limit, 1, 6, "f");
-    let is_refused = is_refused(alloc, parameters(alloc, 33)?.as_str(), want);
-    assert!(rt; is_declared);
-    assert!(rt; is_refused);
-    Ok(())
+fn limits_are_reached_and_not_passed(rt: HostRuntime) {
+    assert_eq!(rt; wrong_limit(rt.alloc()), None);
 }

@@ -1,5 +1,9 @@
 //! Examples of the language's rules, on operands made by hand.
 
+use self::Asked::{
+    Between, Chosen, ConstantCountedDown, Converted, CountedUp, GroupCountedUp, InFront, Literal,
+    Seated, Stored, StoredInValue,
+};
 use ang_check_operators::{
     Operand, SiteUse, TypingError, assignment, binary, boxed, conditional, convert, group, literal,
     plain_operand, postfix, prefix, reading,
@@ -88,11 +92,6 @@ fn converted(alloc: Global, to: Prim, ty: ArgType) -> Result<Operand, TypingErro
     convert(alloc, &objects(alloc), &word, operand)
 }
 
-/// `int8(e)` of a value of this type.
-fn narrowed(alloc: Global, ty: ArgType) -> Result<Operand, TypingError> {
-    converted(alloc, Prim::I8, ty)
-}
-
 /// `++` after a variable in parentheses.
 fn group_counted_up(alloc: Global) -> Result<Operand, TypingError> {
     let inner = variable(alloc, I8, 2, false)?;
@@ -172,299 +171,463 @@ const OTHER: ArgType = ArgType::Handle {
     read_only: false,
 };
 
+/// What is typed.
+#[derive(Clone, Copy)]
+enum Asked {
+    /// The operator between values of these types.
+    Between(ArgType, TokenKind, ArgType),
+    /// The operator in front of a value of this type.
+    InFront(TokenKind, ArgType),
+    /// A conversion to the primitive type of a value of this type.
+    Converted(Prim, ArgType),
+    /// A number.
+    Literal(&'static [u8]),
+    /// `++` after a variable in parentheses.
+    GroupCountedUp,
+    /// `--` after a variable that can't be written.
+    ConstantCountedDown,
+    /// `++` in front of a variable of this type.
+    CountedUp(ArgType),
+    /// A value assigned to a variable of the first type.
+    Stored(ArgType, TokenKind, ArgType),
+    /// A value assigned to a value of the first type.
+    StoredInValue(ArgType, TokenKind, ArgType),
+    /// `@v = e`: the variable's type, whether it is `const`, and the value's type.
+    Seated(ArgType, bool, ArgType),
+    /// `c ? a : b` of values of these types.
+    Chosen(ArgType, ArgType),
+}
+
+/// What is typed, and what comes of it.
+type Row = (Asked, Typing);
+
+fn typed(alloc: Global, asked: &Asked) -> Result<Operand, TypingError> {
+    match *asked {
+        Between(left, operator, right) => between(alloc, left, operator, right),
+        InFront(operator, ty) => in_front(alloc, operator, ty),
+        Converted(to, ty) => converted(alloc, to, ty),
+        Literal(text) => literal(alloc, &token(TokenKind::Number, 1), text),
+        GroupCountedUp => group_counted_up(alloc),
+        ConstantCountedDown => constant_counted_down(alloc),
+        CountedUp(ty) => counted_up(alloc, ty),
+        Stored(to, operator, ty) => stored(alloc, variable(alloc, to, 1, false), operator, ty),
+        StoredInValue(to, operator, ty) => stored(alloc, value(alloc, to, 1), operator, ty),
+        Seated(to, read_only, ty) => {
+            stored(alloc, seat(alloc, to, read_only), TokenKind::Assign, ty)
+        }
+        Chosen(then, otherwise) => chosen(alloc, then, otherwise),
+    }
+}
+
+/// The number of the first row of which something else comes.
+fn first_wrong(alloc: Global, rows: &[Row]) -> Option<usize> {
+    for (at, (asked, outcome)) in rows.iter().enumerate() {
+        if typing(typed(alloc, asked)) != *outcome {
+            return Some(at);
+        }
+    }
+    None
+}
+
 /// Two operands, the operator between them, and the type that they have together.
-const TYPES: [(Prim, TokenKind, Prim, Prim); 12] = [
-    (Prim::I8, TokenKind::Plus, Prim::I8, Prim::I32),
-    (Prim::U8, TokenKind::Plus, Prim::I8, Prim::U32),
-    (Prim::I32, TokenKind::Star, Prim::U32, Prim::U32),
-    (Prim::I64, TokenKind::Ampersand, Prim::U32, Prim::I64),
-    (Prim::I64, TokenKind::Pipe, Prim::U64, Prim::U64),
-    (Prim::I8, TokenKind::ShiftLeft, Prim::U64, Prim::I32),
-    (Prim::U16, TokenKind::ShiftRight, Prim::I64, Prim::U32),
-    (Prim::I8, TokenKind::Less, Prim::U64, Prim::Bool),
-    (Prim::Bool, TokenKind::Equal, Prim::Bool, Prim::Bool),
-    (Prim::Bool, TokenKind::Xor, Prim::Bool, Prim::Bool),
-    (Prim::Bool, TokenKind::And, Prim::Bool, Prim::Bool),
-    (Prim::Bool, TokenKind::Or, Prim::Bool, Prim::Bool),
+const TYPES: [Row; 12] = [
+    (
+        Between(
+            ArgType::Plain(Prim::I8),
+            TokenKind::Plus,
+            ArgType::Plain(Prim::I8),
+        ),
+        Ok(ArgType::Plain(Prim::I32)),
+    ),
+    (
+        Between(
+            ArgType::Plain(Prim::U8),
+            TokenKind::Plus,
+            ArgType::Plain(Prim::I8),
+        ),
+        Ok(ArgType::Plain(Prim::U32)),
+    ),
+    (
+        Between(
+            ArgType::Plain(Prim::I32),
+            TokenKind::Star,
+            ArgType::Plain(Prim::U32),
+        ),
+        Ok(ArgType::Plain(Prim::U32)),
+    ),
+    (
+        Between(
+            ArgType::Plain(Prim::I64),
+            TokenKind::Ampersand,
+            ArgType::Plain(Prim::U32),
+        ),
+        Ok(ArgType::Plain(Prim::I64)),
+    ),
+    (
+        Between(
+            ArgType::Plain(Prim::I64),
+            TokenKind::Pipe,
+            ArgType::Plain(Prim::U64),
+        ),
+        Ok(ArgType::Plain(Prim::U64)),
+    ),
+    (
+        Between(
+            ArgType::Plain(Prim::I8),
+            TokenKind::ShiftLeft,
+            ArgType::Plain(Prim::U64),
+        ),
+        Ok(ArgType::Plain(Prim::I32)),
+    ),
+    (
+        Between(
+            ArgType::Plain(Prim::U16),
+            TokenKind::ShiftRight,
+            ArgType::Plain(Prim::I64),
+        ),
+        Ok(ArgType::Plain(Prim::U32)),
+    ),
+    (
+        Between(
+            ArgType::Plain(Prim::I8),
+            TokenKind::Less,
+            ArgType::Plain(Prim::U64),
+        ),
+        Ok(ArgType::Plain(Prim::Bool)),
+    ),
+    (
+        Between(
+            ArgType::Plain(Prim::Bool),
+            TokenKind::Equal,
+            ArgType::Plain(Prim::Bool),
+        ),
+        Ok(ArgType::Plain(Prim::Bool)),
+    ),
+    (
+        Between(
+            ArgType::Plain(Prim::Bool),
+            TokenKind::Xor,
+            ArgType::Plain(Prim::Bool),
+        ),
+        Ok(ArgType::Plain(Prim::Bool)),
+    ),
+    (
+        Between(
+            ArgType::Plain(Prim::Bool),
+            TokenKind::And,
+            ArgType::Plain(Prim::Bool),
+        ),
+        Ok(ArgType::Plain(Prim::Bool)),
+    ),
+    (
+        Between(
+            ArgType::Plain(Prim::Bool),
+            TokenKind::Or,
+            ArgType::Plain(Prim::Bool),
+        ),
+        Ok(ArgType::Plain(Prim::Bool)),
+    ),
 ];
 
 #[test]
 fn two_integers_work_in_their_common_type(rt: HostRuntime) {
-    for (left, operator, right, ty) in TYPES {
-        let (first, second) = (ArgType::Plain(left), ArgType::Plain(right));
-        let found = typing(between(rt.alloc(), first, operator, second));
-        assert!(rt;
-            found == Ok(ArgType::Plain(ty)),
-            "{left:?} {operator:?} {right:?}"
-        );
-    }
+    assert_eq!(rt; first_wrong(rt.alloc(), &TYPES), None);
 }
 
 /// Two operands, the operator between them, and what is refused in which column.
-const REFUSALS: [(Prim, TokenKind, Prim, ErrorKind, u32); 7] = [
+const REFUSALS: [Row; 7] = [
     (
-        Prim::I32,
-        TokenKind::Plus,
-        Prim::Bool,
-        ErrorKind::BadConversion,
-        5,
+        Between(
+            ArgType::Plain(Prim::I32),
+            TokenKind::Plus,
+            ArgType::Plain(Prim::Bool),
+        ),
+        Err(Some((ErrorKind::BadConversion, 5))),
     ),
     (
-        Prim::Bool,
-        TokenKind::Plus,
-        Prim::Bool,
-        ErrorKind::BadConversion,
-        1,
+        Between(
+            ArgType::Plain(Prim::Bool),
+            TokenKind::Plus,
+            ArgType::Plain(Prim::Bool),
+        ),
+        Err(Some((ErrorKind::BadConversion, 1))),
     ),
     (
-        Prim::Bool,
-        TokenKind::Equal,
-        Prim::I32,
-        ErrorKind::BadConversion,
-        5,
+        Between(
+            ArgType::Plain(Prim::Bool),
+            TokenKind::Equal,
+            ArgType::Plain(Prim::I32),
+        ),
+        Err(Some((ErrorKind::BadConversion, 5))),
     ),
     (
-        Prim::I32,
-        TokenKind::Equal,
-        Prim::Bool,
-        ErrorKind::BadConversion,
-        5,
+        Between(
+            ArgType::Plain(Prim::I32),
+            TokenKind::Equal,
+            ArgType::Plain(Prim::Bool),
+        ),
+        Err(Some((ErrorKind::BadConversion, 5))),
     ),
     (
-        Prim::Bool,
-        TokenKind::Less,
-        Prim::Bool,
-        ErrorKind::BadConversion,
-        1,
+        Between(
+            ArgType::Plain(Prim::Bool),
+            TokenKind::Less,
+            ArgType::Plain(Prim::Bool),
+        ),
+        Err(Some((ErrorKind::BadConversion, 1))),
     ),
-    (Prim::I32, TokenKind::And, Prim::I32, ErrorKind::NotBool, 1),
-    (Prim::Bool, TokenKind::Or, Prim::I32, ErrorKind::NotBool, 5),
+    (
+        Between(
+            ArgType::Plain(Prim::I32),
+            TokenKind::And,
+            ArgType::Plain(Prim::I32),
+        ),
+        Err(Some((ErrorKind::NotBool, 1))),
+    ),
+    (
+        Between(
+            ArgType::Plain(Prim::Bool),
+            TokenKind::Or,
+            ArgType::Plain(Prim::I32),
+        ),
+        Err(Some((ErrorKind::NotBool, 5))),
+    ),
 ];
 
 #[test]
 fn the_first_operand_that_cannot_stand_is_named(rt: HostRuntime) {
-    for (left, operator, right, kind, column) in REFUSALS {
-        let (first, second) = (ArgType::Plain(left), ArgType::Plain(right));
-        let found = typing(between(rt.alloc(), first, operator, second));
-        assert!(rt;
-            found == Err(Some((kind, column))),
-            "{left:?} {operator:?} {right:?}"
-        );
-    }
+    assert_eq!(rt; first_wrong(rt.alloc(), &REFUSALS), None);
 }
+
+/// One operand.
+const RAISED: [Row; 6] = [
+    (
+        InFront(TokenKind::Minus, ArgType::Plain(Prim::U8)),
+        Ok(ArgType::Plain(Prim::U32)),
+    ),
+    (
+        InFront(TokenKind::Tilde, ArgType::Plain(Prim::I16)),
+        Ok(ArgType::Plain(Prim::I32)),
+    ),
+    (
+        InFront(TokenKind::Not, I32),
+        Err(Some((ErrorKind::NotBool, 2))),
+    ),
+    (
+        Converted(Prim::I8, ArgType::Plain(Prim::U64)),
+        Ok(ArgType::Plain(Prim::I8)),
+    ),
+    (
+        Converted(Prim::I8, BOOL),
+        Err(Some((ErrorKind::BadConversion, 6))),
+    ),
+    (Literal(b"0xFF"), Ok(ArgType::Plain(Prim::U32))),
+];
 
 #[test]
 fn one_operand_is_raised(rt: HostRuntime) {
-    let alloc = rt.alloc();
-    let minus = typing(in_front(alloc, TokenKind::Minus, ArgType::Plain(Prim::U8)));
-    assert!(rt; minus == Ok(ArgType::Plain(Prim::U32)));
-    let tilde = typing(in_front(alloc, TokenKind::Tilde, ArgType::Plain(Prim::I16)));
-    assert!(rt; tilde == Ok(ArgType::Plain(Prim::I32)));
-    let not = typing(in_front(alloc, TokenKind::Not, I32));
-    assert!(rt; not == Err(Some((ErrorKind::NotBool, 2))));
-    let byte = typing(narrowed(alloc, ArgType::Plain(Prim::U64)));
-    assert!(rt; byte == Ok(ArgType::Plain(Prim::I8)));
-    let truth = typing(narrowed(alloc, BOOL));
-    assert!(rt; truth == Err(Some((ErrorKind::BadConversion, 6))));
-    let number = typing(literal(alloc, &token(TokenKind::Number, 1), b"0xFF"));
-    assert!(rt; number == Ok(ArgType::Plain(Prim::U32)));
+    assert_eq!(rt; first_wrong(rt.alloc(), &RAISED), None);
 }
+
+/// What is changed.
+const TARGETS: [Row; 5] = [
+    (GroupCountedUp, Ok(ArgType::Plain(Prim::I8))),
+    (ConstantCountedDown, Err(Some((ErrorKind::Const, 2)))),
+    (Stored(I8, TokenKind::PlusAssign, I32), Ok(I8)),
+    (
+        Stored(I32, TokenKind::ShiftLeftAssign, BOOL),
+        Err(Some((ErrorKind::BadConversion, 6))),
+    ),
+    (
+        StoredInValue(I32, TokenKind::Assign, BOOL),
+        Err(Some((ErrorKind::BadConversion, 1))),
+    ),
+];
 
 #[test]
 fn a_target_is_a_variable_that_can_be_written(rt: HostRuntime) {
-    let alloc = rt.alloc();
-    assert!(rt; typing(group_counted_up(alloc)) == Ok(ArgType::Plain(Prim::I8)));
-    assert!(rt; typing(constant_counted_down(alloc)) == Err(Some((ErrorKind::Const, 2))));
-    let byte = variable(alloc, I8, 1, false);
-    let found = typing(stored(alloc, byte, TokenKind::PlusAssign, I32));
-    assert!(rt; found == Ok(I8));
-    let int = variable(alloc, I32, 1, false);
-    let truth = typing(stored(alloc, int, TokenKind::ShiftLeftAssign, BOOL));
-    assert!(rt; truth == Err(Some((ErrorKind::BadConversion, 6))));
-    let one = value(alloc, I32, 1);
-    let number = typing(stored(alloc, one, TokenKind::Assign, BOOL));
-    assert!(rt; number == Err(Some((ErrorKind::BadConversion, 1))));
+    assert_eq!(rt; first_wrong(rt.alloc(), &TARGETS), None);
 }
 
-/// What stands in front of `is` and after it, and what comes of it.
-const IDENTITIES: [(ArgType, ArgType, Typing); 4] = [
-    (ArgType::Null, HANDLE, Ok(BOOL)),
-    (CELL, OTHER, Ok(BOOL)),
-    (I32, ArgType::Null, Err(Some((ErrorKind::BadConversion, 1)))),
+/// What stands in front of `is` or `!is` and after it, and what comes of it.
+const IDENTITIES: [Row; 8] = [
+    (Between(ArgType::Null, TokenKind::Is, HANDLE), Ok(BOOL)),
+    (Between(ArgType::Null, TokenKind::NotIs, HANDLE), Ok(BOOL)),
+    (Between(CELL, TokenKind::Is, OTHER), Ok(BOOL)),
+    (Between(CELL, TokenKind::NotIs, OTHER), Ok(BOOL)),
     (
-        HANDLE,
-        ArgType::Void,
+        Between(I32, TokenKind::Is, ArgType::Null),
+        Err(Some((ErrorKind::BadConversion, 1))),
+    ),
+    (
+        Between(I32, TokenKind::NotIs, ArgType::Null),
+        Err(Some((ErrorKind::BadConversion, 1))),
+    ),
+    (
+        Between(HANDLE, TokenKind::Is, ArgType::Void),
+        Err(Some((ErrorKind::BadConversion, 5))),
+    ),
+    (
+        Between(HANDLE, TokenKind::NotIs, ArgType::Void),
         Err(Some((ErrorKind::BadConversion, 5))),
     ),
 ];
 
 #[test]
 fn identity_is_of_objects_handles_and_null(rt: HostRuntime) {
-    for (left, right, outcome) in IDENTITIES {
-        let found = typing(between(rt.alloc(), left, TokenKind::Is, right));
-        assert!(rt; found == outcome, "{left:?} is {right:?}");
-        let found = typing(between(rt.alloc(), left, TokenKind::NotIs, right));
-        assert!(rt; found == outcome, "{left:?} !is {right:?}");
-    }
+    assert_eq!(rt; first_wrong(rt.alloc(), &IDENTITIES), None);
 }
 
 /// A variable's type, whether it is `const`, a value's type, and what comes of `@v = e`.
-const SEATS: [(ArgType, bool, ArgType, Typing); 7] = [
-    (HANDLE, false, HANDLE, Ok(HANDLE)),
-    (HANDLE, false, CELL, Ok(HANDLE)),
-    (HANDLE, false, ArgType::Null, Ok(HANDLE)),
+const SEATS: [Row; 7] = [
+    (Seated(HANDLE, false, HANDLE), Ok(HANDLE)),
+    (Seated(HANDLE, false, CELL), Ok(HANDLE)),
+    (Seated(HANDLE, false, ArgType::Null), Ok(HANDLE)),
     (
-        HANDLE,
-        false,
-        TO_CONST,
+        Seated(HANDLE, false, TO_CONST),
         Err(Some((ErrorKind::BadConversion, 6))),
     ),
-    (HANDLE, true, HANDLE, Err(Some((ErrorKind::Const, 2)))),
-    (CELL, false, HANDLE, Err(Some((ErrorKind::Const, 2)))),
-    (I32, false, HANDLE, Err(Some((ErrorKind::BadConversion, 2)))),
+    (
+        Seated(HANDLE, true, HANDLE),
+        Err(Some((ErrorKind::Const, 2))),
+    ),
+    (
+        Seated(CELL, false, HANDLE),
+        Err(Some((ErrorKind::Const, 2))),
+    ),
+    (
+        Seated(I32, false, HANDLE),
+        Err(Some((ErrorKind::BadConversion, 2))),
+    ),
 ];
 
 #[test]
 fn a_handle_is_put_in_the_place_of_another(rt: HostRuntime) {
-    let alloc = rt.alloc();
-    for (ty, read_only, value, outcome) in SEATS {
-        let written = seat(alloc, ty, read_only);
-        let found = typing(stored(alloc, written, TokenKind::Assign, value));
-        assert!(rt; found == outcome, "@{ty:?} = {value:?}");
-    }
+    assert_eq!(rt; first_wrong(rt.alloc(), &SEATS), None);
 }
+
+/// Objects that are assigned by value.
+const BY_VALUE: [Row; 2] = [
+    (
+        Stored(CELL, TokenKind::Assign, CELL),
+        Err(Some((ErrorKind::NoAssign, 4))),
+    ),
+    (
+        Stored(HANDLE, TokenKind::Assign, HANDLE),
+        Err(Some((ErrorKind::NoAssign, 4))),
+    ),
+];
 
 #[test]
 fn objects_are_not_assigned_by_value(rt: HostRuntime) {
-    let alloc = rt.alloc();
-    for ty in [CELL, HANDLE] {
-        let written = variable(alloc, ty, 1, false);
-        let found = typing(stored(alloc, written, TokenKind::Assign, ty));
-        assert!(rt; found == Err(Some((ErrorKind::NoAssign, 4))), "{ty:?}");
-    }
+    assert_eq!(rt; first_wrong(rt.alloc(), &BY_VALUE), None);
 }
 
 /// Two values and what comes of `c ? a : b`.
-const CHOICES: [(ArgType, ArgType, Typing); 12] = [
+const CHOICES: [Row; 12] = [
     (
-        I32,
-        ArgType::Plain(Prim::U32),
+        Chosen(I32, ArgType::Plain(Prim::U32)),
         Ok(ArgType::Plain(Prim::U32)),
     ),
-    (BOOL, I32, Err(Some((ErrorKind::BadConversion, 9)))),
-    (CELL, CELL, Ok(CELL)),
-    (CELL, HANDLE, Ok(HANDLE)),
-    (TO_CONST, HANDLE, Ok(TO_CONST)),
+    (Chosen(BOOL, I32), Err(Some((ErrorKind::BadConversion, 9)))),
+    (Chosen(CELL, CELL), Ok(CELL)),
+    (Chosen(CELL, HANDLE), Ok(HANDLE)),
+    (Chosen(TO_CONST, HANDLE), Ok(TO_CONST)),
     (
-        ArgType::Null,
-        HANDLE,
+        Chosen(ArgType::Null, HANDLE),
         Err(Some((ErrorKind::BadConversion, 5))),
     ),
     (
-        HANDLE,
-        ArgType::Null,
+        Chosen(HANDLE, ArgType::Null),
         Err(Some((ErrorKind::BadConversion, 9))),
     ),
-    (HANDLE, OTHER, Err(Some((ErrorKind::BadConversion, 9)))),
-    (COLOR, COLOR, Ok(COLOR)),
-    (COLOR, SIDE, Ok(I32)),
-    (I8, COLOR, Ok(I32)),
-    (COLOR, BOOL, Err(Some((ErrorKind::BadConversion, 9)))),
+    (
+        Chosen(HANDLE, OTHER),
+        Err(Some((ErrorKind::BadConversion, 9))),
+    ),
+    (Chosen(COLOR, COLOR), Ok(COLOR)),
+    (Chosen(COLOR, SIDE), Ok(I32)),
+    (Chosen(I8, COLOR), Ok(I32)),
+    (
+        Chosen(COLOR, BOOL),
+        Err(Some((ErrorKind::BadConversion, 9))),
+    ),
 ];
 
 #[test]
 fn a_choice_has_the_type_of_both(rt: HostRuntime) {
-    for (chosen_type, other, outcome) in CHOICES {
-        let found = typing(chosen(rt.alloc(), chosen_type, other));
-        assert!(rt; found == outcome, "{chosen_type:?} : {other:?}");
-    }
+    assert_eq!(rt; first_wrong(rt.alloc(), &CHOICES), None);
 }
 
 /// Two operands of which one is of an enumeration, the operator between them, and what comes of it.
-const OF_ENUMERATIONS: [(ArgType, TokenKind, ArgType, Typing); 8] = [
-    (COLOR, TokenKind::Plus, COLOR, Ok(I32)),
-    (COLOR, TokenKind::ShiftLeft, I8, Ok(I32)),
-    (COLOR, TokenKind::Equal, SIDE, Ok(BOOL)),
-    (I8, TokenKind::Less, COLOR, Ok(BOOL)),
+const OF_ENUMERATIONS: [Row; 8] = [
+    (Between(COLOR, TokenKind::Plus, COLOR), Ok(I32)),
+    (Between(COLOR, TokenKind::ShiftLeft, I8), Ok(I32)),
+    (Between(COLOR, TokenKind::Equal, SIDE), Ok(BOOL)),
+    (Between(I8, TokenKind::Less, COLOR), Ok(BOOL)),
     (
-        COLOR,
-        TokenKind::Equal,
-        BOOL,
+        Between(COLOR, TokenKind::Equal, BOOL),
         Err(Some((ErrorKind::BadConversion, 5))),
     ),
     (
-        COLOR,
-        TokenKind::And,
-        BOOL,
+        Between(COLOR, TokenKind::And, BOOL),
         Err(Some((ErrorKind::NotBool, 1))),
     ),
     (
-        COLOR,
-        TokenKind::Is,
-        COLOR,
+        Between(COLOR, TokenKind::Is, COLOR),
         Err(Some((ErrorKind::BadConversion, 1))),
     ),
     (
-        ArgType::Null,
-        TokenKind::Is,
-        COLOR,
+        Between(ArgType::Null, TokenKind::Is, COLOR),
         Err(Some((ErrorKind::BadConversion, 5))),
     ),
 ];
 
 #[test]
 fn an_enumeration_is_worked_with_as_an_int(rt: HostRuntime) {
-    for (left, operator, right, outcome) in OF_ENUMERATIONS {
-        let found = typing(between(rt.alloc(), left, operator, right));
-        assert!(rt; found == outcome, "{left:?} {operator:?} {right:?}");
-    }
+    assert_eq!(rt; first_wrong(rt.alloc(), &OF_ENUMERATIONS), None);
 }
+
+/// One operand that is of an enumeration.
+const ONE_ENUMERATION: [Row; 5] = [
+    (InFront(TokenKind::Minus, COLOR), Ok(I32)),
+    (
+        InFront(TokenKind::At, COLOR),
+        Err(Some((ErrorKind::BadConversion, 2))),
+    ),
+    (Converted(Prim::I8, COLOR), Ok(I8)),
+    (
+        Converted(Prim::Bool, COLOR),
+        Err(Some((ErrorKind::BadConversion, 6))),
+    ),
+    (CountedUp(COLOR), Err(Some((ErrorKind::BadConversion, 2)))),
+];
 
 #[test]
 fn one_enumeration_becomes_an_int_and_is_not_counted(rt: HostRuntime) {
-    let alloc = rt.alloc();
-    let minus = typing(in_front(alloc, TokenKind::Minus, COLOR));
-    assert!(rt; minus == Ok(I32));
-    let handle = typing(in_front(alloc, TokenKind::At, COLOR));
-    assert!(rt; handle == Err(Some((ErrorKind::BadConversion, 2))));
-    assert!(rt; typing(narrowed(alloc, COLOR)) == Ok(I8));
-    let truth = typing(converted(alloc, Prim::Bool, COLOR));
-    assert!(rt; truth == Err(Some((ErrorKind::BadConversion, 6))));
-    let counted = typing(counted_up(alloc, COLOR));
-    assert!(rt; counted == Err(Some((ErrorKind::BadConversion, 2))));
+    assert_eq!(rt; first_wrong(rt.alloc(), &ONE_ENUMERATION), None);
 }
 
 /// A variable's type, the sign of an assignment, a value's type, and what comes of them.
-const STORED: [(ArgType, TokenKind, ArgType, Typing); 6] = [
-    (COLOR, TokenKind::Assign, COLOR, Ok(COLOR)),
-    (I32, TokenKind::Assign, COLOR, Ok(I32)),
-    (I8, TokenKind::PlusAssign, COLOR, Ok(I8)),
+const STORED: [Row; 6] = [
+    (Stored(COLOR, TokenKind::Assign, COLOR), Ok(COLOR)),
+    (Stored(I32, TokenKind::Assign, COLOR), Ok(I32)),
+    (Stored(I8, TokenKind::PlusAssign, COLOR), Ok(I8)),
     (
-        COLOR,
-        TokenKind::Assign,
-        I32,
+        Stored(COLOR, TokenKind::Assign, I32),
         Err(Some((ErrorKind::BadConversion, 6))),
     ),
     (
-        COLOR,
-        TokenKind::Assign,
-        SIDE,
+        Stored(COLOR, TokenKind::Assign, SIDE),
         Err(Some((ErrorKind::BadConversion, 6))),
     ),
     (
-        COLOR,
-        TokenKind::PlusAssign,
-        I32,
+        Stored(COLOR, TokenKind::PlusAssign, I32),
         Err(Some((ErrorKind::BadConversion, 1))),
     ),
 ];
 
 #[test]
 fn a_value_of_an_enumeration_is_put_in_its_variables(rt: HostRuntime) {
-    let alloc = rt.alloc();
-    for (ty, operator, value, outcome) in STORED {
-        let written = variable(alloc, ty, 1, false);
-        let found = typing(stored(alloc, written, operator, value));
-        assert!(rt; found == outcome, "{ty:?} {operator:?} {value:?}");
-    }
+    assert_eq!(rt; first_wrong(rt.alloc(), &STORED), None);
 }
