@@ -365,7 +365,10 @@ def examples(trials):
         stem, kind = os.path.splitext(file)
         if kind == ".session" and stem != "refused_profile":
             profiles = [f"{folder}/{it}.profile" for it in (stem, stem.split("_")[0])]
-            profile = open(next(filter(os.path.isfile, profiles))).read()
+            found = next(filter(os.path.isfile, profiles), None)
+            if found is None:
+                continue
+            profile = open(found).read()
             lines = open(f"{folder}/{file}").read().split("\n")
             mask = next(line.split()[2] for line in lines if line.startswith("module "))
             texts = [it for it in sections_in(lines) if is_read(trials.run(built(it, mask=mask), profile))]
