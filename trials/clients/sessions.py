@@ -3,8 +3,8 @@
 
     trials/clients/sessions.py ASREMOTE ASRUN [COUNT [SEED]]
 
-The sessions are those of crates/examples and crates/asrun, with the rows of files but for those in which a driver fails or a
-line stands that conversations alone have, and COUNT generated ones (1000, if left out). Of each the text of all replies, and the
+The sessions are those of crates/examples and crates/asrun, with the rows of files but for those in which a driver fails, a
+line stands that conversations alone have, or a section lacks lines, and COUNT generated ones (1000, if left out). Of each the text of all replies, and the
 exit status, have to be the same. Prints each session that differs, and how many there were.
 """
 
@@ -35,6 +35,13 @@ def commands(text):
         end = at + 1 + (int(found[1]) if found else 0)
         yield "".join(lines[at:end])
         at = end
+
+
+def ends_early(text):
+    """Whether the last section of a session lacks lines. A conversation would wait for them."""
+    *_, last = commands(text) if text else [""]
+    found = re.match(r"section [^ ]+ (\d{1,10})\r?$", last.partition("\n")[0])
+    return bool(found) and len(last.splitlines()) <= int(found[1])
 
 
 def remote(program, profile, session):
@@ -89,7 +96,7 @@ def rows():
             first, _, row = row.partition("-- session\n")
             profile = (first if "-- profile\n" in first else head).partition("-- profile\n")[2]
             session = row.partition("-- output\n")[0]
-            if "-- failing " not in first and not OWN.search(session):
+            if "-- failing " not in first and not OWN.search(session) and not ends_early(session):
                 yield f"{file}, {name}", profile, session
 
 
