@@ -270,39 +270,84 @@ fn is_number(e: &TypedExpression, bits: u64) -> bool {
     }
 }
 
-/// The same of what is brought into an `int`.
-fn is_brought(e: &TypedExpression, bits: u64) -> bool {
+/// Whether it is that number, in which the entry of this number is named.
+fn is_value(e: &TypedExpression, entry: u32, bits: u64) -> bool {
     match e {
-        TypedExpression::Convert { from, to, operand } => {
-            *from == Prim::I32 && *to == Prim::I32 && is_number(operand, bits)
+        TypedExpression::Naming { entity, operand } => {
+            entity.0 == entry && is_number(operand, bits)
         }
         _ => false,
     }
 }
 
-/// A section, the bits of the number that its first function returns, and whether it is brought into an `int` first.
-type Value = (&'static str, u64, bool);
+/// The same of what is brought into an `int`.
+fn is_brought(e: &TypedExpression, entry: u32, bits: u64) -> bool {
+    match e {
+        TypedExpression::Convert { from, to, operand } => {
+            *from == Prim::I32 && *to == Prim::I32 && is_value(operand, entry, bits)
+        }
+        _ => false,
+    }
+}
+
+/// The same where it is converted to the enumeration of this number.
+fn is_converted(e: &TypedExpression, enumeration: u32, entry: u32, bits: u64) -> bool {
+    match e {
+        TypedExpression::Naming { entity, operand } => {
+            entity.0 == enumeration && is_brought(operand, entry, bits)
+        }
+        _ => false,
+    }
+}
+
+/// How the number stands in what is returned.
+#[derive(Clone, Copy)]
+enum Form {
+    Alone,
+    Brought,
+    Converted(u32),
+}
+
+/// A section, the entry that its first function names, the bits of the number that it returns, and how it stands there.
+type Value = (&'static str, u32, u64, Form);
 
 const VALUES: [Value; 4] = [
-    ("Color m() { return Color::RED; }", 1, false),
-    ("Color m() { return BLUE; }", 0xffff_ffff_ffff_fffe, false),
-    ("int m() { return BLUE; }", 0xffff_ffff_ffff_fffe, true),
-    ("Shade m() { return Shade(Color::RED); }", 1, true),
+    ("Color m() { return Color::RED; }", 1, 1, Form::Alone),
+    (
+        "Color m() { return BLUE; }",
+        2,
+        0xffff_ffff_ffff_fffe,
+        Form::Alone,
+    ),
+    (
+        "int m() { return BLUE; }",
+        2,
+        0xffff_ffff_ffff_fffe,
+        Form::Brought,
+    ),
+    (
+        "Shade m() { return Shade(Color::RED); }",
+        1,
+        1,
+        Form::Converted(4),
+    ),
 ];
 
+fn is_of(e: &TypedExpression, entry: u32, bits: u64, form: Form) -> bool {
+    match form {
+        Form::Alone => is_value(e, entry, bits),
+        Form::Brought => is_brought(e, entry, bits),
+        Form::Converted(enumeration) => is_converted(e, enumeration, entry, bits),
+    }
+}
+
 fn returns(alloc: Global, view: &View, value: Value) -> bool {
-    let (text, bits, is_converted) = value;
+    let (text, entry, bits, form) = value;
     let Some(module) = checked(alloc, view, text) else {
         return false;
     };
     match returned(&module) {
-        Some(e) => {
-            if is_converted {
-                is_brought(e, bits)
-            } else {
-                is_number(e, bits)
-            }
-        }
+        Some(e) => is_of(e, entry, bits, form),
         None => false,
     }
 }

@@ -15,4 +15,6 @@ mod objects;
 #[cfg(test)]
 mod operators;
 #[cfg(test)]
+mod positions;
+#[cfg(test)]
 mod rows;
