@@ -96,6 +96,8 @@ static void forget_reply(bb_engine *engine)
         engine->output = NULL;
         engine->output_room = 0;
     }
+    if (engine->output)
+        engine->output[0] = 0;
 }
 
 /* Begins the command that these pieces are. */

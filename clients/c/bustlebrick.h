@@ -153,11 +153,13 @@ const bb_ask *bb_asked(const bb_engine *engine);
 bb_state bb_resume(bb_engine *engine, const bb_answer *answer);
 
 /* The lines of the reply to the last command that was done, each with its LF: events, errors, denials, and one line for
-   the outcome. They are the library's, and hold until the next command; empty while a command waits at an ask, and
-   after an empty line or a comment. It is not counted in the engine's heap, and may be long: a line for each event. */
+   the outcome. A 0 follows them, which is not counted. They are the library's, and hold until the next command; empty
+   while a command waits at an ask, and after an empty line or a comment. They are not counted in the engine's heap, and
+   may be long: a line for each event. */
 const char *bb_reply(const bb_engine *engine, size_t *bytes);
 
-/* The last line of the reply alone, without its LF: `ok`, `ok 42`, `fault Host 7`, `refused NoFunction`. */
+/* The last line of the reply alone: `ok`, `ok 42`, `fault Host 7`, `refused NoFunction`. Its LF, which follows it, is
+   not counted. */
 const char *bb_outcome(const bb_engine *engine, size_t *bytes);
 
 /* Cancels the command that is done, from any thread and from a signal's handler: the next growth of the engine's heap is

@@ -23,6 +23,7 @@ struct bb_stack {
     void *fake;          /* for the address sanitizer alone, as are the next two */
     const void *host_bottom;
     size_t host_bytes;
+    unsigned number; /* for valgrind alone */
 };
 
 /* Maps a stack of so many bytes, on which `run` is begun by the first bb_to_engine. It never returns. False, with
@@ -75,7 +76,7 @@ struct bb_engine {
     size_t input_at, input_count;
     bool input_ended;
 
-    char *output; /* what the program wrote since the command began, but for the asks that were read */
+    char *output; /* what the program wrote since the command began, but for asks that were read, and a 0 after it */
     size_t output_bytes, output_room;
     int error; /* the program's errno */
 

@@ -115,14 +115,14 @@ void bb_dealloc(void *block)
 
 /* ---- What is written */
 
-/* Makes room for so many bytes more. */
+/* Makes room for so many bytes more, and for the 0 after them. */
 static bool has_room(bb_engine *engine, size_t bytes)
 {
-    if (bytes <= engine->output_room - engine->output_bytes)
+    if (bytes < engine->output_room - engine->output_bytes)
         return true;
-    if (bytes > SIZE_MAX / 2 - engine->output_bytes)
+    if (bytes > SIZE_MAX / 4 - engine->output_bytes)
         return false;
-    size_t room = (engine->output_bytes + bytes) * 2;
+    size_t room = (engine->output_bytes + bytes + 1) * 2;
     char *output = realloc(engine->output, room);
     if (!output)
         return false;
@@ -144,6 +144,7 @@ ssize_t bb_write(int stream, const void *bytes, size_t count)
     if (count)
         memcpy(engine->output + engine->output_bytes, bytes, count);
     engine->output_bytes += count;
+    engine->output[engine->output_bytes] = 0;
     return (ssize_t)count;
 }
 
@@ -166,8 +167,10 @@ bb_state bb_take_last_line(bb_engine *engine)
         state = BB_DONE;
     else if (bb_read_ask(line, bytes, &engine->ask, engine->values))
         state = BB_ASKS;
-    if (state != BB_ENDED)
+    if (state != BB_ENDED) {
         engine->output_bytes -= bytes;
+        engine->output[engine->output_bytes] = 0;
+    }
     return state;
 }
 

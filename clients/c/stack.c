@@ -54,7 +54,7 @@ bool bb_map_stack(struct bb_stack *stack, size_t bytes, void (*run)(void))
     /* A stack that is hardly used would take 2 MiB as one huge page. Where the kernel has none, nothing is lost. */
     (void)madvise(stack->mapping + GUARD, stack->bytes, MADV_NOHUGEPAGE);
 #ifdef BB_VALGRIND
-    VALGRIND_STACK_REGISTER(stack->mapping + GUARD, stack->mapping + GUARD + stack->bytes);
+    stack->number = VALGRIND_STACK_REGISTER(stack->mapping + GUARD, stack->mapping + GUARD + stack->bytes);
 #endif
     lay_out(stack, run);
     return true;
@@ -62,6 +62,9 @@ bool bb_map_stack(struct bb_stack *stack, size_t bytes, void (*run)(void))
 
 void bb_unmap_stack(struct bb_stack *stack)
 {
+#ifdef BB_VALGRIND
+    VALGRIND_STACK_DEREGISTER(stack->number);
+#endif
     munmap(stack->mapping, GUARD + stack->bytes);
 }
 

@@ -35,8 +35,9 @@ def run(host, room, session, profile=hostile.PROFILE):
 def sections():
     """Each session of one deep section, with its name."""
     for place in hostile.PLACES:
+        few = place != "a function"  # the braces around a method leave no room for 63 brackets
         for nest in hostile.NESTS:
-            for bottom, (text, wanted) in hostile.BOTTOMS.items():
+            for bottom, (text, wanted) in list(hostile.BOTTOMS.items())[: 3 if few else None]:
                 wanted = hostile.PLACES[place][2] if wanted == hostile.OK else wanted
                 yield f"{nest} {bottom} in {place}", hostile.built(hostile.nested(nest, text, place)[0]), wanted
     yield "ranks", hostile.ranks(256), "ok"

@@ -175,6 +175,7 @@ static int try_random(bb_engine *engine)
             strcat(text, pieces[rand() % PIECES]);
         bb_state state = say(engine, text);
         const char *reply = bb_reply(engine, &bytes);
+        is_right(strlen(reply) == bytes, "a reply ends before a 0");
         done += state == BB_DONE;
         if (state == BB_DONE && bytes && (memchr(reply, '\n', bytes) != reply + bytes - 1) &&
             memcmp(reply, "error", 5) != 0)
