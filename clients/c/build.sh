@@ -3,7 +3,7 @@
 #
 #     clients/c/build.sh OBJECT WORD FOLDER
 #
-# OBJECT is crates/asremote/out/asremote.o, as `rt ci` leaves it, with the WORD `proved`; or what tools/build_unproved.py made
+# OBJECT is crates/asremote/out/asremote.o, as `rt ci` leaves it where it builds it, with the WORD `proved`; or what tools/build_unproved.py made
 # (`asremote PROGRAM --object OBJECT`), with the WORD `unproved`. bb_version() says the word. FOLDER has afterwards
 #
 #     include/bustlebrick.h
