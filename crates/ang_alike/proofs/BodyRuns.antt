@@ -16,7 +16,8 @@ use Rattle.ang_meaning.proofs.Counting.{many_append, bits_name_none}
 use Rattle.ang_meaning.proofs.Counted.{counted_as, give_counted, give_all_counted}
 use Rattle.ang_meaning.proofs.AlikeWorlds.{three, HasMore, give_alike, give_all_alike}
 use Rattle.ang_meaning.proofs.Matching.{AlikeUpTo}
-use Rattle.ang_core.specs.Meaning.{Callees, turned}
+use Rattle.ang_meaning.specs.Bodies.{Callees}
+use Rattle.ang_core.specs.Meaning.{turned}
 use Rattle.ang_core.specs.Sound.{out_count}
 use Rattle.ang_lower.specs.ExprTree as c
 use Rattle.ang_lower.specs.Tree as stmt

@@ -18,7 +18,7 @@ use Rattle.ang_meaning.proofs.Counting.{many_append, bits_name_none, null_names_
 use Rattle.ang_meaning.proofs.Counted.{counted_as, store_places, put_counted, member_counted}
 use Rattle.ang_meaning.proofs.AlikeWorlds.{three, HasMore, global_renamed, put_alike, member_renamed, member_alike}
 use Rattle.ang_meaning.proofs.Matching.{AlikeUpTo}
-use Rattle.ang_core.specs.Meaning.{Callees}
+use Rattle.ang_meaning.specs.Bodies.{Callees}
 use Rattle.ang_core.specs.Sound.{Fits, IsSpot, AreSpots}
 use Rattle.ang_code_laws.proofs.Counting.{give_back_with}
 use Rattle.ang_code_laws.proofs.AlikeSteps.{back_alike}

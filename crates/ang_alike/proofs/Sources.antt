@@ -20,9 +20,9 @@ use Rattle.ang_meaning.proofs.Operating.{push_none}
 use Rattle.ang_meaning.proofs.AlikeWorlds.{three, give_alike}
 use Rattle.ang_meaning.proofs.Matching.{AlikeUpTo, alike_of, alike_by}
 use Rattle.ang_code_laws.proofs.Counting.{nothing_below}
-use Rattle.ang_core.specs.Meaning as core
 use Rattle.ang_core.specs.Sound.{out_count}
-use Rattle.ang_source.specs.Meaning.{Code, of_function, of_global, Codes, Callees, callee_of, evaluate, run_code, passings_of, passings_in, codes_of, initializer_of, initializers_from}
+use Rattle.ang_meaning.specs.Bodies.{Callees, then_initialized}
+use Rattle.ang_source.specs.Meaning.{Code, of_function, of_global, Codes, callee_of, evaluate, run_code, passings_of, passings_in, codes_of, initializer_of, initializers_from}
 use Rattle.ang_source.specs.Meaning as source
 use Rattle.ang_source.specs.Sound.{Module, module_of, declared_by, SoundOption, SoundStatements, SoundFunctions, SoundGlobals, SoundProgram}
 use Rattle.ang_lower.specs.LoweredExpr as low
@@ -102,7 +102,7 @@ found_same z b b' d (Enters g) vs t w h = entered_same z b b' d g vs t w (h g re
 found_same z b b' d (Misses x) vs t w h = refl
 
 -- a whole body
-code_same : (z : Environment) (m : ℕ) (M : Module) (k : core.Callees) (k' : Callees) (callees : CalleesAgree M k k') (p : plain.Passes) (p' : source.Passes) (passes : PassesAgree M p p')
+code_same : (z : Environment) (m : ℕ) (M : Module) (k : Callees) (k' : Callees) (callees : CalleesAgree M k k') (p : plain.Passes) (p' : source.Passes) (passes : PassesAgree M p p')
     (x : Code) (n : ℕ) (ls : List Slot) (t : ℕ) (w : World) → length ls ≡ n → SoundCode M n x → run z m k p (lowered_code n x) ls t w ≡ run_code z m k' p' x ls t w
 code_same z m M k k' callees p p' passes (of_function ss) n ls t w l h =
     (block_same z m M k k' callees p p' passes n (declared_by ss + n) (lowered_all n ss) (source.run_all z m k' p' ss) ls t w l (omega arith)
@@ -185,13 +185,13 @@ module _ (z : Environment) (V : ℕ → RegistrationList) (program : ℕ → tre
 
     -- ---- initializers in turn
 
-    next_leaves : (go : ℕ → World → Reply) (o : Reply) → ReplyLeaves apart o → ReplyLeaves apart (source.then_initialized o go)
+    next_leaves : (go : ℕ → World → Reply) (o : Reply) → ReplyLeaves apart o → ReplyLeaves apart (then_initialized o go)
     next_leaves go (Yields x outs t v) h = absurd h
     next_leaves go (Raises f v) h = h
 
     next_same : (most : ℕ) (r : Renaming) (go : ℕ → World → Reply) (o : Reply) (w : World) → ReplyKeeps most 0 o → IsCounted (reply_stack o ++ []) (reply_world o) → AlikeUpTo apart r (reply_world o) w
         → ((t : ℕ) (v w : World) → t ≤ most → IsCounted [] v → AlikeUpTo apart r v w → ReplyAlike apart most 0 r [] (go t v) (go t w))
-        → ReplyAlike apart most 0 r [] (source.then_initialized o go) (source.then_initialized (turned_reply r w o) go)
+        → ReplyAlike apart most 0 r [] (then_initialized o go) (then_initialized (turned_reply r w o) go)
     next_same most r go (Yields x [] t v) w many p h next = next t (give x v) (give (renamed r x) w) many.1 (give_counted x [] v p) (give_alike apart r x v w h)
     next_same most r go (Yields x (y ∷ outs) t v) w many p h next = absurd (let e : ⊥ = omega (arith, many.0) in e)
     next_same most r go (Raises f v) w many p h next = inl (record { by = r; other = w; kept = refl; same = refl; counted = p; alike = h; keeps = tt })
@@ -211,8 +211,8 @@ module _ (z : Environment) (V : ℕ → RegistrationList) (program : ℕ → tre
         let go : ℕ → World → Reply = λ t' w'. source.initialized_all z codes gs t' w' in
         let one = source.initialized z codes t g v in
         let two = source.initialized z codes t g w in
-        three (λ m. reply_on apart most 0 m.by r [] (source.then_initialized one go) (source.then_initialized two go) refl
-        (subst (λ e. ReplyAlike apart most 0 m.by [] (source.then_initialized one go) (source.then_initialized e go)) (sym m.same)
+        three (λ m. reply_on apart most 0 m.by r [] (then_initialized one go) (then_initialized two go) refl
+        (subst (λ e. ReplyAlike apart most 0 m.by [] (then_initialized one go) (then_initialized e go)) (sym m.same)
         (next_same most m.by go one m.other m.keeps m.counted m.alike (λ t' v' w' le' p' h'. all_alike gs most t' m.by v' w' le' none.1 p' h'))))
         (λ l. inr (inl (next_leaves go one l))) (λ l. inr (inr (next_leaves go two l)))
         (reply_most apart t most 0 r [] one two le (begun_alike t g [] [] r v w none.0 refl p h))

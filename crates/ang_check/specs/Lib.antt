@@ -1,3 +1,4 @@
+pub mod Positions
 pub mod Typing
 pub mod View
 pub mod Bodies

@@ -9,16 +9,17 @@ ghost use Rattle.ang_check_operators.specs.View.{view_operands};
 ghost use Rattle.ang_check_stmt.specs.Typing.{own_object as object_of};
 ghost use Rattle.ang_check_uses.specs.Uses.{makers_of as all_makers};
 ghost use Rattle.ang_names_known.specs.Spaces as spaces;
+ghost use Rattle.ang_check.specs.Positions as places;
 ghost use Rattle.ang_check.specs.Typing as spec;
 ghost use Rattle.ang_check.specs.View.{view_base};
 
 use crate::functions::{member_locals, member_parameters};
 use ang_check_context::{BodyContext, Locals, Within, own_type, types_of};
 use ang_check_operators::{Operand, TypingError, boxed, refused, refused_for};
-use ang_check_stmt::{FunctionContext, Returns, block, own_object};
+use ang_check_stmt::{FunctionContext, Returns, block, own_object, positions_of};
 use ang_check_typing::{arguments_for, typing_of_all};
 use ang_check_uses::{Callables, Called, Resolution, Scope, best_of_those, makers_of};
-use ang_kinds::{ErrorKind, List, Place};
+use ang_kinds::{ErrorKind, List, Place, Position, position_of};
 use ang_lex::Token;
 use ang_names_known::{Default, Names, ScriptFunction, default_of, family_type};
 use ang_tree as written;
@@ -332,6 +333,59 @@ fn with_return(
     Ok(all)
 }
 
+/// Where the call of the base class's constructor stands: at the word `super`, or at the constructor's name where it is
+/// not written.
+fn base_position(written: &written::Constructor) -> Position
+    ensures exact { result ≡ places.base_position written.now.name
+        (option_map trees.view_super written.now.super_call) }
+{
+    match &written.super_call {
+        None => position_of(written.name.place),
+        Some(call) => position_of(call.word.place),
+    }
+}
+
+/// The same, where the constructor of the base class is called.
+///
+/// The only error is want of memory.
+fn base_positions(
+    alloc: Global,
+    body: Option<usize>,
+    written: &written::Constructor,
+) -> Result<Vec<Position>, AllocError>
+    ensures exact { IfOk result (λ v. v.items ≡ places.base_positions body written.now.name
+        (option_map trees.view_super written.now.super_call)) }
+{
+    let mut found = Vec::new(alloc);
+    match body {
+        None => Ok(found),
+        Some(_) => {
+            found.push(base_position(written))?;
+            Ok(found)
+        }
+    }
+}
+
+/// Where the statements of a constructor stand: the call of the base class's, where one is called, its own, and, at its
+/// closing `}`, what gives the object back.
+///
+/// The only error is want of memory.
+fn constructor_positions(
+    alloc: Global,
+    body: Option<usize>,
+    written: &written::Constructor,
+) -> Result<Vec<Position>, AllocError>
+    ensures exact { IfOk result (λ v. v.items ≡ places.constructor_positions body
+        written.now.name (option_map trees.view_super written.now.super_call)
+        (trees.view_stmts written.now.statements.items) written.now.close) }
+{
+    let mut found = base_positions(alloc, body, written)?;
+    let mut own = positions_of(alloc, written.statements.as_slice())?;
+    found.append(&mut own)?;
+    found.push(position_of(written.close.place))?;
+    Ok(found)
+}
+
 /// A constructor of these parts.
 ///
 /// The only error is want of memory.
@@ -341,10 +395,12 @@ fn constructed(
     function: &ScriptFunction,
     base: BaseCall,
     body: TypedBlock,
+    positions: Vec<Position>,
 ) -> Result<TypedFunction, AllocError>
     requires few { within.family < 256 }
     ensures exact { IfOk result (λ f. view_function f
         ≡ spec.constructed within function.now (view_base base) (view_block body)) }
+    ensures positions { IfOk result (λ f. f.positions ≡ positions.items) }
 {
     let TypedBlock { statements } = body;
     let statements = with_return(alloc, own_type(within), statements)?;
@@ -354,6 +410,7 @@ fn constructed(
         parameters: List::from_vec(parameters),
         result: own_type(within),
         body: TypedBlock { statements },
+        positions: List::from_vec(positions),
     })
 }
 
@@ -392,5 +449,6 @@ pub fn constructor_typing<'a>(
         &mut locals,
         written.statements.as_slice(),
     )?;
-    Ok(constructed(alloc, within, function, first, body)?)
+    let positions = constructor_positions(alloc, first.body, written)?;
+    Ok(constructed(alloc, within, function, first, body, positions)?)
 }

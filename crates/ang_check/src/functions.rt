@@ -3,13 +3,14 @@ ghost use Rattle.std.specs.Prelude.{◌≡◌, ◌<◌, ◌++◌, ◌∷◌, ◌
 ghost use Rattle.ang_tree.specs.View.{view_body, view_init};
 ghost use Rattle.ang_typed.specs.View.{view_block, view_function, view_global};
 ghost use Rattle.ang_check_operators.specs.Refusals.{Gives};
+ghost use Rattle.ang_check_stmt.specs.Positions.{inner_positions};
 ghost use Rattle.ang_check_stmt.specs.Typing.{block_typing};
 ghost use Rattle.ang_check.specs.Typing as spec;
 
 use ang_check_context::{BodyContext, LocalVariable, Locals, Within, own_type};
 use ang_check_operators::{TypingError, refused};
-use ang_check_stmt::{FunctionContext, Returns, block, body_ends, initializer};
-use ang_kinds::{ErrorKind, List, Pass};
+use ang_check_stmt::{FunctionContext, Returns, block, body_ends, initializer, positions_of};
+use ang_kinds::{ErrorKind, List, Pass, Position};
 use ang_lex::Token;
 use ang_names_known::{BorrowedText, ScriptFunction, ScriptGlobal, ScriptParameter, is_read_only};
 use ang_tree as written;
@@ -155,15 +156,18 @@ fn ending(
     ends: bool,
     parameters: Vec<TypedParameter>,
     body: TypedBlock,
+    positions: Vec<Position>,
 ) -> Result<TypedFunction, TypingError>
     ensures exact { Gives view_function result
         (spec.ending ty name.now ends parameters.items (view_block body)) }
+    ensures positions { IfOk result (λ f. f.positions ≡ positions.items) }
 {
     if may_end(ends, ty) {
         Ok(TypedFunction {
             parameters: List::from_vec(parameters),
             result: ty,
             body,
+            positions: List::from_vec(positions),
         })
     } else {
         Err(refused(ErrorKind::NoReturn, name))
@@ -207,11 +211,20 @@ pub fn function_typing<'a>(
 ) -> Result<TypedFunction, TypingError>
     ensures exact { Gives view_function result
         (spec.function_typing context.entry function.now name.now (view_body body.now)) }
+    ensures positions { IfOk result (λ f. f.positions ≡ inner_positions (view_body body.now)) }
 {
     let parameters = parameters_of(alloc, function)?;
+    let positions = positions_of(alloc, body.statements.as_slice())?;
     let locals = function_locals(alloc, function)?;
     let typed = body_typing(alloc, context, function.result.ty, locals, body)?;
-    ending(function.result.ty, name, body_ends(body), parameters, typed)
+    ending(
+        function.result.ty,
+        name,
+        body_ends(body),
+        parameters,
+        typed,
+        positions,
+    )
 }
 
 /// The body of a method, as that of a function whose first local is `this`.
@@ -227,11 +240,20 @@ pub fn method_typing<'a>(
     requires few { within.family < 256 }
     ensures exact { Gives view_function result (spec.method_body_typing context.entry within
         function.now name.now (view_body body.now)) }
+    ensures positions { IfOk result (λ f. f.positions ≡ inner_positions (view_body body.now)) }
 {
     let parameters = member_parameters(alloc, within, function)?;
+    let positions = positions_of(alloc, body.statements.as_slice())?;
     let locals = member_locals(alloc, within, function)?;
     let typed = body_typing(alloc, context, function.result.ty, locals, body)?;
-    ending(function.result.ty, name, body_ends(body), parameters, typed)
+    ending(
+        function.result.ty,
+        name,
+        body_ends(body),
+        parameters,
+        typed,
+        positions,
+    )
 }
 
 /// The initializer of a global variable.

@@ -12,20 +12,20 @@ use Rattle.ang_types.specs.declared.arg_type.ArgType.{ArgType}
 use Rattle.ang_types.specs.declared.arg_type.ArgType.TheVariants as type
 use Rattle.ang_types.specs.Integers.{common_type, is_integer}
 use Rattle.ang_types.specs.Ranks.{Ancestors, rank_of}
-use Rattle.ang_typed.specs.declared.expression.Operator.{Operator}
-use Rattle.ang_typed.specs.declared.expression.Comparison.{Comparison}
+use Rattle.ang_kinds.specs.declared.operator.Operator.{Operator}
+use Rattle.ang_kinds.specs.declared.operator.Comparison.{Comparison}
 use Rattle.ang_typed.specs.declared.expression.StepKind.{StepKind}
 use Rattle.ang_typed.specs.declared.expression.StepKind.TheVariants as step
 use Rattle.ang_typed.specs.Typed as t
 use Rattle.ang_check_operators.specs.declared.operand.HandleSite.{HandleSite}
 use Rattle.ang_check_operators.specs.declared.operand.SiteUse.{SiteUse}
-use Rattle.ang_check_operators.specs.declared.forms.Form.{Form}
-use Rattle.ang_check_operators.specs.declared.forms.Form.TheVariants as form
-use Rattle.ang_check_operators.specs.declared.forms.IntegerOperator.{IntegerOperator}
-use Rattle.ang_check_operators.specs.declared.forms.IntegerOperator.TheVariants as work
+use Rattle.ang_lex.specs.declared.operators.OperatorForm.{OperatorForm}
+use Rattle.ang_lex.specs.declared.operators.OperatorForm.TheVariants as form
+use Rattle.ang_lex.specs.declared.operators.IntegerOperator.{IntegerOperator}
+use Rattle.ang_lex.specs.declared.operators.IntegerOperator.TheVariants as work
 use Rattle.ang_check_operators.specs.Operands.{Operand, fit_by, fit, integer_in, integer, number_in, number, truth_in, truth, identity_in, identity, object_of, site_in, site_or, target_by, target, seat_by, seat}
 use Rattle.ang_check_operators.specs.Refusals.{Typing, ◌>>=◌, refused, fault}
-use Rattle.ang_check_operators.specs.Forms.{binary_form, compound_work}
+use Rattle.ang_lex.specs.Operators.{binary_operator, compound_operator, form_of}
 use Rattle.ang_check_operators.specs.Operations.{literal_by, literal_typing, raised_type, worked_in, arithmetic, shift, compared_in, order, equality_by, equality, conjunction, disjunction, exclusion, sameness, difference, formed, binary_typing, negated, complemented, raised_operand, opposite, handle_in, handle_typing, stepped, prefix_by, prefix_typing, postfix_by, postfix_typing, converted_by, convert_typing, choice_as, choice_of_integers, stands_for, choice_of, choice_of_objects, choice_of_enumerations, choice_by, choice, conditional_typing, assign_in, assigned, reseated, assigned_by, compound_in, compound_arithmetic, compound_shift, assignment_by, assignment_typing}
 use Rattle.ang_check_asked.proofs.Judged.{Silent, silent_in, either_silent}
 
@@ -183,10 +183,10 @@ difference_silent : (a b : Operand) → Silent (difference a b)
 unfolding difference
 difference_silent a b = identity_two a b _ (λ x y. tt)
 
-formed_silent : (ancestors : Ancestors) (f : Option Form) (a b : Operand) → Silent (formed ancestors f a b)
+formed_silent : (ancestors : Ancestors) (f : Option OperatorForm) (a b : Operand) → Silent (formed ancestors f a b)
 formed_silent ancestors None a b = refl
-formed_silent ancestors (Some (form.Works (work.Arithmetic op))) a b = arithmetic_silent ancestors op a b
-formed_silent ancestors (Some (form.Works (work.Shift op))) a b = shift_silent ancestors op a b
+formed_silent ancestors (Some (form.Integers (work.Arithmetic op))) a b = arithmetic_silent ancestors op a b
+formed_silent ancestors (Some (form.Integers (work.Shift op))) a b = shift_silent ancestors op a b
 formed_silent ancestors (Some (form.Order c)) a b = order_silent ancestors c a b
 formed_silent ancestors (Some (form.Equality c)) a b = equality_silent ancestors c a b
 formed_silent ancestors (Some form.And) a b = conjunction_silent a b
@@ -197,7 +197,7 @@ formed_silent ancestors (Some form.Differ) a b = difference_silent a b
 
 pub binary_silent : (ancestors : Ancestors) (a : Operand) (op : TokenKind) (b : Operand) → Silent (binary_typing ancestors a op b)
 unfolding binary_typing
-binary_silent ancestors a op b = formed_silent ancestors (binary_form op) a b
+binary_silent ancestors a op b = formed_silent ancestors (form_of (binary_operator op)) a b
 
 -- ---- one operand
 
@@ -349,4 +349,4 @@ assignment_by_silent ancestors at (Some (work.Shift op)) a b = compound_shift_si
 
 pub assignment_silent : (ancestors : Ancestors) (a : Operand) (op : Token) (b : Operand) → Silent (assignment_typing ancestors a op b)
 unfolding assignment_typing
-assignment_silent ancestors a op b = assignment_by_silent ancestors op.place (compound_work op.kind) a b
+assignment_silent ancestors a op b = assignment_by_silent ancestors op.place (compound_operator op.kind) a b

@@ -30,7 +30,7 @@ cast_type s ps y = type_or_refusal s ps y.name (type_in (space_of s) role.Cast s
 abbrev pub cast_between : Place → ℕ → Bool → Operand → ℕ → Option ℕ → Option ℕ → Typing Operand
 cast_between place n c a m (Some d) (Some own) = Ok (operand place (type.Handle n c) (t.cast d a.tree))
 cast_between place n c a m None None =
-    if n == m then Ok (operand place (type.Handle n c) a.tree) else Err (fault kind.BadConversion a.place)
+    if n == m then Ok (operand place (type.Handle n c) (t.naming (record { 0 = n }) a.tree)) else Err (fault kind.BadConversion a.place)
 cast_between place n c a m _ _ = Err (fault kind.BadConversion a.place)
 
 abbrev pub cast_from : Place → ℕ → Bool → Operand → Option (ℕ × Bool) → Typing Operand

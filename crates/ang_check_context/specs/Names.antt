@@ -50,9 +50,9 @@ this_typing s x = this_in x s.within
 abbrev pub int_bits : ℤ → ℕ
 int_bits z = cast_unsigned w64 z
 
--- a value of an enumeration, which is a number
+-- a value of an enumeration: a number, in which its entry is named
 abbrev pub value_operand : Place → EnumerationValue → Operand
-value_operand place v = operand place (type.Enumeration v.enumeration) (t.number p.I32 (int_bits v.number))
+value_operand place v = operand place (type.Enumeration v.enumeration) (t.naming v.entity (t.number p.I32 (int_bits v.number)))
 
 abbrev pub value_or_unknown : Token → Token → Option EnumerationValue → Typing Operand
 value_or_unknown e x None = Err (refused kind.UnknownName x)

@@ -14,7 +14,7 @@ use crate::context::{BodyContext, type_or_refusal};
 use crate::receiver::Receiver;
 use crate::scope::Locals;
 use ang_check_operators::{Operand, TypingError, boxed, fault, object_of, plain_operand};
-use ang_kinds::{ErrorKind, Place};
+use ang_kinds::{EntityNo, ErrorKind, Place};
 use ang_lex::Token;
 use ang_names_known::{Space, family_of_type};
 use ang_names_listed::{TypePosition, type_in};
@@ -69,6 +69,27 @@ fn asked(
     Ok(plain_operand(place, ty, tree))
 }
 
+/// A cast of a host type to itself: the operand, in which the type is named.
+fn itself(
+    alloc: Global,
+    place: Place,
+    ty: ArgType,
+    number: u32,
+    tree: Box<TypedExpression>,
+) -> Result<Operand, TypingError>
+    ensures exact { Gives view_operand result (Ok (operands.operand place ty
+        (t.naming (record { 0 = number }) (view_tree tree)))) }
+{
+    let tree = boxed(
+        alloc,
+        TypedExpression::Naming {
+            entity: EntityNo(number),
+            operand: tree,
+        },
+    )?;
+    Ok(plain_operand(place, ty, tree))
+}
+
 /// A cast to a handle of this type, of an object of the type of the number `from`.
 fn cast_between(
     alloc: Global,
@@ -94,7 +115,7 @@ fn cast_between(
             Some(_) => Err(fault(ErrorKind::BadConversion, written.place)),
             None => {
                 if to.number == from {
-                    Ok(plain_operand(place, ty, written.tree))
+                    itself(alloc, place, ty, to.number, written.tree)
                 } else {
                     Err(fault(ErrorKind::BadConversion, written.place))
                 }

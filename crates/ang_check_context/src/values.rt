@@ -23,7 +23,7 @@ fn int_bits(number: i32) -> u64
     i64::from(number).cast_unsigned()
 }
 
-/// A value of an enumeration, which is a number.
+/// A value of an enumeration: a number, in which its entry is named.
 ///
 /// The only error is want of memory.
 pub(crate) fn value_operand(
@@ -36,11 +36,18 @@ pub(crate) fn value_operand(
     let ty = ArgType::Enumeration {
         number: value.enumeration,
     };
-    let tree = boxed(
+    let operand = boxed(
         alloc,
         TypedExpression::Number {
             ty: Prim::I32,
             value: int_bits(value.number),
+        },
+    )?;
+    let tree = boxed(
+        alloc,
+        TypedExpression::Naming {
+            entity: value.entity,
+            operand,
         },
     )?;
     Ok(plain_operand(place, ty, tree))

@@ -1,5 +1,4 @@
 pub mod Operands
 pub mod Refusals
 pub mod View
-pub mod Forms
 pub mod Operations

@@ -14,21 +14,21 @@ use Rattle.ang_types.specs.declared.arg_type.ArgType.{ArgType}
 use Rattle.ang_types.specs.declared.arg_type.ArgType.TheVariants as type
 use Rattle.ang_types.specs.Integers.{common_type}
 use Rattle.ang_types.specs.Ranks.{Ancestors, rank_of}
-use Rattle.ang_typed.specs.declared.expression.Operator.{Operator}
-use Rattle.ang_typed.specs.declared.expression.Comparison.{Comparison}
-use Rattle.ang_typed.specs.declared.expression.Comparison.TheVariants as cmp
+use Rattle.ang_kinds.specs.declared.operator.Operator.{Operator}
+use Rattle.ang_kinds.specs.declared.operator.Comparison.{Comparison}
+use Rattle.ang_kinds.specs.declared.operator.Comparison.TheVariants as cmp
 use Rattle.ang_typed.specs.declared.expression.StepKind.{StepKind}
 use Rattle.ang_typed.specs.declared.expression.StepKind.TheVariants as step
 use Rattle.ang_typed.specs.Typed as t
 use Rattle.ang_check_operators.specs.declared.operand.HandleSite.{HandleSite}
 use Rattle.ang_check_operators.specs.declared.operand.SiteUse.{SiteUse}
-use Rattle.ang_check_operators.specs.declared.forms.Form.{Form}
-use Rattle.ang_check_operators.specs.declared.forms.Form.TheVariants as form
-use Rattle.ang_check_operators.specs.declared.forms.IntegerOperator.{IntegerOperator}
-use Rattle.ang_check_operators.specs.declared.forms.IntegerOperator.TheVariants as work
+use Rattle.ang_lex.specs.declared.operators.OperatorForm.{OperatorForm}
+use Rattle.ang_lex.specs.declared.operators.OperatorForm.TheVariants as form
+use Rattle.ang_lex.specs.declared.operators.IntegerOperator.{IntegerOperator}
+use Rattle.ang_lex.specs.declared.operators.IntegerOperator.TheVariants as work
 use Rattle.ang_check_operators.specs.Refusals.{Typing, ◌>>=◌, fault}
 use Rattle.ang_check_operators.specs.Operands.{Operand, operand, fit, integer, number, truth, identity, object_of, target, seat}
-use Rattle.ang_check_operators.specs.Forms.{binary_form, compound_work}
+use Rattle.ang_lex.specs.Operators.{binary_operator, compound_operator, form_of}
 
 -- what no grammar puts here
 abbrev pub misplaced : {A : Type 0} → Place → Typing A
@@ -134,10 +134,10 @@ difference a b = do
   y ← identity b
   Ok (operand a.place (type.Plain p.Bool) (t.not (t.same x y)))
 
-abbrev pub formed : Ancestors → Option Form → Operand → Operand → Typing Operand
+abbrev pub formed : Ancestors → Option OperatorForm → Operand → Operand → Typing Operand
 formed ancestors None a b = misplaced a.place
-formed ancestors (Some (form.Works (work.Arithmetic op))) a b = arithmetic ancestors op a b
-formed ancestors (Some (form.Works (work.Shift op))) a b = shift ancestors op a b
+formed ancestors (Some (form.Integers (work.Arithmetic op))) a b = arithmetic ancestors op a b
+formed ancestors (Some (form.Integers (work.Shift op))) a b = shift ancestors op a b
 formed ancestors (Some (form.Order c)) a b = order ancestors c a b
 formed ancestors (Some (form.Equality c)) a b = equality ancestors c a b
 formed ancestors (Some form.And) a b = conjunction a b
@@ -148,7 +148,7 @@ formed ancestors (Some form.Differ) a b = difference a b
 
 -- Two operands with a binary operator between them.
 unfoldable pub binary_typing : Ancestors → Operand → TokenKind → Operand → Typing Operand
-binary_typing ancestors a op b = formed ancestors (binary_form op) a b
+binary_typing ancestors a op b = formed ancestors (form_of (binary_operator op)) a b
 
 -- ---- one operand
 
@@ -354,4 +354,4 @@ assignment_by ancestors at (Some (work.Shift op)) a b = compound_shift ancestors
 
 -- A target and its value, with `=` or a compound assignment between them.
 unfoldable pub assignment_typing : Ancestors → Operand → Token → Operand → Typing Operand
-assignment_typing ancestors a op b = assignment_by ancestors op.place (compound_work op.kind) a b
+assignment_typing ancestors a op b = assignment_by ancestors op.place (compound_operator op.kind) a b

@@ -5,14 +5,13 @@ ghost use Rattle.ang_check_operators.specs.View.{view_operand};
 ghost use Rattle.ang_check_operators.specs.Operations as spec;
 ghost use Rattle.ang_typed.specs.View.{view_site};
 
-use crate::forms::{IntegerOperator, compound_work};
 use crate::trees::{assign, compound};
 use crate::{
     HandleSite, Operand, TypingError, fault, fit, integer, number, plain_operand, seat, target,
 };
-use ang_kinds::{ErrorKind, Place, Prim};
-use ang_lex::Token;
-use ang_typed::{Operator, TypedSite};
+use ang_kinds::{ErrorKind, Operator, Place, Prim};
+use ang_lex::{IntegerOperator, Token, compound_operator};
+use ang_typed::TypedSite;
 use ang_types::{ArgType, Lineage, common};
 use std::alloc::Global;
 
@@ -198,6 +197,6 @@ pub fn assignment(
     ensures exact { Gives view_operand result (spec.assignment_typing lineage.now
         (view_operand written) operator.now (view_operand value)) }
 {
-    let work = compound_work(operator.kind);
+    let work = compound_operator(operator.kind);
     assignment_by(alloc, lineage, operator.place, work, written, value)
 }

@@ -9,7 +9,6 @@
 mod assignments;
 mod conditionals;
 mod fitting;
-mod forms;
 mod literals;
 mod one_operand;
 mod operand;

@@ -4,8 +4,8 @@ ghost use Rattle.ang_typed.specs.Typed as tree;
 ghost use Rattle.ang_typed.specs.View.{view_site, view_tree};
 
 use crate::boxed;
-use ang_kinds::Prim;
-use ang_typed::{Comparison, Operator, StepKind, TypedExpression, TypedSite};
+use ang_kinds::{Comparison, Operator, Prim};
+use ang_typed::{StepKind, TypedExpression, TypedSite};
 use ang_types::ArgType;
 use std::alloc::{AllocError, Global};
 

@@ -3,13 +3,12 @@ ghost use Rattle.std.specs.Prelude.{◌≡◌};
 ghost use Rattle.ang_check_operators.specs.Refusals.{Gives};
 ghost use Rattle.ang_check_operators.specs.View.{view_operand};
 ghost use Rattle.ang_check_operators.specs.Operations as spec;
+ghost use Rattle.ang_lex.specs.Operators as operators;
 
-use crate::forms::{Form, IntegerOperator, binary_form};
 use crate::trees::{and, compare, not, operate, or, same};
 use crate::{Operand, TypingError, fault, fit, identity, integer, plain_operand, truth};
-use ang_kinds::{ErrorKind, Prim};
-use ang_lex::TokenKind;
-use ang_typed::{Comparison, Operator};
+use ang_kinds::{Comparison, ErrorKind, Operator, Prim};
+use ang_lex::{IntegerOperator, OperatorForm, TokenKind, binary_operator};
 use ang_types::{ArgType, Lineage, common};
 use std::alloc::Global;
 
@@ -182,7 +181,7 @@ fn difference(alloc: Global, left: Operand, right: Operand) -> Result<Operand, T
 fn formed(
     alloc: Global,
     lineage: &Lineage,
-    form: Option<Form>,
+    form: Option<OperatorForm>,
     left: Operand,
     right: Operand,
 ) -> Result<Operand, TypingError>
@@ -191,19 +190,31 @@ fn formed(
 {
     match form {
         None => Err(fault(ErrorKind::BadConversion, left.place)),
-        Some(Form::Works(IntegerOperator::Arithmetic(operator))) => {
+        Some(OperatorForm::Integers(IntegerOperator::Arithmetic(operator))) => {
             arithmetic(alloc, lineage, operator, left, right)
         }
-        Some(Form::Works(IntegerOperator::Shift(operator))) => shift(
+        Some(OperatorForm::Integers(IntegerOperator::Shift(operator))) => shift(
             alloc, lineage, operator, left, right,
         ),
-        Some(Form::Order(comparison)) => order(alloc, lineage, comparison, left, right),
-        Some(Form::Equality(comparison)) => equality(alloc, lineage, comparison, left, right),
-        Some(Form::And) => conjunction(alloc, left, right),
-        Some(Form::Or) => disjunction(alloc, left, right),
-        Some(Form::Xor) => exclusion(alloc, left, right),
-        Some(Form::Same) => sameness(alloc, left, right),
-        Some(Form::Differ) => difference(alloc, left, right),
+        Some(OperatorForm::Order(comparison)) => order(alloc, lineage, comparison, left, right),
+        Some(OperatorForm::Equality(comparison)) => equality(
+            alloc, lineage, comparison, left, right,
+        ),
+        Some(OperatorForm::And) => conjunction(alloc, left, right),
+        Some(OperatorForm::Or) => disjunction(alloc, left, right),
+        Some(OperatorForm::Xor) => exclusion(alloc, left, right),
+        Some(OperatorForm::Same) => sameness(alloc, left, right),
+        Some(OperatorForm::Differ) => difference(alloc, left, right),
+    }
+}
+
+/// What a token does between two operands, if it is a binary operator.
+fn form_of(operator: TokenKind) -> Option<OperatorForm>
+    ensures exact { result ≡ operators.form_of (operators.binary_operator operator) }
+{
+    match binary_operator(operator) {
+        Some(operator) => Some(operator.form),
+        None => None,
     }
 }
 
@@ -224,5 +235,6 @@ pub fn binary(
     ensures exact { Gives view_operand result
         (spec.binary_typing lineage.now (view_operand left) operator (view_operand right)) }
 {
-    formed(alloc, lineage, binary_form(operator), left, right)
+    let form = form_of(operator);
+    formed(alloc, lineage, form, left, right)
 }

@@ -275,7 +275,7 @@ module _ (s : BodyContext) (n : ℕ) where
   enumerated_sound : (x : Token) (k : ℕ) (operands : List Operand) → Every (SoundOperand M n) operands → IfOk (enumerated_of x k operands) (SoundOperand M n)
   enumerated_sound x k [] all = tt
   enumerated_sound x k (a ∷ []) all =
-      holds (λ q. Unit {0}) (SoundOperand M n) (integer a) _ (any (integer a)) (λ q h. no_site M n x.place (type.Enumeration k) (t.convert q primitive.I32 a.tree) all.0.tree)
+      holds (λ q. Unit {0}) (SoundOperand M n) (integer a) _ (any (integer a)) (λ q h. no_site M n x.place (type.Enumeration k) (t.naming (record { 0 = k }) (t.convert q primitive.I32 a.tree)) all.0.tree)
   enumerated_sound x k (a ∷ b ∷ rest) all = tt
 
   bare_sound : (x : Token) (a : Asks) (there : Bool) (operands : List Operand) (args : List ArgType) (r : Resolution) → IsMeantCall s args r
@@ -355,13 +355,13 @@ module _ (s : BodyContext) (n : ℕ) where
   value_sound x there (resolution.Call c) h = tt
   value_sound x there (resolution.Type k) h = tt
   value_sound x there (resolution.Enumeration k) h = tt
-  value_sound x there (resolution.Value v) h = no_site M n x.place (type.Enumeration v.enumeration) (t.number primitive.I32 (int_bits v.number)) tt
+  value_sound x there (resolution.Value v) h = no_site M n x.place (type.Enumeration v.enumeration) (t.naming v.entity (t.number primitive.I32 (int_bits v.number))) tt
   value_sound x there (resolution.Refused why) h = tt
 
   -- `E::V`
   or_unknown : (c x : Token) (v : Option EnumerationValue) → IfOk (value_or_unknown c x v) (SoundOperand M n)
   or_unknown c x None = tt
-  or_unknown c x (Some v) = no_site M n c.place (type.Enumeration v.enumeration) (t.number primitive.I32 (int_bits v.number)) tt
+  or_unknown c x (Some v) = no_site M n c.place (type.Enumeration v.enumeration) (t.naming v.entity (t.number primitive.I32 (int_bits v.number))) tt
 
   scoped_name_sound : (c x : Token) (there : Bool) (r : Resolution) → IfOk (scoped_name_use s c x there r) (SoundOperand M n)
   scoped_name_sound c x there (resolution.Enumeration k) = or_unknown c x (value_of s.view k (text_of s.text x))

@@ -13,22 +13,22 @@ use Rattle.ang_types.specs.declared.arg_type.ArgType.TheVariants as type
 use Rattle.ang_types.specs.Integers.{common_type}
 use Rattle.ang_types.specs.Ranks.{Ancestors, rank_of}
 use Rattle.ang_typed.specs.declared.expression.TypedMember.{TypedMember}
-use Rattle.ang_typed.specs.declared.expression.Operator.{Operator}
-use Rattle.ang_typed.specs.declared.expression.Comparison.{Comparison}
-use Rattle.ang_typed.specs.declared.expression.Comparison.TheVariants as cmp
+use Rattle.ang_kinds.specs.declared.operator.Operator.{Operator}
+use Rattle.ang_kinds.specs.declared.operator.Comparison.{Comparison}
+use Rattle.ang_kinds.specs.declared.operator.Comparison.TheVariants as cmp
 use Rattle.ang_typed.specs.declared.expression.StepKind.{StepKind}
 use Rattle.ang_typed.specs.declared.expression.StepKind.TheVariants as step
 use Rattle.ang_typed.specs.declared.expression.TypedVariable.{TypedVariable}
 use Rattle.ang_typed.specs.Typed as t
 use Rattle.ang_check_operators.specs.declared.operand.HandleSite.{HandleSite}
 use Rattle.ang_check_operators.specs.declared.operand.SiteUse.{SiteUse}
-use Rattle.ang_check_operators.specs.declared.forms.Form.{Form}
-use Rattle.ang_check_operators.specs.declared.forms.Form.TheVariants as form
-use Rattle.ang_check_operators.specs.declared.forms.IntegerOperator.{IntegerOperator}
-use Rattle.ang_check_operators.specs.declared.forms.IntegerOperator.TheVariants as work
+use Rattle.ang_lex.specs.declared.operators.OperatorForm.{OperatorForm}
+use Rattle.ang_lex.specs.declared.operators.OperatorForm.TheVariants as form
+use Rattle.ang_lex.specs.declared.operators.IntegerOperator.{IntegerOperator}
+use Rattle.ang_lex.specs.declared.operators.IntegerOperator.TheVariants as work
 use Rattle.ang_check_operators.specs.Operands.{Operand, operand, reading, conversion, fit_by, fit, integer, number, truth_in, truth, identity_in, identity, object_of, site_in, site_or, target_by, target, seat_by, seat}
 use Rattle.ang_check_operators.specs.Refusals.{Typing, ◌>>=◌, refused}
-use Rattle.ang_check_operators.specs.Forms.{binary_form, compound_work}
+use Rattle.ang_lex.specs.Operators.{binary_operator, compound_operator, form_of}
 use Rattle.ang_check_operators.specs.Operations.{literal_by, literal_typing, raised_type, worked_in, arithmetic, shift, compared_in, order, equality_by, equality, conjunction, disjunction, exclusion, sameness, difference, formed, binary_typing, negated, complemented, raised_operand, opposite, seat_of, handle_in, handle_typing, stepped, prefix_by, prefix_typing, postfix_by, postfix_typing, converted_by, convert_typing, inside, group_typing, choice_as, choice_of_integers, stands_for, choice_of, choice_of_objects, choice_of_enumerations, choice_by, choice, conditional_typing, assign_in, assigned, reseated, assigned_by, compound_in, compound_arithmetic, compound_shift, assignment_by, assignment_typing}
 use Rattle.ang_source.specs.Sound.{Module, IsVariable, IsStored, IsMember, IsStoredMember, Sound}
 use Rattle.ang_check_sound.proofs.Judged.{holds, either_holds, any}
@@ -260,10 +260,10 @@ module _ (M : Module) (n : ℕ) where
   difference_sound a b sa sb =
       identity_two a b (λ x y. Ok (operand a.place (type.Plain p.Bool) (t.not (t.same x y)))) sa sb (λ x y sx sy. no_site _ _ _ (sx, sy))
 
-  formed_sound : (ancestors : Ancestors) (f : Option Form) (a b : Operand) → SoundOperand a → SoundOperand b → IfOk (formed ancestors f a b) SoundOperand
+  formed_sound : (ancestors : Ancestors) (f : Option OperatorForm) (a b : Operand) → SoundOperand a → SoundOperand b → IfOk (formed ancestors f a b) SoundOperand
   formed_sound ancestors None a b sa sb = tt
-  formed_sound ancestors (Some (form.Works (work.Arithmetic op))) a b sa sb = arithmetic_sound ancestors op a b sa sb
-  formed_sound ancestors (Some (form.Works (work.Shift op))) a b sa sb = shift_sound ancestors op a b sa sb
+  formed_sound ancestors (Some (form.Integers (work.Arithmetic op))) a b sa sb = arithmetic_sound ancestors op a b sa sb
+  formed_sound ancestors (Some (form.Integers (work.Shift op))) a b sa sb = shift_sound ancestors op a b sa sb
   formed_sound ancestors (Some (form.Order c)) a b sa sb = order_sound ancestors c a b sa sb
   formed_sound ancestors (Some (form.Equality c)) a b sa sb = equality_sound ancestors c a b sa sb
   formed_sound ancestors (Some form.And) a b sa sb = conjunction_sound a b sa sb
@@ -275,7 +275,7 @@ module _ (M : Module) (n : ℕ) where
   pub binary_sound : (ancestors : Ancestors) (a : Operand) (op : TokenKind) (b : Operand) → SoundOperand a → SoundOperand b
       → IfOk (binary_typing ancestors a op b) SoundOperand
   unfolding binary_typing
-  binary_sound ancestors a op b sa sb = formed_sound ancestors (binary_form op) a b sa sb
+  binary_sound ancestors a op b sa sb = formed_sound ancestors (form_of (binary_operator op)) a b sa sb
 
   -- ---- one operand
 
@@ -465,4 +465,4 @@ module _ (M : Module) (n : ℕ) where
   pub assignment_sound : (ancestors : Ancestors) (a : Operand) (op : Token) (b : Operand) → SoundOperand a → SoundOperand b
       → IfOk (assignment_typing ancestors a op b) SoundOperand
   unfolding assignment_typing
-  assignment_sound ancestors a op b sa sb = assignment_by_sound ancestors op.place (compound_work op.kind) a b sa sb
+  assignment_sound ancestors a op b sa sb = assignment_by_sound ancestors op.place (compound_operator op.kind) a b sa sb

@@ -1,3 +1,4 @@
+pub mod Beginning
 pub mod NoWay
 pub mod SoFar
 pub mod Stopping

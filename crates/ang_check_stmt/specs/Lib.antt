@@ -1,4 +1,5 @@
 pub mod Paths
+pub mod Positions
 pub mod Ways
 pub mod Typing
 pub mod Halts

@@ -11,11 +11,13 @@ mod locals;
 mod loops;
 mod parts;
 mod paths;
+mod positions;
 mod statements;
 mod values;
 
 pub use frame::{FunctionContext, Returns};
 pub use initial::initializer;
 pub use paths::body_ends;
+pub use positions::positions_of;
 pub use statements::block;
 pub use values::own_object;

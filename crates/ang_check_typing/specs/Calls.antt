@@ -172,7 +172,7 @@ own_method s d n c x receiver operands =
 abbrev pub enumerated : Place → ℕ → Operand → Typing Operand
 enumerated place n a = do
   q ← integer a
-  Ok (operand place (type.Enumeration n) (t.convert q p.I32 a.tree))
+  Ok (operand place (type.Enumeration n) (t.naming (record { 0 = n }) (t.convert q p.I32 a.tree)))
 
 abbrev pub enumerated_of : Token → ℕ → List Operand → Typing Operand
 enumerated_of x n [] = Err (refused kind.NoMatch x)

@@ -5,7 +5,7 @@ ghost use Rattle.ang_check_operators.specs.View.{view_operand, view_operands};
 ghost use Rattle.ang_check_typing.specs.Calls as spec;
 
 use ang_check_operators::{Operand, TypingError, boxed, integer, plain_operand, refused};
-use ang_kinds::{ErrorKind, Place, Prim};
+use ang_kinds::{EntityNo, ErrorKind, Place, Prim};
 use ang_lex::Token;
 use ang_typed::TypedExpression;
 use ang_types::ArgType;
@@ -22,12 +22,19 @@ fn enumerated(
         (spec.enumerated place number (view_operand operand)) }
 {
     let from = integer(&operand)?;
-    let tree = boxed(
+    let converted = boxed(
         alloc,
         TypedExpression::Convert {
             from,
             to: Prim::I32,
             operand: operand.tree,
+        },
+    )?;
+    let tree = boxed(
+        alloc,
+        TypedExpression::Naming {
+            entity: EntityNo(number),
+            operand: converted,
         },
     )?;
     Ok(plain_operand(place, ArgType::Enumeration { number }, tree))

@@ -1,5 +1,5 @@
 //! One list of instructions for each body.
-use ang_kinds::Prim;
+use ang_kinds::{Position, Prim};
 use ang_meaning::{Callee, Operation, Passing, Routine, Update};
 
 /// One instruction. The stack's values are counted from its top, which is 0; a jump says how many
@@ -57,8 +57,9 @@ pub enum Instruction {
     SwapField {
         /// The integer type.
         to: Option<Prim>,
-        /// The place of the value that moves.
-        under: usize,
+        /// The place of the value that moves, which lies among the `&out` values of one call: in 32 bits, so that no
+        /// instruction is larger for it.
+        under: u32,
         /// The object's place.
         object: usize,
         /// The field's number.
@@ -71,8 +72,8 @@ pub enum Instruction {
     Return(usize),
 }
 
-/// An instruction has at most 32 bytes.
-const _: () = prove!(std::mem::size_of::<Instruction>() <= 32);
+/// An instruction has at most 24 bytes.
+const _: () = prove!(std::mem::size_of::<Instruction>() <= 24);
 
 /// Where a caller goes on.
 #[derive(Clone, Copy)]
@@ -85,6 +86,18 @@ pub struct Frame {
     pub room: usize,
 }
 
+/// Where the statement stands whose instructions begin at a place of a body's text. They go on to the next mark.
+#[derive(Clone, Copy)]
+pub struct Mark {
+    /// The number of the first of these instructions.
+    pub at: u32,
+    /// Where the statement's first token stands, in the section of its body.
+    pub position: Position,
+}
+
+/// A mark has at most 8 bytes.
+const _: () = prove!(std::mem::size_of::<Mark>() <= 8);
+
 /// The code of one body.
 #[derive(Drop)]
 pub struct RoutineCode {
@@ -96,4 +109,6 @@ pub struct RoutineCode {
     pub height: usize,
     /// The instructions.
     pub text: Vec<Instruction>,
+    /// Which instructions are those of which statement, in the order of the instructions. No run reads it.
+    pub marks: Vec<Mark>,
 }

@@ -5,4 +5,4 @@
 mod instruction;
 pub mod laws;
 
-pub use instruction::{Frame, Instruction, RoutineCode};
+pub use instruction::{Frame, Instruction, Mark, RoutineCode};

@@ -199,9 +199,9 @@ module _ (ns : List ℕ) where
   perform_has z m (GlobalSet g) [] w h = h
   perform_has z m (GlobalSet g) (v ∷ []) w h = stored_has m g v (hold v w) (hold_has ns v w h)
   perform_has z m (GlobalSet g) (v ∷ (u ∷ us)) w h = h
-  perform_has z m (GlobalChange g c) [] w h = h
-  perform_has z m (GlobalChange g c) (v ∷ []) w h = changed_has m g (change_of c (global_or m g (Bits 0) w) v) w h
-  perform_has z m (GlobalChange g c) (v ∷ (u ∷ us)) w h = h
+  perform_has z m (GlobalChange c g) [] w h = h
+  perform_has z m (GlobalChange c g) (v ∷ []) w h = changed_has m g (change_of c (global_or m g (Bits 0) w) v) w h
+  perform_has z m (GlobalChange c g) (v ∷ (u ∷ us)) w h = h
   perform_has z m (Ask e) vs w h = gives_up_has vs _ (called_has z m e (receiver_of (use_at z m e) (reverse vs)) (arguments_of (use_at z m e) (reverse vs)) w h)
   perform_has z m (Read e) vs w h = gives_up_has vs _ (read_has z m e (receiver_of (use_at z m e) vs) w h)
   perform_has z m (Write e) [] w h = h
@@ -232,14 +232,14 @@ module _ (ns : List ℕ) where
   perform_has z m (FieldSet i) (Script (Some n) ∷ (v ∷ [])) w h = gives_up_has (Script (Some n) ∷ []) _ (may_store_has (may_take n v w) n i v w h)
   perform_has z m (FieldSet i) (Script (Some n) ∷ (v ∷ (u ∷ us))) w h = h
   perform_has z m (FieldSet i) (Host d j ∷ us) w h = h
-  perform_has z m (FieldChange i c) [] w h = h
-  perform_has z m (FieldChange i c) (Bits x ∷ us) w h = h
-  perform_has z m (FieldChange i c) (Script None ∷ us) w h = h
-  perform_has z m (FieldChange i c) (Script (Some n) ∷ []) w h = h
-  perform_has z m (FieldChange i c) (Script (Some n) ∷ (v ∷ [])) w h =
+  perform_has z m (FieldChange c i) [] w h = h
+  perform_has z m (FieldChange c i) (Bits x ∷ us) w h = h
+  perform_has z m (FieldChange c i) (Script None ∷ us) w h = h
+  perform_has z m (FieldChange c i) (Script (Some n) ∷ []) w h = h
+  perform_has z m (FieldChange c i) (Script (Some n) ∷ (v ∷ [])) w h =
       gives_up_has (Script (Some n) ∷ []) _ (changed_field_has n i (change_of c (field_or n i (Bits 0) w) v) w h)
-  perform_has z m (FieldChange i c) (Script (Some n) ∷ (v ∷ (u ∷ us))) w h = h
-  perform_has z m (FieldChange i c) (Host d j ∷ us) w h = h
+  perform_has z m (FieldChange c i) (Script (Some n) ∷ (v ∷ (u ∷ us))) w h = h
+  perform_has z m (FieldChange c i) (Host d j ∷ us) w h = h
   perform_has z m (Cast c) [] w h = h
   perform_has z m (Cast c) (Bits x ∷ us) w h = h
   perform_has z m (Cast c) (Script None ∷ []) w h = h

@@ -327,9 +327,9 @@ module _ (z : Environment) (m : ℕ) where
   perform_asks (GlobalSet g) [] w h len = nothing z w
   perform_asks (GlobalSet g) (v ∷ []) w h len = stored_asks g v w (hold v w) (hold_asks z v w)
   perform_asks (GlobalSet g) (v ∷ (u ∷ us)) w h len = nothing z w
-  perform_asks (GlobalChange g c) [] w h len = nothing z w
-  perform_asks (GlobalChange g c) (v ∷ []) w h len = changed_asks g (change_of c (global_or m g (Bits 0) w) v) w
-  perform_asks (GlobalChange g c) (v ∷ (u ∷ us)) w h len = nothing z w
+  perform_asks (GlobalChange c g) [] w h len = nothing z w
+  perform_asks (GlobalChange c g) (v ∷ []) w h len = changed_asks g (change_of c (global_or m g (Bits 0) w) v) w
+  perform_asks (GlobalChange c g) (v ∷ (u ∷ us)) w h len = nothing z w
   perform_asks (Ask e) vs w h len = gives_up_asks vs w _ (ask_asks e (reverse vs) w h (length-reverse vs ∙ len))
   perform_asks (Read e) vs w h len = gives_up_asks vs w _ (read_fit_asks e vs w h)
   perform_asks (Write e) [] w h len = nothing z w
@@ -356,14 +356,14 @@ module _ (z : Environment) (m : ℕ) where
   perform_asks (FieldSet i) (Script (Some n) ∷ (v ∷ [])) w h len = gives_up_asks (Script (Some n) ∷ []) w _ (may_store_asks (may_take n v w) n i v w)
   perform_asks (FieldSet i) (Script (Some n) ∷ (v ∷ (u ∷ us))) w h len = nothing z w
   perform_asks (FieldSet i) (Host d j ∷ us) w h len = nothing z w
-  perform_asks (FieldChange i c) [] w h len = nothing z w
-  perform_asks (FieldChange i c) (Bits x ∷ us) w h len = nothing z w
-  perform_asks (FieldChange i c) (Script None ∷ us) w h len = nothing z w
-  perform_asks (FieldChange i c) (Script (Some n) ∷ []) w h len = nothing z w
-  perform_asks (FieldChange i c) (Script (Some n) ∷ (v ∷ [])) w h len =
+  perform_asks (FieldChange c i) [] w h len = nothing z w
+  perform_asks (FieldChange c i) (Bits x ∷ us) w h len = nothing z w
+  perform_asks (FieldChange c i) (Script None ∷ us) w h len = nothing z w
+  perform_asks (FieldChange c i) (Script (Some n) ∷ []) w h len = nothing z w
+  perform_asks (FieldChange c i) (Script (Some n) ∷ (v ∷ [])) w h len =
       gives_up_asks (Script (Some n) ∷ []) w _ (changed_field_asks n i (change_of c (field_or n i (Bits 0) w) v) w)
-  perform_asks (FieldChange i c) (Script (Some n) ∷ (v ∷ (u ∷ us))) w h len = nothing z w
-  perform_asks (FieldChange i c) (Host d j ∷ us) w h len = nothing z w
+  perform_asks (FieldChange c i) (Script (Some n) ∷ (v ∷ (u ∷ us))) w h len = nothing z w
+  perform_asks (FieldChange c i) (Host d j ∷ us) w h len = nothing z w
   perform_asks (Cast c) [] w h len = nothing z w
   perform_asks (Cast c) (Bits x ∷ us) w h len = nothing z w
   perform_asks (Cast c) (Script None ∷ []) w h len = nothing z w

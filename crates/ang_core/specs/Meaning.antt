@@ -1,27 +1,24 @@
 -- What a body of the core tree does, by cases on the tree: the value or the fault, the ticks that are left, and the world
 -- (docs/MEANING.md, "What a body does"; the AngelScript manual, "Expressions", "Statements" and "Functions").
-use Rattle.std.specs.Prelude.{ℕ, zero, suc, List, [], ◌∷◌, length, None}
-use Rattle.ang_kinds.specs.declared.fault.Fault.TheVariants.{Null, Budget, Memory}
+use Rattle.std.specs.Prelude.{ℕ, List, [], ◌∷◌, length, None}
+use Rattle.ang_kinds.specs.declared.fault.Fault.TheVariants.{Null, Budget}
 use Rattle.ang_meaning.specs.declared.slot.Slot.{Slot}
 use Rattle.ang_meaning.specs.declared.slot.Slot.TheVariants.{Bits, Script}
 use Rattle.ang_meaning.specs.declared.routine.Routine.{Routine}
-use Rattle.ang_meaning.specs.declared.routine.Callee.{Callee}
-use Rattle.ang_meaning.specs.World.{World, give, give_all, memory_step, or_else}
-use Rattle.ang_meaning.specs.Environment.{Environment, params_of}
+use Rattle.ang_meaning.specs.World.{World, give}
+use Rattle.ang_meaning.specs.Environment.{Environment}
 use Rattle.ang_meaning.specs.Perform.{perform}
-use Rattle.ang_meaning.specs.Results.{Evaluated, Gave, Gathered, Ready, Ran, Went, Returned, Halted, Broken, Continued, Reply, Yields, Raises, Calls, local_at, on_test, ticked, loaded, applied, assigned, altered, chosen, then_rest, called, leave, with_value, then_run, caught, finished, enter}
+use Rattle.ang_meaning.specs.Results.{Evaluated, Gave, Gathered, Ready, Ran, Went, Returned, Halted, Broken, Continued, Reply, Calls, local_at, on_test, ticked, loaded, applied, assigned, altered, chosen, then_rest, called, leave, with_value, then_run, caught}
+use Rattle.ang_meaning.specs.Bodies.{Callees, PassesOf}
+use Rattle.ang_meaning.specs.Bodies as bodies_of
 use Rattle.ang_core.specs.declared.tree.CoreExpression.{CoreExpression, Row_of-CoreExpression, end_of-CoreExpression, more_of-CoreExpression}
 use Rattle.ang_core.specs.declared.tree.CoreExpression.TheVariants.{Number, Null as Nothing, Local, Assign', Update', Apply', Call', Choose'}
 use Rattle.ang_core.specs.declared.tree.CoreStatement.{CoreStatement, Row_of-CoreStatement, end_of-CoreStatement, more_of-CoreStatement}
 use Rattle.ang_core.specs.declared.tree.CoreStatement.TheVariants.{Skip, Evaluate, Declare, Block', If', While', DoWhile', Return, Break, Continue}
 
--- the calls that a body makes
-abbrev pub Callees : Type 0
-Callees = Callee → List Slot → ℕ → World → Reply
-
 -- one pass of a loop, its tick taken: the test, the body and the step
 abbrev pub Passes : Type 0
-Passes = CoreExpression → CoreStatement → CoreStatement → List Slot → ℕ → World → Ran
+Passes = PassesOf CoreExpression CoreStatement CoreStatement
 
 -- An expression in module m.
 abbrev mutual
@@ -76,36 +73,21 @@ pass z m c p e s step ls t w =
 abbrev pub Bodies : Type 0
 Bodies = Routine → CoreStatement
 
--- Bodies and loops where fewer than n ticks are left; d counts the callers of the body. With no n left a run has used up its ticks before.
-abbrev mutual
-  pub body_at : Environment → Bodies → ℕ → ℕ → Calls
-  body_at z bodies zero d g vs t w = Raises Budget w
-  body_at z bodies (suc n) d g vs t w =
-      finished (params_of z g) (run z g.home (enter z (body_at z bodies n (suc d)) d g.home) (pass_at z bodies n d g.home) (bodies g) vs t w)
+-- Whole bodies and initializers, as `ang_meaning/specs/Bodies.antt` has them of any tree.
+abbrev pub body_at : Environment → Bodies → ℕ → ℕ → Calls
+body_at = bodies_of.body_at run pass
 
-  pub pass_at : Environment → Bodies → ℕ → ℕ → ℕ → Passes
-  pass_at z bodies zero d m e s step ls t w = Halted Budget ls w
-  pass_at z bodies (suc n) d m e s step ls t w =
-      pass z m (enter z (body_at z bodies n (suc d)) d m) (pass_at z bodies n d m) e s step ls t w
+abbrev pub pass_at : Environment → Bodies → ℕ → ℕ → ℕ → Passes
+pass_at = bodies_of.pass_at run pass
 
--- the entry of a body that wants memory for its frame
 abbrev pub begun : Environment → Bodies → Routine → List Slot → ℕ → World → Reply
-begun z bodies g vs t w = or_else (memory_step w) (λ w'. Raises Memory (give_all vs w')) (λ w'. body_at z bodies (suc t) 0 g vs t w')
+begun = bodies_of.begun run pass
 
--- A command's call of a function with a budget of ticks: its entry takes one.
 abbrev pub called_with : Environment → Bodies → ℕ → Routine → List Slot → World → Reply
-called_with z bodies budget g vs w = ticked budget (Raises Budget (give_all vs w)) (λ t. begun z bodies g vs t w)
+called_with = bodies_of.called_with run pass
 
--- An initializer's run, with t ticks left: its entry takes none.
 abbrev pub initialized : Environment → Bodies → ℕ → Routine → World → Reply
-initialized z bodies t g w = begun z bodies g [] t w
+initialized = bodies_of.initialized run pass
 
--- what follows an initializer
-abbrev pub then_initialized : Reply → (ℕ → World → Reply) → Reply
-then_initialized (Yields v outs t w) go = go t (give v w)
-then_initialized (Raises f w) go = Raises f w
-
--- A build's initializers in order of declaration, on one budget: each stores into its global, and a fault ends them.
 abbrev pub initialized_all : Environment → Bodies → List Routine → ℕ → World → Reply
-initialized_all z bodies [] t w = Yields (Bits 0) [] t w
-initialized_all z bodies (g ∷ gs) t w = then_initialized (initialized z bodies t g w) (λ t' w'. initialized_all z bodies gs t' w')
+initialized_all = bodies_of.initialized_all run pass

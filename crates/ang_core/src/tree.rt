@@ -1,5 +1,5 @@
 //! Bodies of script functions and of initializers.
-use ang_kinds::Prim;
+use ang_kinds::{Position, Prim};
 use ang_meaning::{Callee, Operation, Passing, Target, Update};
 
 /// An expression. A local is counted from the innermost one, which is 0; parameters are locals.
@@ -60,4 +60,6 @@ pub struct CoreBody {
     pub result: Option<Prim>,
     /// What it does.
     pub statement: CoreStatement,
+    /// Where the statements of its blocks stand, each after those inside it. No meaning reads it.
+    pub positions: Vec<Position>,
 }

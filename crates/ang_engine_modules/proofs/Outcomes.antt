@@ -12,7 +12,7 @@ use Rattle.ang_code.specs.Runs.{Runs, Completion, Gives, Stops, ended}
 use Rattle.ang_code.specs.Told.{ComesFrom}
 use Rattle.ang_code_laws.proofs.Determined.{has_one_end}
 use Rattle.ang_gen.specs.BodyBehaves.{outcome_of}
-use Rattle.ang_source.specs.Meaning.{then_initialized}
+use Rattle.ang_meaning.specs.Bodies.{then_initialized}
 use Rattle.ang_engine_modules.specs.Ends.{end_of}
 use Rattle.ang_engine_modules.proofs.Inputs.{listed_append}
 

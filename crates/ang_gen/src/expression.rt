@@ -1,5 +1,5 @@
 //! The code of expressions, written from its end.
-ghost use Rattle.std.specs.Prelude.{◌≡◌, ◌+◌, ◌<◌, ◌^◌, ◌++◌, length, OnOk};
+ghost use Rattle.std.specs.Prelude.{◌≡◌, ◌+◌, ◌<◌, ◌^◌, ◌++◌, length, IfOk, OnOk};
 ghost use Rattle.ang_gen.specs.Code.{expr_code, outs_code, swap_at, swaps_code};
 ghost use Rattle.ang_gen.specs.Peaks.{peak, list_peak};
 ghost use Rattle.ang_gen.specs.Rows.{list_code};
@@ -12,11 +12,12 @@ use ang_meaning::{Spot, Target};
 use std::alloc::AllocError;
 
 // The value of an `&out` parameter at the place `under` moves into its target, where the locals begin at
-// the place `base`.
-fn swap(target: &Target, under: usize, base: usize) -> Instruction
-    ensures exact { result ≡ swap_at target.now.to under base target.now.spot }
+// the place `base`. Into a field it moves from a place of 32 bits: a call with more `&out` parameters, of which no memory
+// holds the code, is want of memory.
+fn swap(target: &Target, under: usize, base: usize) -> Result<Instruction, AllocError>
+    ensures exact { IfOk result (λ i. i ≡ swap_at target.now.to under base target.now.spot) }
 {
-    match target.spot {
+    let instruction = match target.spot {
         Spot::Local(i) => Instruction::Swap {
             to: target.to,
             under,
@@ -27,13 +28,19 @@ fn swap(target: &Target, under: usize, base: usize) -> Instruction
             under,
             global,
         },
-        Spot::Field { object, field } => Instruction::SwapField {
-            to: target.to,
-            under,
-            object: place_above(base, object),
-            field,
-        },
-    }
+        Spot::Field { object, field } => {
+            let Ok(under) = u32::try_from(under) else {
+                return Err(AllocError);
+            };
+            Instruction::SwapField {
+                to: target.to,
+                under,
+                object: place_above(base, object),
+                field,
+            }
+        }
+    };
+    Ok(instruction)
 }
 
 // The code of all targets, after a call. The first target in the list is the last one of the call.
@@ -46,7 +53,7 @@ fn write_swaps(
 {
     let mut under = 1;
     for target in targets {
-        text.put(swap(target, under, base))?;
+        text.put(swap(target, under, base)?)?;
         under += 1;
     }
     Ok(())

@@ -23,6 +23,7 @@ mod code;
 mod expression;
 mod height;
 pub mod laws;
+mod marks;
 mod module_code;
 mod room;
 mod statement;

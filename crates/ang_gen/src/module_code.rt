@@ -9,19 +9,21 @@ use crate::height::statement_peak;
 use crate::room::higher;
 use crate::statement::{Exits, declared_by, write_statement};
 use crate::text::InstructionBuffer;
-use ang_code::{Instruction, RoutineCode};
+use ang_code::{Instruction, Mark, RoutineCode};
 use ang_core::{CoreBody, CoreStatement};
+use ang_kinds::Position;
 use std::alloc::{AllocError, Global};
 
-// The instructions of a whole body with `params` parameters, into a text that is empty so far.
+// The instructions of a whole body with `params` parameters, into a text that is empty so far, and their marks.
 fn body_text(
+    alloc: Global,
     mut text: InstructionBuffer,
     params: usize,
     s: &CoreStatement,
-) -> Result<Vec<Instruction>, AllocError>
+) -> Result<(Vec<Instruction>, Vec<Mark>), AllocError>
     requires empty { text ≡ [] }
     requires room { statement_peak params s.now < 2 ^ 64 }
-    ensures exact { IfOk result (λ code. code.items ≡ body_code params s.now) }
+    ensures exact { IfOk result (λ code. code.0.items ≡ body_code params s.now) }
 {
     text.put(Instruction::Return(declared_by(s)))?;
     text.put(Instruction::PushBits(0))?;
@@ -33,7 +35,7 @@ fn body_text(
         again: end,
     };
     write_statement(&mut text, exits, params, s)?;
-    Ok(text.into_vec())
+    text.into_code(alloc)
 }
 
 // The greatest number of values in the frame of a whole body with `params` parameters.
@@ -52,6 +54,7 @@ fn frame_of(
     alloc: Global,
     params: usize,
     s: &CoreStatement,
+    positions: &[Position],
 ) -> Result<(usize, InstructionBuffer), AllocError>
     ensures peak { IfOk result (λ found. found.0 ≡ body_peak params s.now) }
     ensures counted { IfOk result (λ found. found.0 < 2 ^ 64) }
@@ -59,24 +62,26 @@ fn frame_of(
 {
     let peak = frame_peak(params, s);
     let room = peak.unwrap_or(usize::MAX);
-    let text = InstructionBuffer::with_room(alloc, room)?;
+    let text = InstructionBuffer::with_room(alloc, room, positions)?;
     Ok((room, text))
 }
 
 /// Generates the code of one body: its instructions, how its parameters take their arguments, the primitive
-/// type of its value, and the least number of values above the parameters within which it always stays.
+/// type of its value, the least number of values above the parameters within which it always stays, and which of its
+/// instructions are those of which statement.
 fn generate_body(alloc: Global, body: &CoreBody) -> Result<RoutineCode, AllocError>
     ensures code { IfOk result (λ code. IsBodyCode body.now code) }
 {
     let count = body.params.len();
-    let (peak, text) = frame_of(alloc, count, &body.statement)?;
-    let text = body_text(text, count, &body.statement)?;
+    let (peak, text) = frame_of(alloc, count, &body.statement, body.positions.as_slice())?;
+    let (text, marks) = body_text(alloc, text, count, &body.statement)?;
     let params = body.params.clone()?;
     Ok(RoutineCode {
         params,
         result: body.result,
         height: peak - count,
         text,
+        marks,
     })
 }
 

@@ -216,6 +216,27 @@ fn write_body(
     write_block(text, exits, locals, s)
 }
 
+// A statement in a block, with the mark that its instructions are its own.
+#[cycle(statement)]
+fn write_item(
+    text: &mut InstructionBuffer,
+    exits: Exits,
+    locals: usize,
+    s: &CoreStatement,
+) -> Result<(), AllocError>
+    requires room { statement_peak locals s.now < 2 ^ 64 }
+    requires params { exits.params ≤ locals }
+    requires alive { exits.alive ≤ locals }
+    requires exit { exits.exit ≤ length text.old }
+    requires again { exits.again ≤ length text.old }
+    ensures code { OnOk result (text.new ≡ stmt_code exits.params locals exits.alive
+        (length text.old - exits.exit) (length text.old - exits.again) s.now ++ text.old) }
+{
+    let outer = text.begin_statement()?;
+    write_statement(text, exits, locals, s)?;
+    text.end_statement(outer)
+}
+
 // Statements in turn.
 #[cycle(statement)]
 fn write_row(
@@ -235,7 +256,7 @@ fn write_row(
     let mut here = declared_by_all(row) + locals;
     for s in row.iter().rev() {
         here -= declared_by(s);
-        write_statement(text, exits, here, s)?;
+        write_item(text, exits, here, s)?;
     }
     Ok(())
 }

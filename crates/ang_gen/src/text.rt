@@ -5,14 +5,18 @@ ghost use Rattle.std.specs.Prelude.{◌≡◌, ◌<◌, ◌^◌, List, ◌∷◌
 ghost use Rattle.ang_code.specs.declared.instruction.Instruction.{Instruction};
 ghost use Rattle.ang_code.specs.declared.instruction.Instruction.TheVariants.{LoopBack};
 
-use ang_code::Instruction;
+use crate::marks::StatementMarks;
+use ang_code::{Instruction, Mark};
+use ang_kinds::Position;
 use std::alloc::{AllocError, Global};
 use std::marker::Model;
 
-/// A body's instructions, of which the first ones are still to be written.
+/// A body's instructions, of which the first ones are still to be written. Contracts see these alone; beside them
+/// stands which of them are those of which statement.
 #[derive(Drop)]
 pub struct InstructionBuffer {
     reversed: Vec<Instruction>,
+    marks: StatementMarks,
 }
 
 impl Model for InstructionBuffer {
@@ -25,16 +29,21 @@ impl Model for InstructionBuffer {
 }
 
 impl InstructionBuffer {
-    /// The text that is empty so far, with room for that many instructions.
+    /// The text that is empty so far, with room for that many instructions, of a body whose statements stand there.
     ///
     /// # Errors
     /// Want of memory: there is no room for them.
-    pub fn with_room(alloc: Global, room: usize) -> Result<InstructionBuffer, AllocError>
+    pub fn with_room(
+        alloc: Global,
+        room: usize,
+        positions: &[Position],
+    ) -> Result<InstructionBuffer, AllocError>
         ensures empty { IfOk result (λ text. text ≡ []) }
         ensures room { IfOk result (λ text. room < 2 ^ 63) }
     {
         let reversed = Vec::with_capacity(alloc, room)?;
-        Ok(InstructionBuffer { reversed })
+        let marks = StatementMarks::new(alloc, positions)?;
+        Ok(InstructionBuffer { reversed, marks })
     }
 
     /// How many instructions it has.
@@ -67,12 +76,41 @@ impl InstructionBuffer {
         self.reversed[behind] = Instruction::LoopBack(distance);
     }
 
-    /// The instructions in their order.
-    pub fn into_vec(self) -> Vec<Instruction>
-        ensures same { result.items ≡ self }
+    /// Begins a statement, of which nothing is written. Gives the statement around it.
+    ///
+    /// # Errors
+    /// Want of memory.
+    pub fn begin_statement(&mut self) -> Result<Option<Position>, AllocError>
+        ensures same { self.new ≡ self.old }
     {
-        let InstructionBuffer { mut reversed } = self;
+        let written = self.reversed.len();
+        self.marks.begin(written)
+    }
+
+    /// Ends a statement, of which all is written, and goes back to the one around it.
+    ///
+    /// # Errors
+    /// Want of memory.
+    pub fn end_statement(&mut self, outer: Option<Position>) -> Result<(), AllocError>
+        ensures same { self.new ≡ self.old }
+    {
+        let written = self.reversed.len();
+        self.marks.end(written, outer)
+    }
+
+    /// The instructions in their order, and which of them are those of which statement.
+    ///
+    /// # Errors
+    /// Want of memory.
+    pub fn into_code(self, alloc: Global) -> Result<(Vec<Instruction>, Vec<Mark>), AllocError>
+        ensures same { IfOk result (λ code. code.0.items ≡ self) }
+    {
+        let InstructionBuffer {
+            mut reversed,
+            marks,
+        } = self;
+        let marks = marks.in_order(alloc, reversed.len())?;
         reversed.reverse();
-        reversed
+        Ok((reversed, marks))
     }
 }

@@ -13,3 +13,15 @@ pub enum Value {
     /// The key of a host object, or none for the null handle.
     Key(Option<u64>),
 }
+
+impl Default for Value {
+    ghost use Rattle.std.specs.Prelude.{◌≡◌, pos};
+    ghost use Rattle.ang_kinds.specs.declared.value.Value.TheVariants.{Int};
+
+    ghost is_default = { λ v. v ≡ Int (pos 0) };
+
+    /// `Int(0)`, which fills the places of a list that has fewer values than places.
+    fn default() -> Value {
+        Value::Int(0)
+    }
+}

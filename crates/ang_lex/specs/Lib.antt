@@ -2,6 +2,7 @@ pub mod Bytes
 pub mod Cuts
 pub mod Fronts
 pub mod Numbers
+pub mod Operators
 pub mod Spelling
 pub mod Text
 pub mod Tokens

@@ -14,7 +14,8 @@ use Rattle.ang_meaning.specs.Results.{Went, Reply, Yields, Raises, Calls, ticked
 use Rattle.ang_core.specs.Meaning.{Bodies}
 use Rattle.ang_core.specs.Meaning as core
 use Rattle.ang_core.specs.Sound.{LinksFit}
-use Rattle.ang_source.specs.Meaning.{Code, of_function, of_global, Codes, Callees, callee_of, evaluate, run_code, passing_of, passings_of}
+use Rattle.ang_meaning.specs.Bodies.{Callees, then_initialized}
+use Rattle.ang_source.specs.Meaning.{Code, of_function, of_global, Codes, callee_of, evaluate, run_code, passing_of, passings_of}
 use Rattle.ang_source.specs.Meaning as source
 use Rattle.ang_source.specs.Sound.{Module, declared_by}
 use Rattle.ang_lower.specs.LoweredExpr as low
@@ -99,14 +100,14 @@ module _ (z : Environment) (M : ℕ → Module) (bodies : Bodies) (codes : Codes
 
 -- ---- initializers in turn
 
-after_one : (r : Reply) (go go' : ℕ → World → Reply) → ((t : ℕ) (w : World) → go t w ≡ go' t w) → core.then_initialized r go ≡ source.then_initialized r go'
+after_one : (r : Reply) (go go' : ℕ → World → Reply) → ((t : ℕ) (w : World) → go t w ≡ go' t w) → then_initialized r go ≡ then_initialized r go'
 after_one (Yields v outs t w) go go' h = h t (give v w)
 after_one (Raises f w) go go' h = refl
 
 pub all_same : (z : Environment) (bodies : Bodies) (codes : Codes) (gs : List Routine) (t : ℕ) (w : World) → AllMeanSame z bodies codes gs → core.initialized_all z bodies gs t w ≡ source.initialized_all z codes gs t w
 all_same z bodies codes [] t w h = refl
 all_same z bodies codes (g ∷ gs) t w h =
-    ap (λ r. core.then_initialized r (λ t' w'. core.initialized_all z bodies gs t' w')) (h.1.initializers t w h.0)
+    ap (λ r. then_initialized r (λ t' w'. core.initialized_all z bodies gs t' w')) (h.1.initializers t w h.0)
     ∙ after_one (source.initialized z codes t g w) _ _ (λ t' w'. all_same z bodies codes gs t' w' h.2)
 
 -- ---- a build's initializers

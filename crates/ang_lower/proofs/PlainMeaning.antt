@@ -7,12 +7,14 @@ use Rattle.ang_meaning.specs.declared.routine.Routine.{Routine}
 use Rattle.ang_meaning.specs.World.{World, give}
 use Rattle.ang_meaning.specs.Environment.{Environment, params_of}
 use Rattle.ang_meaning.specs.Perform.{perform}
-use Rattle.ang_meaning.specs.Results.{Evaluated, Gave, Gathered, Ready, Ran, Went, Returned, Halted, Broken, Continued, Raises, Calls, local_at, on_test, ticked, loaded, applied, assigned, altered, chosen, then_rest, called, leave, with_value, then_run, finished, enter}
+use Rattle.ang_meaning.specs.Results.{Evaluated, Gave, Gathered, Ready, Ran, Went, Returned, Halted, Broken, Continued, Calls, local_at, on_test, ticked, loaded, applied, assigned, altered, chosen, then_rest, called, leave, with_value, then_run, finished, enter}
 use Rattle.ang_core.specs.declared.tree.CoreExpression.{CoreExpression, Row_of-CoreExpression, end_of-CoreExpression, more_of-CoreExpression}
 use Rattle.ang_core.specs.declared.tree.CoreExpression.TheVariants.{Number, Null as Nothing, Local, Assign', Update', Apply', Call', Choose'}
 use Rattle.ang_core.specs.declared.tree.CoreStatement.{CoreStatement, Row_of-CoreStatement, end_of-CoreStatement, more_of-CoreStatement}
 use Rattle.ang_core.specs.declared.tree.CoreStatement.TheVariants.{Skip, Evaluate, Declare, Block', If', While', DoWhile', Return, Break, Continue}
-use Rattle.ang_core.specs.Meaning.{Callees, Bodies, turned}
+use Rattle.ang_meaning.specs.Bodies.{Callees, PassesOf}
+use Rattle.ang_meaning.specs.Bodies as bodies_of
+use Rattle.ang_core.specs.Meaning.{Bodies, turned}
 use Rattle.ang_core.specs.Meaning as core
 use Rattle.ang_lower.specs.ExprTree as c
 use Rattle.ang_lower.specs.Tree as stmt
@@ -35,7 +37,7 @@ abbrev mutual
   eval_all z m k (c.more e rest) vs ls t w = then_rest vs (eval z m k e ls t w) (λ v ls' t' w'. eval_all z m k rest (v ∷ vs) ls' t' w')
 
 abbrev pub Passes : Type 0
-Passes = c.Expr → stmt.Stmt → stmt.Stmt → List Slot → ℕ → World → Ran
+Passes = PassesOf c.Expr stmt.Stmt stmt.Stmt
 
 abbrev mutual
   pub run : Environment → ℕ → Callees → Passes → stmt.Stmt → List Slot → ℕ → World → Ran
@@ -66,15 +68,11 @@ pass z m k p e s step ls t w =
 abbrev pub PlainBodies : Type 0
 PlainBodies = Routine → stmt.Stmt
 
-abbrev mutual
-  pub body_at : Environment → PlainBodies → ℕ → ℕ → Calls
-  body_at z bodies zero d g vs t w = Raises Budget w
-  body_at z bodies (suc n) d g vs t w =
-      finished (params_of z g) (run z g.home (enter z (body_at z bodies n (suc d)) d g.home) (pass_at z bodies n d g.home) (bodies g) vs t w)
+abbrev pub body_at : Environment → PlainBodies → ℕ → ℕ → Calls
+body_at = bodies_of.body_at run pass
 
-  pub pass_at : Environment → PlainBodies → ℕ → ℕ → ℕ → Passes
-  pass_at z bodies zero d m e s step ls t w = Halted Budget ls w
-  pass_at z bodies (suc n) d m e s step ls t w = pass z m (enter z (body_at z bodies n (suc d)) d m) (pass_at z bodies n d m) e s step ls t w
+abbrev pub pass_at : Environment → PlainBodies → ℕ → ℕ → ℕ → Passes
+pass_at = bodies_of.pass_at run pass
 
 -- ---- a core tree does the same
 

@@ -31,7 +31,7 @@ use Rattle.ang_meaning.specs.Numbers.{is_signed, converted, negated, complemente
 use Rattle.ang_meaning.specs.Environment.{Environment, host_in, is_fit, is_called_by, is_property, may_call, may_access, may_write}
 use Rattle.ang_meaning.specs.Perform.{operands, member_count}
 use Rattle.ang_core.specs.Sound.{out_count, Fits, AreSpots}
-use Rattle.ang_source.specs.Meaning.{Code, of_function, of_global, callee_of, referred, passing_by, passing_of, passings_of, kind_of, work_of, test_of, compound_of, step_of}
+use Rattle.ang_source.specs.Meaning.{Code, of_function, of_global, callee_of, referred, passing_by, passing_of, passings_of, kind_of, compound_of, step_of}
 use Rattle.ang_source.specs.Sound.{Module, IsEntity, IsHostCallee, IsWritable, argument_number, IsVariable, IsStored, IsMember, IsStoredMember, parameters_of, Sound, SoundArguments, SoundOption, SoundEach, SoundLocals, SoundStatement, SoundStatements, argument_count, declared, declared_by}
 use Rattle.ang_lower.specs.ExprTree as c
 use Rattle.ang_lower.specs.Tree as stmt
@@ -250,9 +250,9 @@ module _ (z : Environment) (m : ℕ) (M : Module) (callees : HasCallees z m M) (
   changed_sound : (n : ℕ) (x : TypedVariable) (by : Update) (e : c.Expr) → IsStored M n x → IsSound z m n e → IsSound z m n (low.changed n x by e)
   unfolding operands is_fit
   changed_sound n (variable.Local i) by e h s = (omega arith, s)
-  changed_sound n (variable.Global g) by e h s = unary_sound n (GlobalChange g by) e (refl, refl) s
+  changed_sound n (variable.Global g) by e h s = unary_sound n (GlobalChange by g) e (refl, refl) s
   changed_sound n (variable.Property p) by e h s = unary_sound n (Alter p.entity by) e (alter_fits p by h) s
-  changed_sound n (variable.Field i) by e h s = binary_sound n (FieldChange i by) e (low.this_at n) (refl, refl) s (this_sound n h)
+  changed_sound n (variable.Field i) by e h s = binary_sound n (FieldChange by i) e (low.this_at n) (refl, refl) s (this_sound n h)
 
   -- members of objects
 
@@ -268,7 +268,7 @@ module _ (z : Environment) (m : ℕ) (M : Module) (callees : HasCallees z m M) (
 
   member_changed_sound : (n : ℕ) (a : TypedMember) (by : Update) (e o : c.Expr) → IsStoredMember M a → IsSound z m n e → IsSound z m n o → IsSound z m n (low.binary (low.altering a by) e o)
   unfolding operands is_fit
-  member_changed_sound n (member.Field i) by e o h s u = binary_sound n (FieldChange i by) e o (refl, refl) s u
+  member_changed_sound n (member.Field i) by e o h s u = binary_sound n (FieldChange by i) e o (refl, refl) s u
   member_changed_sound n (member.Property p) by e o h s u = binary_sound n (Alter p.entity by) e o (alter_in_fits p by h) s u
 
   -- ---- calls
@@ -319,12 +319,13 @@ module _ (z : Environment) (m : ℕ) (M : Module) (callees : HasCallees z m M) (
     lowered_sound (tree.negate ty e) n h = folded_sound n (negated ty) (Negate ty) (low.lowered n e) (refl, refl) (lowered_sound e n h)
     lowered_sound (tree.complement ty e) n h = folded_sound n (complemented ty) (Complement ty) (low.lowered n e) (refl, refl) (lowered_sound e n h)
     lowered_sound (tree.not e) n h = folded_sound n denied Not (low.lowered n e) (refl, refl) (lowered_sound e n h)
-    lowered_sound (tree.operate op ty a b) n h = binary_sound n (Binary (work_of op) ty) (low.lowered n a) (low.lowered n b) (refl, refl) (lowered_sound a n h.0) (lowered_sound b n h.1)
-    lowered_sound (tree.compare op ty a b) n h = binary_sound n (Compare (test_of op) (is_signed ty)) (low.lowered n a) (low.lowered n b) (refl, refl) (lowered_sound a n h.0) (lowered_sound b n h.1)
+    lowered_sound (tree.operate op ty a b) n h = binary_sound n (Binary op ty) (low.lowered n a) (low.lowered n b) (refl, refl) (lowered_sound a n h.0) (lowered_sound b n h.1)
+    lowered_sound (tree.compare op ty a b) n h = binary_sound n (Compare op (is_signed ty)) (low.lowered n a) (low.lowered n b) (refl, refl) (lowered_sound a n h.0) (lowered_sound b n h.1)
     lowered_sound (tree.and a b) n h = (lowered_sound a n h.0, lowered_sound b n h.1, tt)
     lowered_sound (tree.or a b) n h = (lowered_sound a n h.0, tt, lowered_sound b n h.1)
     lowered_sound (tree.choose a b d) n h = (lowered_sound a n h.0, lowered_sound b n h.1, lowered_sound d n h.2)
     lowered_sound (tree.same a b) n h = binary_sound n Same (low.lowered n a) (low.lowered n b) (refl, refl) (lowered_sound a n h.0) (lowered_sound b n h.1)
+    lowered_sound (tree.naming x e) n h = lowered_sound e n h
     lowered_sound (tree.cast family e) n h = unary_sound n (Cast family) (low.lowered n e) (refl, refl) (lowered_sound e n h.1)
     lowered_sound (tree.make family None args) n h = nullary_sound n (Make family) (refl, callees.classes family h.0)
     lowered_sound (tree.make family (Some f) args) n h = (

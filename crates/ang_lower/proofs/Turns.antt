@@ -7,7 +7,8 @@ use Rattle.ang_meaning.specs.declared.slot.Slot.{Slot}
 use Rattle.ang_meaning.specs.World.{World, give}
 use Rattle.ang_meaning.specs.Environment.{Environment}
 use Rattle.ang_meaning.specs.Results.{Ran, Went, Halted, ticked, with_value, then_run, leave, caught}
-use Rattle.ang_source.specs.Meaning.{Callees, evaluate, begin_local, evaluate_or, discarded, branched, run_locals, run_steps, in_block, tested, pass_of}
+use Rattle.ang_meaning.specs.Bodies.{Callees}
+use Rattle.ang_source.specs.Meaning.{evaluate, begin_local, evaluate_or, discarded, branched, run_locals, run_steps, in_block, tested, pass_of}
 use Rattle.ang_source.specs.Meaning as source
 use Rattle.ang_source.specs.Sound.{Module, Sound, SoundOption, SoundEach, SoundLocals, SoundStatement, SoundStatements, declared, declared_by}
 use Rattle.ang_lower.specs.Tree as stmt

@@ -26,7 +26,8 @@ use Rattle.ang_meaning.specs.Environment.{Environment, default_of}
 use Rattle.ang_meaning.specs.Hosts.{Fine}
 use Rattle.ang_meaning.specs.Perform.{perform}
 use Rattle.ang_meaning.specs.Results.{Evaluated, Gave, Ready, local_at, loaded, performed, applied, assigned, altered}
-use Rattle.ang_source.specs.Meaning.{Callees, callee_of, one, two, this_of, read_variable, read_member, stored, member_stored, changed_by, member_changed, evaluate, evaluate_all, evaluate_argument, begin_local, evaluate_or, kind_of, work_of, test_of, compound_of, step_of, brought_to}
+use Rattle.ang_meaning.specs.Bodies.{Callees}
+use Rattle.ang_source.specs.Meaning.{callee_of, one, two, this_of, read_variable, read_member, stored, member_stored, changed_by, member_changed, evaluate, evaluate_all, evaluate_argument, begin_local, evaluate_or, kind_of, compound_of, step_of, brought_to}
 use Rattle.ang_source.specs.Meaning as source
 use Rattle.ang_source.specs.Sound.{Module, parameters_of, Sound, SoundArguments, SoundValues, SoundOption, argument_count}
 use Rattle.ang_lower.specs.ExprTree as c
@@ -173,9 +174,9 @@ module _ (z : Environment) (m : ℕ) (k k' : Callees) where
     same = ap (λ j. altered (j - suc i) by (eval z m k e ls t w)) (sym l) ∙ ap (λ a. altered (length ls - suc i) by a) h.same;
     keeps = altered_keeps n (length ls - suc i) by y h.keeps;
   }
-  changed_same n (variable.Global g) by e y ls t w l h = unary_same n (GlobalChange g by) e y ls t w h
+  changed_same n (variable.Global g) by e y ls t w l h = unary_same n (GlobalChange by g) e y ls t w h
   changed_same n (variable.Property p) by e y ls t w l h = unary_same n (Alter p.entity by) e y ls t w h
-  changed_same n (variable.Field i) by e y ls t w l h = binary_same n (FieldChange i by) e (low.this_at n) y this_of ls t w h (λ ls' t' w' l'. this_same n ls' t' w' l')
+  changed_same n (variable.Field i) by e y ls t w l h = binary_same n (FieldChange by i) e (low.this_at n) y this_of ls t w h (λ ls' t' w' l'. this_same n ls' t' w' l')
 
   -- members of objects
   read_member_same : (n : ℕ) (a : TypedMember) (o : c.Expr) (y : Evaluated) (ls : List Slot) (t : ℕ) (w : World) → SameEval n (eval z m k o ls t w) y
@@ -190,7 +191,7 @@ module _ (z : Environment) (m : ℕ) (k k' : Callees) where
 
   member_changed_same : (n : ℕ) (a : TypedMember) (by : Update) (e o : c.Expr) (y : Evaluated) (go : List Slot → ℕ → World → Evaluated) (ls : List Slot) (t : ℕ) (w : World)
       → SameEval n (eval z m k e ls t w) y → SameFrom n (eval z m k o) go → SameEval n (eval z m k (low.binary (low.altering a by) e o) ls t w) (member_changed z m a by y go)
-  member_changed_same n (member.Field i) by e o y go ls t w h f = binary_same n (FieldChange i by) e o y go ls t w h f
+  member_changed_same n (member.Field i) by e o y go ls t w h f = binary_same n (FieldChange by i) e o y go ls t w h f
   member_changed_same n (member.Property p) by e o y go ls t w h f = binary_same n (Alter p.entity by) e o y go ls t w h f
 
 -- calls of functions, imports and methods are the same, where they have an argument for each parameter
@@ -220,12 +221,13 @@ module _ (z : Environment) (m : ℕ) (M : Module) (k k' : Callees) (callees : Ca
     value_same (t.negate ty e) n ls t w l h = folded_same z m k k' n (negated ty) (Negate ty) (negates z m ty) (low.lowered n e) (evaluate z m k' e ls t w) ls t w (value_same e n ls t w l h)
     value_same (t.complement ty e) n ls t w l h = folded_same z m k k' n (complemented ty) (Complement ty) (complements z m ty) (low.lowered n e) (evaluate z m k' e ls t w) ls t w (value_same e n ls t w l h)
     value_same (t.not e) n ls t w l h = folded_same z m k k' n denied Not (denies z m) (low.lowered n e) (evaluate z m k' e ls t w) ls t w (value_same e n ls t w l h)
+    value_same (t.naming x e) n ls t w l h = value_same e n ls t w l h
     value_same (t.cast family e) n ls t w l h = unary_same z m k k' n (Cast family) (low.lowered n e) (evaluate z m k' e ls t w) ls t w (value_same e n ls t w l h.1)
     value_same (t.operate op ty a b) n ls t w l h =
-        binary_same z m k k' n (Binary (work_of op) ty) (low.lowered n a) (low.lowered n b) (evaluate z m k' a ls t w) (evaluate z m k' b) ls t w (value_same a n ls t w l h.0)
+        binary_same z m k k' n (Binary op ty) (low.lowered n a) (low.lowered n b) (evaluate z m k' a ls t w) (evaluate z m k' b) ls t w (value_same a n ls t w l h.0)
         (λ ls' t' w' l'. value_same b n ls' t' w' l' h.1)
     value_same (t.compare op ty a b) n ls t w l h =
-        binary_same z m k k' n (Compare (test_of op) (is_signed ty)) (low.lowered n a) (low.lowered n b) (evaluate z m k' a ls t w) (evaluate z m k' b) ls t w (value_same a n ls t w l h.0)
+        binary_same z m k k' n (Compare op (is_signed ty)) (low.lowered n a) (low.lowered n b) (evaluate z m k' a ls t w) (evaluate z m k' b) ls t w (value_same a n ls t w l h.0)
         (λ ls' t' w' l'. value_same b n ls' t' w' l' h.1)
     value_same (t.same a b) n ls t w l h =
         binary_same z m k k' n Same (low.lowered n a) (low.lowered n b) (evaluate z m k' a ls t w) (evaluate z m k' b) ls t w (value_same a n ls t w l h.0)

@@ -2,13 +2,14 @@
 use Rattle.std.specs.Prelude.{Bool, true, false}
 use Rattle.ang_typed.specs.Typed as t
 
--- a conversion or a cast, or an operator on one operand
+-- a conversion or a cast, an operator on one operand, or an operand in which an entry is named
 abbrev pub is_unary : t.Expr → Bool
 is_unary (t.convert from to e) = true
 is_unary (t.negate ty e) = true
 is_unary (t.complement ty e) = true
 is_unary (t.not e) = true
 is_unary (t.cast family e) = true
+is_unary (t.naming x e) = true
 is_unary e = false
 
 -- an operator on two operands that are both evaluated

@@ -18,7 +18,7 @@ use Rattle.ang_meaning.specs.declared.routine.Spot.{Spot}
 use Rattle.ang_meaning.specs.declared.routine.Spot.TheVariants as spot
 use Rattle.ang_meaning.specs.declared.routine.Target.{Target}
 use Rattle.ang_meaning.specs.Numbers.{truth, is_signed, converted, negated, complemented, denied}
-use Rattle.ang_source.specs.Meaning.{work_of, test_of, compound_of, step_of, brought_to, kind_of, callee_of}
+use Rattle.ang_source.specs.Meaning.{compound_of, step_of, brought_to, kind_of, callee_of}
 use Rattle.ang_lower.specs.ExprTree as c
 
 -- ---- operations
@@ -81,9 +81,9 @@ stored n (variable.Field i) e = binary (FieldSet i) e (this_at n)
 
 abbrev pub changed : ℕ → TypedVariable → Update → c.Expr → c.Expr
 changed n (variable.Local i) by e = c.change (n - suc i) by e
-changed n (variable.Global g) by e = unary (GlobalChange g by) e
+changed n (variable.Global g) by e = unary (GlobalChange by g) e
 changed n (variable.Property h) by e = unary (Alter h.entity by) e
-changed n (variable.Field i) by e = binary (FieldChange i by) e (this_at n)
+changed n (variable.Field i) by e = binary (FieldChange by i) e (this_at n)
 
 -- where a variable stands that an `&out` value moves into; no host property is one
 abbrev pub spot_of : ℕ → TypedVariable → Spot
@@ -119,7 +119,7 @@ writing (member.Property h) = Write h.entity
 
 -- what changes a member of its second operand by the first
 abbrev pub altering : TypedMember → Update → Operation
-altering (member.Field i) by = FieldChange i by
+altering (member.Field i) by = FieldChange by i
 altering (member.Property h) by = Alter h.entity by
 
 -- ---- expressions
@@ -152,13 +152,14 @@ abbrev mutual
   lowered n (t.negate ty e) = negation ty (lowered n e)
   lowered n (t.complement ty e) = complement ty (lowered n e)
   lowered n (t.not e) = denial (lowered n e)
-  lowered n (t.operate op ty l r) = binary (Binary (work_of op) ty) (lowered n l) (lowered n r)
-  lowered n (t.compare op ty l r) = binary (Compare (test_of op) (is_signed ty)) (lowered n l) (lowered n r)
+  lowered n (t.operate op ty l r) = binary (Binary op ty) (lowered n l) (lowered n r)
+  lowered n (t.compare op ty l r) = binary (Compare op (is_signed ty)) (lowered n l) (lowered n r)
   lowered n (t.and l r) = c.choose (lowered n l) (lowered n r) (c.number 0)
   lowered n (t.or l r) = c.choose (lowered n l) (c.number 1) (lowered n r)
   lowered n (t.choose a l r) = c.choose (lowered n a) (lowered n l) (lowered n r)
   lowered n (t.same l r) = binary Same (lowered n l) (lowered n r)
   lowered n (t.cast family e) = unary (Cast family) (lowered n e)
+  lowered n (t.naming x e) = lowered n e
   lowered n (t.make family constructor args) = made_by family constructor (lowered_args n args) (targets_of n args)
   lowered n (t.assign x ty e) = lowered_store n x (lowered n e)
   lowered n (t.compound x ty op at e) = lowered_change n x (compound_of ty op at) (lowered n e)

@@ -6,6 +6,7 @@ ghost use Rattle.ang_lower.specs.Plain.{plain_body, plain_stmt};
 ghost use Rattle.ang_lower.specs.Lowered as spec;
 ghost use Rattle.ang_lower.specs.Same.{LowersProgram, KeepsSound};
 
+use crate::positions::core_positions;
 use crate::statements::lower_block;
 use crate::{lower_expression, store};
 use ang_core::{CoreBody, CoreStatement};
@@ -89,6 +90,7 @@ fn function_body(alloc: Global, function: &TypedFunction) -> Result<CoreBody, Al
         ≡ spec.lowered_function (view_function function.now)) }
 {
     let parameters = function.parameters.as_slice();
+    let positions = core_positions(alloc, &function.body, function.positions.as_slice())?;
     let params = passings(alloc, parameters)?;
     let mut alive = bytes_for(alloc, parameters)?;
     let statement = lower_block(alloc, &mut alive, &function.body)?;
@@ -96,6 +98,7 @@ fn function_body(alloc: Global, function: &TypedFunction) -> Result<CoreBody, Al
         params,
         result: primitive_of(function.result),
         statement,
+        positions,
     })
 }
 
@@ -117,6 +120,7 @@ fn initializer_body(
         params: Vec::new(alloc),
         result: None,
         statement: CoreStatement::Evaluate(Box::new(alloc, whole)?),
+        positions: Vec::new(alloc),
     })
 }
 

@@ -8,7 +8,7 @@ ghost use Rattle.ang_lower.specs.LoweredExpr as spec;
 
 use crate::build_expr::{CoreOperands, add_operand, apply, binary, call, choice, nullary, unary};
 use crate::folding::{complement, conversion, denial, negation};
-use crate::operators::{arithmetic, compound, step, test};
+use crate::operators::{compound, step};
 use crate::variables::{altering, change, read, reading, store, targets, writing};
 use ang_core::CoreExpression;
 use ang_meaning::{Callee, Operation, Update};
@@ -39,7 +39,8 @@ pub fn lower_expression(
         | typed::TypedExpression::Negate { .. }
         | typed::TypedExpression::Complement { .. }
         | typed::TypedExpression::Not { .. }
-        | typed::TypedExpression::Cast { .. } => lower_unary(alloc, alive, e),
+        | typed::TypedExpression::Cast { .. }
+        | typed::TypedExpression::Naming { .. } => lower_unary(alloc, alive, e),
         typed::TypedExpression::Operate { .. }
         | typed::TypedExpression::Compare { .. }
         | typed::TypedExpression::Same { .. } => lower_binary(alloc, alive, e),
@@ -70,7 +71,7 @@ fn lower_read(alloc: Global, alive: usize, site: &TypedSite) -> Result<CoreExpre
     }
 }
 
-/// A conversion or a cast, or an operator on one operand.
+/// A conversion or a cast, an operator on one operand, or an operand in which an entry is named.
 #[cycle(expression)]
 fn lower_unary(
     alloc: Global,
@@ -101,6 +102,7 @@ fn lower_unary(
             let operand = lower_expression(alloc, alive, operand)?;
             unary(alloc, Operation::Cast(*family), operand)
         }
+        typed::TypedExpression::Naming { operand, .. } => lower_expression(alloc, alive, operand),
         _ => unreachable!(),
     }
 }
@@ -124,7 +126,7 @@ fn lower_binary(
         } => {
             let left = lower_expression(alloc, alive, left)?;
             let right = lower_expression(alloc, alive, right)?;
-            let operation = Operation::Binary(arithmetic(*operator), *ty);
+            let operation = Operation::Binary(*operator, *ty);
             binary(alloc, operation, CoreOperands { left, right })
         }
         typed::TypedExpression::Compare {
@@ -135,7 +137,7 @@ fn lower_binary(
         } => {
             let left = lower_expression(alloc, alive, left)?;
             let right = lower_expression(alloc, alive, right)?;
-            let operation = Operation::Compare(test(*comparison), is_signed(*ty));
+            let operation = Operation::Compare(*comparison, is_signed(*ty));
             binary(alloc, operation, CoreOperands { left, right })
         }
         typed::TypedExpression::Same { left, right } => {

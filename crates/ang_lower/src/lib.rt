@@ -13,6 +13,7 @@ mod folding;
 mod hosts;
 pub mod laws;
 mod operators;
+mod positions;
 mod statements;
 mod variables;
 

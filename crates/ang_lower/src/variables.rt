@@ -66,7 +66,7 @@ pub fn altering(member: &TypedMember, by: Update) -> Operation
     ensures exact { result ≡ spec.altering member.now by }
 {
     match member {
-        TypedMember::Field(i) => Operation::FieldChange(*i, by),
+        TypedMember::Field(i) => Operation::FieldChange(by, *i),
         TypedMember::Property(host) => Operation::Alter(host.entity, by),
     }
 }
@@ -132,9 +132,9 @@ pub fn change(
             let value = Box::new(alloc, value)?;
             Ok(CoreExpression::Update(place, by, value))
         }
-        TypedVariable::Global(g) => unary(alloc, Operation::GlobalChange(*g, by), value),
+        TypedVariable::Global(g) => unary(alloc, Operation::GlobalChange(by, *g), value),
         TypedVariable::Property(host) => unary(alloc, Operation::Alter(host.entity, by), value),
-        TypedVariable::Field(i) => with_this(alloc, alive, Operation::FieldChange(*i, by), value),
+        TypedVariable::Field(i) => with_this(alloc, alive, Operation::FieldChange(by, *i), value),
     }
 }
 

@@ -20,8 +20,8 @@ use Rattle.ang_meaning.specs.declared.slot.Slot.{Slot}
 use Rattle.ang_meaning.specs.declared.slot.Slot.TheVariants.{Bits, Script, Host}
 use Rattle.ang_meaning.specs.declared.host.HostValueType.{HostValueType}
 use Rattle.ang_meaning.specs.declared.host.HostValueType.TheVariants.{Nothing}
-use Rattle.ang_meaning.specs.declared.operation.Arithmetic.{Arithmetic}
-use Rattle.ang_meaning.specs.declared.operation.Arithmetic.TheVariants.{Add, Subtract, Multiply, Divide, Remainder, And, Or, Xor, ShiftLeft, ShiftRight, ShiftSigned}
+use Rattle.ang_kinds.specs.declared.operator.Operator.{Operator}
+use Rattle.ang_kinds.specs.declared.operator.Operator.TheVariants.{Divide, Remainder}
 use Rattle.ang_meaning.specs.declared.operation.Update.{Update}
 use Rattle.ang_meaning.specs.declared.operation.Operation.{Operation}
 use Rattle.ang_meaning.specs.declared.operation.Operation.TheVariants.{Binary, Compare, Convert, Negate, Complement, Not, Same, GlobalGet, GlobalSet, GlobalChange, Ask, Read, Write, Alter, Make, FieldGet, FieldSet, FieldChange, Cast}
@@ -224,19 +224,11 @@ divided_otherwise p x (pos (suc n)) r = tt
 divided_otherwise p x (negsuc zero) r = quotient_otherwise (int_le x (least p)) _
 divided_otherwise p x (negsuc (suc n)) r = tt
 
-works_otherwise : (a : Arithmetic) (p : Primitive) (x y : ℕ) → WorksOtherwise (binary_result a p x y)
+works_otherwise : (a : Operator) (p : Primitive) (x y : ℕ) → WorksOtherwise (binary_result a p x y)
 unfolding binary_result
-works_otherwise Add p x y = tt
-works_otherwise Subtract p x y = tt
-works_otherwise Multiply p x y = tt
 works_otherwise Divide p x y = divided_otherwise p (number_of p x) (number_of p y) _
 works_otherwise Remainder p x y = divided_otherwise p (number_of p x) (number_of p y) _
-works_otherwise And p x y = tt
-works_otherwise Or p x y = tt
-works_otherwise Xor p x y = tt
-works_otherwise ShiftLeft p x y = tt
-works_otherwise ShiftRight p x y = tt
-works_otherwise ShiftSigned p x y = tt
+works_otherwise _ p x y = tt
 
 abbrev pub ChangesOtherwise : Changed → Type 0
 ChangesOtherwise (Into a b) = Unit {0}
@@ -248,7 +240,7 @@ changed_to_otherwise c x (Is n) h = tt
 
 changed_otherwise : (c : Update) (x y : ℕ) → ChangesOtherwise (changed c x y)
 unfolding changed
-changed_otherwise c x y = changed_to_otherwise c x (binary_result c.work c.at (converted c.at x) y) (works_otherwise c.work c.at (converted c.at x) y)
+changed_otherwise c x y = changed_to_otherwise c x (binary_result c.operator c.at (converted c.at x) y) (works_otherwise c.operator c.at (converted c.at x) y)
 
 pub changes_otherwise : (c : Update) (u v : Slot) → ChangesOtherwise (change_of c u v)
 unfolding change_of
@@ -444,10 +436,10 @@ perform_tally z m (GlobalSet g) [] w = misfit (RefusesFullCount w) w
 perform_tally z m (GlobalSet g) (v ∷ []) w =
     stored_tally (RefusesFullCount w) w (hold v w) (λ u. v) (λ u. give (global_or m g v u) (global_put m g v u)) (hold_tally v w)
 perform_tally z m (GlobalSet g) (v ∷ (u ∷ us)) w = misfit (RefusesFullCount w) w
-perform_tally z m (GlobalChange g c) [] w = misfit (RefusesFullCount w) w
-perform_tally z m (GlobalChange g c) (v ∷ []) w =
+perform_tally z m (GlobalChange c g) [] w = misfit (RefusesFullCount w) w
+perform_tally z m (GlobalChange c g) (v ∷ []) w =
     global_tally (RefusesFullCount w) m g (change_of c (global_or m g (Bits 0) w) v) w (changes_otherwise c (global_or m g (Bits 0) w) v)
-perform_tally z m (GlobalChange g c) (v ∷ (u ∷ us)) w = misfit (RefusesFullCount w) w
+perform_tally z m (GlobalChange c g) (v ∷ (u ∷ us)) w = misfit (RefusesFullCount w) w
 perform_tally z m (Ask e) vs w =
     up_tally (RefusesFullCount w) vs w _ (called_tally (RefusesFullCount w) z m e (receiver_of (use_at z m e) (reverse vs)) (arguments_of (use_at z m e) (reverse vs)) w)
 perform_tally z m (Read e) vs w = up_tally (RefusesFullCount w) vs w _ (read_tally (RefusesFullCount w) z m e (receiver_of (use_at z m e) vs) w)
@@ -481,14 +473,14 @@ perform_tally z m (FieldSet i) (Script (Some n) ∷ (v ∷ [])) w =
     up_tally (RefusesFullCount w) (Script (Some n) ∷ []) w _ (may_store_tally (may_take n v w) n i v w)
 perform_tally z m (FieldSet i) (Script (Some n) ∷ (v ∷ (u ∷ us))) w = misfit (RefusesFullCount w) w
 perform_tally z m (FieldSet i) (Host d j ∷ us) w = misfit (RefusesFullCount w) w
-perform_tally z m (FieldChange i c) [] w = misfit (RefusesFullCount w) w
-perform_tally z m (FieldChange i c) (Bits x ∷ us) w = misfit (RefusesFullCount w) w
-perform_tally z m (FieldChange i c) (Script None ∷ us) w = misfit (RefusesFullCount w) w
-perform_tally z m (FieldChange i c) (Script (Some n) ∷ []) w = misfit (RefusesFullCount w) w
-perform_tally z m (FieldChange i c) (Script (Some n) ∷ (v ∷ [])) w =
+perform_tally z m (FieldChange c i) [] w = misfit (RefusesFullCount w) w
+perform_tally z m (FieldChange c i) (Bits x ∷ us) w = misfit (RefusesFullCount w) w
+perform_tally z m (FieldChange c i) (Script None ∷ us) w = misfit (RefusesFullCount w) w
+perform_tally z m (FieldChange c i) (Script (Some n) ∷ []) w = misfit (RefusesFullCount w) w
+perform_tally z m (FieldChange c i) (Script (Some n) ∷ (v ∷ [])) w =
     up_tally (RefusesFullCount w) (Script (Some n) ∷ []) w _ (field_tally (RefusesFullCount w) n i (change_of c (field_or n i (Bits 0) w) v) w (changes_otherwise c (field_or n i (Bits 0) w) v))
-perform_tally z m (FieldChange i c) (Script (Some n) ∷ (v ∷ (u ∷ us))) w = misfit (RefusesFullCount w) w
-perform_tally z m (FieldChange i c) (Host d j ∷ us) w = misfit (RefusesFullCount w) w
+perform_tally z m (FieldChange c i) (Script (Some n) ∷ (v ∷ (u ∷ us))) w = misfit (RefusesFullCount w) w
+perform_tally z m (FieldChange c i) (Host d j ∷ us) w = misfit (RefusesFullCount w) w
 perform_tally z m (Cast c) [] w = misfit (RefusesFullCount w) w
 perform_tally z m (Cast c) (Bits x ∷ us) w = misfit (RefusesFullCount w) w
 perform_tally z m (Cast c) (Script None ∷ []) w = tt

@@ -298,14 +298,14 @@ unfoldable pub perform_or : Fault → Environment → ℕ → Operation → List
 perform_or f z m (Binary a p) (Bits y ∷ Bits x ∷ []) w = work_done (binary_result a p x y) w
 perform_or f z m (GlobalGet g) [] w = holding (global_or m g (Bits 0) w) w
 perform_or f z m (GlobalSet g) (v ∷ []) w = or_else (hold v w) (Fails Tally) (stored_global m g v)
-perform_or f z m (GlobalChange g c) (v ∷ []) w = changed_global m g (change_or f c (global_or m g (Bits 0) w) v) w
+perform_or f z m (GlobalChange c g) (v ∷ []) w = changed_global m g (change_or f c (global_or m g (Bits 0) w) v) w
 perform_or f z m (FieldGet i) (Script None ∷ []) w = Fails Null w
 perform_or f z m (FieldGet i) (Script (Some n) ∷ []) w = gives_up (Script (Some n) ∷ []) (holding (field_or n i (Bits 0) w) w)
 perform_or f z m (FieldSet i) (Script None ∷ v ∷ []) w = Fails Null w
 perform_or f z m (FieldSet i) (Script (Some n) ∷ v ∷ []) w =
     gives_up (Script (Some n) ∷ []) (if may_take n v w then (or_else (hold v w) (Fails Tally) (stored_field n i v)) else (Fails f w))
-perform_or f z m (FieldChange i c) (Script None ∷ v ∷ []) w = Fails Null w
-perform_or f z m (FieldChange i c) (Script (Some n) ∷ v ∷ []) w =
+perform_or f z m (FieldChange c i) (Script None ∷ v ∷ []) w = Fails Null w
+perform_or f z m (FieldChange c i) (Script (Some n) ∷ v ∷ []) w =
     gives_up (Script (Some n) ∷ []) (changed_field n i (change_or f c (field_or n i (Bits 0) w) v) w)
 perform_or f z m _ _ w = Fails f w
 
@@ -350,7 +350,7 @@ module _ (z : Environment) (t : Owners) (f : Fault) (m : ℕ) where
 
   -- a field that is a number is changed
   pub change_fits_field : (c i : ℕ) (ch : Update) (o v : Slot) (w : World) → AreClasses z t → AreTyped z t w.objects → HasType z t w.objects m (Family c) o → slice_get (t.fields m c) i ≡ Some Number → HasType z t w.objects m Number v
-      → IsHere w o → perform_or f z m (FieldChange i ch) (o ∷ v ∷ []) w ≡ perform z m (FieldChange i ch) (o ∷ v ∷ []) w
+      → IsHere w o → perform_or f z m (FieldChange ch i) (o ∷ v ∷ []) w ≡ perform z m (FieldChange ch i) (o ∷ v ∷ []) w
   unfolding perform perform_or
   change_fits_field c i ch (Bits n) v w a h r e q here = absurd r
   change_fits_field c i ch (Script None) v w a h r e q here = refl

@@ -4,8 +4,8 @@ use Rattle.std.specs.Prelude.{true, false, Some, None}
 use Rattle.std.specs.Int.{int_wrap}
 use Rattle.ang_kinds.specs.declared.primitive.Primitive.TheVariants.{I8, I32, I64, U8, U32, U64}
 use Rattle.ang_kinds.specs.declared.fault.Fault.TheVariants.{DivideByZero, DivideOverflow}
-use Rattle.ang_meaning.specs.declared.operation.Arithmetic.TheVariants.{Add, Divide, Remainder, And, ShiftLeft, ShiftRight, ShiftSigned}
-use Rattle.ang_meaning.specs.declared.operation.Comparison.TheVariants.{Less}
+use Rattle.ang_kinds.specs.declared.operator.Operator.TheVariants.{Add, Divide, Remainder, BitAnd, ShiftLeft, ShiftRight, ShiftRightArithmetic}
+use Rattle.ang_kinds.specs.declared.operator.Comparison.TheVariants.{Less}
 use Rattle.ang_meaning.specs.declared.slot.Slot.TheVariants.{Script, Host}
 use Rattle.ang_meaning.specs.Environment.{is_null}
 use Rattle.ang_meaning.specs.Perform.{is_same}
@@ -20,7 +20,7 @@ zeros : binary_result ShiftRight I32 (minus 8) 1 ≡ Is 2147483644
 unfolding binary_result int_wrap
 zeros = refl
 
-sign : binary_result ShiftSigned I32 (minus 8) 1 ≡ Is (minus 4)
+sign : binary_result ShiftRightArithmetic I32 (minus 8) 1 ≡ Is (minus 4)
 unfolding binary_result int_wrap
 sign = refl
 
@@ -47,7 +47,7 @@ unfolding binary_result int_wrap
 by_zero = refl
 
 -- uint8 255 and one more is 0; 200 as int8 is -56
-up : changed (record { work = Add; at = I32; to = U8; old = false }) 255 1 ≡ Into 0 0
+up : changed (record { operator = Add; at = I32; to = U8; old = false }) 255 1 ≡ Into 0 0
 unfolding changed binary_result int_wrap
 up = refl
 
@@ -61,7 +61,7 @@ unfolding binary_result int_wrap
 sum = refl
 
 -- 6 & 3, then compared with 2
-both : binary_result And I32 6 3 ≡ Is 2
+both : binary_result BitAnd I32 6 3 ≡ Is 2
 unfolding binary_result
 both = refl
 

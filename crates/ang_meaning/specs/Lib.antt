@@ -4,6 +4,7 @@ pub mod Environment
 pub mod Hosts
 pub mod Perform
 pub mod Results
+pub mod Bodies
 pub mod Told
 pub mod Counting
 pub mod Giving

@@ -5,10 +5,10 @@ use Rattle.ang_kinds.specs.declared.primitive.Primitive.{Primitive}
 use Rattle.ang_kinds.specs.declared.primitive.Primitive.TheVariants.{I8, I16, I32, I64, U8, U16, U32, U64, Bool as Truth}
 use Rattle.ang_kinds.specs.declared.fault.Fault.{Fault}
 use Rattle.ang_kinds.specs.declared.fault.Fault.TheVariants.{DivideByZero, DivideOverflow}
-use Rattle.ang_meaning.specs.declared.operation.Arithmetic.{Arithmetic}
-use Rattle.ang_meaning.specs.declared.operation.Arithmetic.TheVariants.{Add, Subtract, Multiply, Divide, Remainder, And, Or, Xor, ShiftLeft, ShiftRight, ShiftSigned}
-use Rattle.ang_meaning.specs.declared.operation.Comparison.{Comparison}
-use Rattle.ang_meaning.specs.declared.operation.Comparison.TheVariants.{Equal, Unequal, Less, LessEqual, Greater, GreaterEqual}
+use Rattle.ang_kinds.specs.declared.operator.Operator.{Operator}
+use Rattle.ang_kinds.specs.declared.operator.Operator.TheVariants.{Add, Subtract, Multiply, Divide, Remainder, BitAnd, BitOr, BitXor, ShiftLeft, ShiftRight, ShiftRightArithmetic}
+use Rattle.ang_kinds.specs.declared.operator.Comparison.{Comparison}
+use Rattle.ang_kinds.specs.declared.operator.Comparison.TheVariants.{Equal, NotEqual, Less, LessEqual, Greater, GreaterEqual}
 use Rattle.ang_meaning.specs.declared.operation.Update.{Update}
 
 abbrev pub is_signed : Primitive → Bool
@@ -88,18 +88,18 @@ divided p x (negsuc (suc n)) result = Is (bits_of p result)
 
 -- A binary operator in a type. A shift's count is taken modulo the width; `>>` fills zeros into the type's bits, and `>>>` divides by the power of 2,
 -- rounding down, which copies the sign.
-unfoldable pub binary_result : Arithmetic → Primitive → ℕ → ℕ → Worked
+unfoldable pub binary_result : Operator → Primitive → ℕ → ℕ → Worked
 binary_result Add p x y = Is (bits_of p (number_of p x +ℤ number_of p y))
 binary_result Subtract p x y = Is (bits_of p (number_of p x -ℤ number_of p y))
 binary_result Multiply p x y = Is (bits_of p (number_of p x *ℤ number_of p y))
 binary_result Divide p x y = divided p (number_of p x) (number_of p y) (int_div (number_of p x) (number_of p y))
 binary_result Remainder p x y = divided p (number_of p x) (number_of p y) (int_rem (number_of p x) (number_of p y))
-binary_result And p x y = Is (bit_and x y)
-binary_result Or p x y = Is (bit_or x y)
-binary_result Xor p x y = Is (bit_xor x y)
+binary_result BitAnd p x y = Is (bit_and x y)
+binary_result BitOr p x y = Is (bit_or x y)
+binary_result BitXor p x y = Is (bit_xor x y)
 binary_result ShiftLeft p x y = Is (bits_of p (pos (x * 2 ^ (y % width_of p))))
 binary_result ShiftRight p x y = Is (bits_of p (pos (x % 2 ^ width_of p / 2 ^ (y % width_of p))))
-binary_result ShiftSigned p x y = Is (bits_of p (int_div_euclid (number_of p x) (pos (2 ^ (y % width_of p)))))
+binary_result ShiftRightArithmetic p x y = Is (bits_of p (int_div_euclid (number_of p x) (pos (2 ^ (y % width_of p)))))
 
 -- 1 where it holds, and else 0
 abbrev pub truth : Bool → ℕ
@@ -108,7 +108,7 @@ truth false = 0
 
 abbrev pub compared : Comparison → ℤ → ℤ → ℕ → ℕ → Bool
 compared Equal x y m n = nat_eq m n
-compared Unequal x y m n = not (nat_eq m n)
+compared NotEqual x y m n = not (nat_eq m n)
 compared Less x y m n = int_lt x y
 compared LessEqual x y m n = int_le x y
 compared Greater x y m n = int_lt y x
@@ -139,4 +139,4 @@ changed_to c x (Is n) = Into (converted c.to n) (if c.old then x else converted 
 
 -- a variable's value x changed by y
 unfoldable pub changed : Update → ℕ → ℕ → Changed
-changed c x y = changed_to c x (binary_result c.work c.at (converted c.at x) y)
+changed c x y = changed_to c x (binary_result c.operator c.at (converted c.at x) y)

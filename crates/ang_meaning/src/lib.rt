@@ -12,6 +12,6 @@ mod slot;
 
 pub use class::{Class, ValueKind};
 pub use host::{HostUse, HostValueType};
-pub use operation::{Arithmetic, Comparison, Operation, Update};
+pub use operation::{Operation, Update};
 pub use routine::{Callee, Passing, Routine, Spot, Target};
 pub use slot::Slot;

@@ -1,56 +1,12 @@
 //! Strict operations: they take the values of their operands, and do not run where one of these fails.
-use ang_kinds::{EntityNo, Prim};
-
-/// What a binary operator on two integers computes (the AngelScript manual, "Expressions").
-#[derive(Clone, Copy, PartialEq, Eq)]
-pub enum Arithmetic {
-    /// `+`, which wraps.
-    Add,
-    /// `-`, which wraps.
-    Subtract,
-    /// `*`, which wraps.
-    Multiply,
-    /// `/`, truncated toward zero.
-    Divide,
-    /// `%`, with the sign of the first operand.
-    Remainder,
-    /// `&`
-    And,
-    /// `|`
-    Or,
-    /// `^`
-    Xor,
-    /// `<<`
-    ShiftLeft,
-    /// `>>`, which fills zeros.
-    ShiftRight,
-    /// `>>>`, which copies the sign of a signed number and fills zeros into an unsigned one.
-    ShiftSigned,
-}
-
-/// What a comparison of two numbers tests.
-#[derive(Clone, Copy)]
-pub enum Comparison {
-    /// `==`
-    Equal,
-    /// `!=`, and `xor` of truth values.
-    Unequal,
-    /// `<`
-    Less,
-    /// `<=`
-    LessEqual,
-    /// `>`
-    Greater,
-    /// `>=`
-    GreaterEqual,
-}
+use ang_kinds::{Comparison, EntityNo, Operator, Prim};
 
 /// How a variable changes by an operand, in a compound assignment, `++` or `--`: its value is brought
 /// to the type `at`, the operation is done there, and the result is brought to the variable's type `to`.
 #[derive(Clone, Copy, PartialEq, Eq)]
 pub struct Update {
-    /// The operation, whose first operand is the variable.
-    pub work: Arithmetic,
+    /// The operator, whose first operand is the variable.
+    pub operator: Operator,
     /// The type in which it is done.
     pub at: Prim,
     /// The variable's type.
@@ -63,7 +19,7 @@ pub struct Update {
 #[derive(Clone, Copy)]
 pub enum Operation {
     /// A binary operator on integers, done in that type.
-    Binary(Arithmetic, Prim),
+    Binary(Operator, Prim),
     /// A comparison; the flag says whether the numbers are of a signed type.
     Compare(Comparison, bool),
     /// The conversion of a number to that type, which keeps the low bits.
@@ -81,7 +37,7 @@ pub enum Operation {
     /// Stores the operand into a global of the running module; its value is what was stored.
     GlobalSet(usize),
     /// Changes a global of the running module by the operand.
-    GlobalChange(usize, Update),
+    GlobalChange(Update, usize),
     /// Calls a host function or method, or makes a host object by a factory. A receiver is the first
     /// operand.
     Ask(EntityNo),
@@ -100,10 +56,10 @@ pub enum Operation {
     /// stored.
     FieldSet(usize),
     /// Changes a field of the second operand, which is the object, by the first.
-    FieldChange(usize, Update),
+    FieldChange(Update, usize),
     /// The operand, where it is null or its class stands under that class, and else null.
     Cast(usize),
 }
 
-/// An operation stays small, since most instructions have one.
-const _: () = prove!(std::mem::size_of::<Operation>() <= 24);
+/// An operation stays small, since most instructions have one: with the `Update` in front of a number it has 16 bytes.
+const _: () = prove!(std::mem::size_of::<Operation>() <= 16);

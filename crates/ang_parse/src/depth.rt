@@ -4,7 +4,8 @@ ghost use Rattle.ang_tree.specs.Depth as depth;
 ghost use Rattle.ang_parse.specs.Faults.{place_at};
 
 use ang_kinds::Place;
-use ang_lex::{Token, TokenKind};
+use ang_lex::{Token, TokenKind, binary_operator};
+use ang_parse_expr::{is_assignment, is_prefix};
 
 /// The most of `(` and `{` that may be open.
 const MOST_OPEN: u32 = 64;
@@ -25,9 +26,9 @@ fn opened(brackets: u32, kind: TokenKind) -> u32
     }
 }
 
-/// Whether the token is an operator, or one of the words `if else while for do not and or xor is`.
-fn is_counted(kind: TokenKind) -> bool
-    ensures exact { result ≡ depth.counts kind }
+/// Whether the token is counted as operators are, and none: `?`, `.`, and the words `if else while for do`.
+fn is_counted_besides(kind: TokenKind) -> bool
+    ensures exact { result ≡ depth.counts_besides kind }
 {
     matches!(
         kind,
@@ -36,48 +37,19 @@ fn is_counted(kind: TokenKind) -> bool
             | TokenKind::While
             | TokenKind::For
             | TokenKind::Do
-            | TokenKind::Is
-            | TokenKind::NotIs
-            | TokenKind::And
-            | TokenKind::Or
-            | TokenKind::Xor
-            | TokenKind::Not
-            | TokenKind::ShiftRightArithmeticAssign
-            | TokenKind::ShiftLeftAssign
-            | TokenKind::ShiftRightAssign
-            | TokenKind::ShiftRightArithmetic
-            | TokenKind::ShiftLeft
-            | TokenKind::ShiftRight
-            | TokenKind::LessEqual
-            | TokenKind::GreaterEqual
-            | TokenKind::Equal
-            | TokenKind::NotEqual
-            | TokenKind::Increment
-            | TokenKind::Decrement
-            | TokenKind::PlusAssign
-            | TokenKind::MinusAssign
-            | TokenKind::StarAssign
-            | TokenKind::SlashAssign
-            | TokenKind::PercentAssign
-            | TokenKind::AmpersandAssign
-            | TokenKind::PipeAssign
-            | TokenKind::CaretAssign
-            | TokenKind::Plus
-            | TokenKind::Minus
-            | TokenKind::Star
-            | TokenKind::Slash
-            | TokenKind::Percent
-            | TokenKind::Ampersand
-            | TokenKind::Pipe
-            | TokenKind::Caret
-            | TokenKind::Tilde
-            | TokenKind::Less
-            | TokenKind::Greater
-            | TokenKind::Assign
             | TokenKind::Question
             | TokenKind::Dot
-            | TokenKind::At
     )
+}
+
+/// Whether the token is an operator, or one of the words `if else while for do not and or xor is`.
+fn is_counted(kind: TokenKind) -> bool
+    ensures exact { result ≡ depth.counts kind }
+{
+    binary_operator(kind).is_some()
+        || is_assignment(kind)
+        || is_prefix(kind)
+        || is_counted_besides(kind)
 }
 
 /// Whether operators are counted anew after the token: `;`, `{` and `}`.

@@ -70,43 +70,24 @@ gap (t ∷ u) h = gap_by t.kind h
 -- a binary operator grips by its precedence
 pub grip_operator : (kind : TokenKind) → 1 ≤ precedence kind → grip_of kind ≡ suc (precedence kind)
 grip_operator k.Or h = refl
-grip_operator k.And h = refl
-grip_operator k.Equal h = refl
-grip_operator k.NotEqual h = refl
-grip_operator k.Is h = refl
-grip_operator k.NotIs h = refl
-grip_operator k.Xor h = refl
-grip_operator k.Less h = refl
-grip_operator k.LessEqual h = refl
-grip_operator k.Greater h = refl
-grip_operator k.GreaterEqual h = refl
-grip_operator k.Pipe h = refl
-grip_operator k.Caret h = refl
-grip_operator k.Ampersand h = refl
-grip_operator k.ShiftLeft h = refl
-grip_operator k.ShiftRight h = refl
-grip_operator k.ShiftRightArithmetic h = refl
-grip_operator k.Plus h = refl
-grip_operator k.Minus h = refl
-grip_operator k.Star h = refl
-grip_operator k.Slash h = refl
-grip_operator k.Percent h = refl
-grip_operator _ h = absurd (omega arith)
+grip_operator _ h = omega arith
+
+looser_assignment : (is : Bool) (p : ℕ) → is ≡ true → looser is p ≤ 1
+looser_assignment true p h = omega arith
+looser_assignment false p h = absurd cc
 
 grip_assignment : (kind : TokenKind) → assignment_kind kind ≡ true → grip_of kind ≤ 1
-grip_assignment k.Assign h = omega arith
-grip_assignment k.PlusAssign h = omega arith
-grip_assignment k.MinusAssign h = omega arith
-grip_assignment k.StarAssign h = omega arith
-grip_assignment k.SlashAssign h = omega arith
-grip_assignment k.PercentAssign h = omega arith
-grip_assignment k.AmpersandAssign h = omega arith
-grip_assignment k.PipeAssign h = omega arith
-grip_assignment k.CaretAssign h = omega arith
-grip_assignment k.ShiftLeftAssign h = omega arith
-grip_assignment k.ShiftRightAssign h = omega arith
-grip_assignment k.ShiftRightArithmeticAssign h = omega arith
-grip_assignment _ h = absurd cc
+grip_assignment k.LeftParen h = absurd cc
+grip_assignment k.Scope h = absurd cc
+grip_assignment k.Increment h = absurd cc
+grip_assignment k.Decrement h = absurd cc
+grip_assignment k.Dot h = absurd cc
+grip_assignment k.Question h = absurd cc
+grip_assignment kind h = looser_assignment (assignment_kind kind) (precedence kind) h
+
+pub no_assignment : (is : Bool) (p : ℕ) → looser is p ≤ 0 → is ≡ false
+no_assignment true p h = absurd (omega arith)
+no_assignment false p h = refl
 
 pub low_assignment : (op : Token) (u : List Token) → IsA assignment_kind op → grip (op ∷ u) ≤ 1
 low_assignment op u h = grip_assignment op.kind h

@@ -11,7 +11,7 @@ use Rattle.ang_parse_read.specs.Tokens.{is_name, is_left_paren, is_right_paren, 
 use Rattle.ang_parse_read.proofs.Tokens.{look_is, look_at, a_token_is, begins}
 use Rattle.ang_parse_expr.specs.ReadType.{a_type}
 use Rattle.ang_parse_expr.specs.ReadExpr as r
-use Rattle.ang_parse_expr.proofs.Grip.{grip, grip_of, opens, opens_by, not_bound, bound}
+use Rattle.ang_parse_expr.proofs.Grip.{grip, grip_of, opens, opens_by, not_bound, bound, no_assignment}
 
 abbrev pub is_comma : TokenKind → Bool
 is_comma k.Comma = true
@@ -232,19 +232,12 @@ module _ (e : ℕ → Parser Tree) (n : ℕ) where
 
   tail_stops_by : (x : Tree) (kind : TokenKind) → grip_of kind ≤ 0 → r.tail_by e n x kind ≡ None
   tail_stops_by x k.Question h = absurd (omega arith)
-  tail_stops_by x k.Assign h = absurd (omega arith)
-  tail_stops_by x k.PlusAssign h = absurd (omega arith)
-  tail_stops_by x k.MinusAssign h = absurd (omega arith)
-  tail_stops_by x k.StarAssign h = absurd (omega arith)
-  tail_stops_by x k.SlashAssign h = absurd (omega arith)
-  tail_stops_by x k.PercentAssign h = absurd (omega arith)
-  tail_stops_by x k.AmpersandAssign h = absurd (omega arith)
-  tail_stops_by x k.PipeAssign h = absurd (omega arith)
-  tail_stops_by x k.CaretAssign h = absurd (omega arith)
-  tail_stops_by x k.ShiftLeftAssign h = absurd (omega arith)
-  tail_stops_by x k.ShiftRightAssign h = absurd (omega arith)
-  tail_stops_by x k.ShiftRightArithmeticAssign h = absurd (omega arith)
-  tail_stops_by x _ h = refl
+  tail_stops_by x k.LeftParen h = refl
+  tail_stops_by x k.Scope h = refl
+  tail_stops_by x k.Increment h = refl
+  tail_stops_by x k.Decrement h = refl
+  tail_stops_by x k.Dot h = refl
+  tail_stops_by x kind h = ap (λ is. given is (r.assigned e n x)) (no_assignment (assignment_kind kind) (precedence kind) h)
 
   pub tail_stops : (x : Tree) (ts : List Token) → grip ts ≤ 0 → r.tail e n x ts ≡ Ok (x, ts)
   unfolding r.tail
@@ -272,19 +265,8 @@ module _ (e : ℕ → Parser Tree) (n : ℕ) where
   assigned_done c b op ts us h = ap (λ v. and_then v (λ b. pure (assignment c op b))) h
 
   assignment_by : (c : Tree) (kind : TokenKind) → assignment_kind kind ≡ true → r.tail_by e n c kind ≡ Some (r.assigned e n c)
-  assignment_by c k.Assign h = refl
-  assignment_by c k.PlusAssign h = refl
-  assignment_by c k.MinusAssign h = refl
-  assignment_by c k.StarAssign h = refl
-  assignment_by c k.SlashAssign h = refl
-  assignment_by c k.PercentAssign h = refl
-  assignment_by c k.AmpersandAssign h = refl
-  assignment_by c k.PipeAssign h = refl
-  assignment_by c k.CaretAssign h = refl
-  assignment_by c k.ShiftLeftAssign h = refl
-  assignment_by c k.ShiftRightAssign h = refl
-  assignment_by c k.ShiftRightArithmeticAssign h = refl
-  assignment_by c _ h = absurd cc
+  assignment_by c k.Question h = absurd cc
+  assignment_by c kind h = ap (λ is. given is (r.assigned e n c)) h
 
   assignment_at : (c : Tree) (op : Token) (ts : List Token) → IsA assignment_kind op → r.tail e n c (op ∷ ts) ≡ r.assigned e n c op ts
   unfolding r.tail

@@ -3,7 +3,7 @@ ghost use Rattle.std.specs.Prelude.{◌≡◌, ◌≤◌};
 ghost use Rattle.ang_tree.specs.Kinds as kinds;
 ghost use Rattle.ang_parse_expr.specs.ReadExpr as read;
 
-use ang_lex::TokenKind;
+use ang_lex::{TokenKind, binary_operator, compound_operator};
 
 /// Whether the token is a literal: a number, `true`, `false`, `null` or `this`.
 pub(crate) fn is_literal(kind: TokenKind) -> bool
@@ -26,7 +26,7 @@ pub fn is_type_name(kind: TokenKind) -> bool
 }
 
 /// Whether the token is an operator in front of an operand: `!`, `-`, `+`, `~`, `@`, `++` or `--`.
-pub(crate) fn is_prefix(kind: TokenKind) -> bool
+pub fn is_prefix(kind: TokenKind) -> bool
     ensures exact { result ≡ kinds.prefix_kind kind }
 {
     matches!(
@@ -49,24 +49,16 @@ pub(crate) fn is_step(kind: TokenKind) -> bool
 }
 
 /// Whether the token is `=` or a compound assignment.
-pub(crate) fn is_assignment(kind: TokenKind) -> bool
+pub fn is_assignment(kind: TokenKind) -> bool
     ensures exact { result ≡ kinds.assignment_kind kind }
 {
-    matches!(
-        kind,
-        TokenKind::Assign
-            | TokenKind::PlusAssign
-            | TokenKind::MinusAssign
-            | TokenKind::StarAssign
-            | TokenKind::SlashAssign
-            | TokenKind::PercentAssign
-            | TokenKind::AmpersandAssign
-            | TokenKind::PipeAssign
-            | TokenKind::CaretAssign
-            | TokenKind::ShiftLeftAssign
-            | TokenKind::ShiftRightAssign
-            | TokenKind::ShiftRightArithmeticAssign
-    )
+    is_plain_assignment(kind) || compound_operator(kind).is_some()
+}
+
+fn is_plain_assignment(kind: TokenKind) -> bool
+    ensures exact { result ≡ kinds.plain_assignment_kind kind }
+{
+    matches!(kind, TokenKind::Assign)
 }
 
 /// How tightly a binary operator binds, from 1 for `||` to 10 for `*`; 0 for any other token.
@@ -74,22 +66,9 @@ pub(crate) fn precedence(kind: TokenKind) -> u32
     ensures value { result ≡ kinds.precedence kind }
     ensures bound { result ≤ 10 }
 {
-    match kind {
-        TokenKind::Or => 1,
-        TokenKind::And => 2,
-        TokenKind::Equal
-        | TokenKind::NotEqual
-        | TokenKind::Is
-        | TokenKind::NotIs
-        | TokenKind::Xor => 3,
-        TokenKind::Less | TokenKind::LessEqual | TokenKind::Greater | TokenKind::GreaterEqual => 4,
-        TokenKind::Pipe => 5,
-        TokenKind::Caret => 6,
-        TokenKind::Ampersand => 7,
-        TokenKind::ShiftLeft | TokenKind::ShiftRight | TokenKind::ShiftRightArithmetic => 8,
-        TokenKind::Plus | TokenKind::Minus => 9,
-        TokenKind::Star | TokenKind::Slash | TokenKind::Percent => 10,
-        _ => 0,
+    match binary_operator(kind) {
+        Some(operator) => operator.precedence,
+        None => 0,
     }
 }
 

@@ -11,6 +11,6 @@ mod types;
 mod whole;
 
 pub use expr::{arguments, expression, expressions};
-pub use kinds::is_type_name;
+pub use kinds::{is_assignment, is_prefix, is_type_name};
 pub use types::{handle, type_name, type_named};
 pub use whole::{one_tree, parse_expression};

@@ -21,7 +21,8 @@ use Rattle.ang_meaning.proofs.Counting.{many_append, bits_name_none}
 use Rattle.ang_meaning.proofs.Counted.{TriedCounted, counted_as, counted_there, give_counted, give_all_counted, hold_counted, first_there, store_places, names_at}
 use Rattle.ang_meaning.proofs.Operating.{DoneCounted, perform_counted}
 use Rattle.ang_meaning.proofs.Typed.{SlotType, Number, Family, Owners, HasType, AllTyped, AreTyped, AreClasses, AreKept, TriedKept, DoneTyped, kept_same, kept_then, give_kept_all, hold_kept, still_typed, all_still_typed, objects_still_typed, here_of, get_fits, work_fits, perform_or, get_typed, work_typed, typed_local, typed_length, typed_set, typed_within}
-use Rattle.ang_source.specs.Meaning.{work_of, inner, Callees, callee_of, default_in, targets_of, evaluate, evaluate_all, one, two}
+use Rattle.ang_meaning.specs.Bodies.{Callees}
+use Rattle.ang_source.specs.Meaning.{inner, callee_of, default_in, targets_of, evaluate, evaluate_all, one, two}
 
 -- the types of a callee's parameters, the last one first, and of its value
 pub record Signature : Type 0 where
@@ -72,7 +73,7 @@ module _ (z : Environment) (o : Owners) (m : ℕ) (c other : Callees) (sigs : Ca
   abbrev mutual
     pub evaluate_or : Fault → t.Expr → List Slot → ℕ → World → Evaluated
     evaluate_or f (t.read (t.member_of e (member.Field i)) a) ls t w = applied (perform_or f z m (FieldGet i)) (one (evaluate_or f e ls t w))
-    evaluate_or f (t.operate op p l r) ls t w = applied (perform_or f z m (Binary (work_of op) p)) (two (evaluate_or f l ls t w) (evaluate_or f r))
+    evaluate_or f (t.operate op p l r) ls t w = applied (perform_or f z m (Binary op p)) (two (evaluate_or f l ls t w) (evaluate_or f r))
     evaluate_or f (t.assign (t.named (variable.Local i)) a e) ls t w = assigned (inner ls i) (evaluate_or f e ls t w)
     evaluate_or f (t.call k a args) ls t w = called m (other (callee_of k)) (targets_of ls args) (evaluate_all_or f args [] ls t w)
     evaluate_or f e ls t w = evaluate z m c e ls t w
@@ -277,10 +278,10 @@ module _ (z : Environment) (o : Owners) (m : ℕ) (c other : Callees) (sigs : Ca
     core_is_typed f a calls (t.read (t.member_of e (member.Property q)) s) ty locals below ls under t w h g = absurd h
     core_is_typed f a calls (t.operate op p l r) ty locals below ls under n w h g =
         let first = core_is_typed f a calls l Number locals below ls under n w h.1 g in
-        let both = work_good f (work_of op) p locals below under (evaluate z m c l ls n w) (evaluate z m c r) (evaluate_or f r) first.0
+        let both = work_good f op p locals below under (evaluate z m c l ls n w) (evaluate z m c r) (evaluate_or f r) first.0
         (λ v ls' n' w' g'. core_is_typed f a calls r Number locals (Number ∷ below) ls' (v ∷ under) n' w' h.2 g') in (
           subst (λ x. IsGoodEnd x locals below under (evaluate z m c (t.operate op p l r) ls n w)) (sym h.0) both.0,
-          ap (λ x. applied (perform_or f z m (Binary (work_of op) p)) (two x (evaluate_or f r))) first.1 ∙ both.1,
+          ap (λ x. applied (perform_or f z m (Binary op p)) (two x (evaluate_or f r))) first.1 ∙ both.1,
         )
     core_is_typed f a calls (t.truth b) ty locals below ls under t w h g = absurd h
     core_is_typed f a calls t.null ty locals below ls under t w h g = absurd h
@@ -294,6 +295,7 @@ module _ (z : Environment) (o : Owners) (m : ℕ) (c other : Callees) (sigs : Ca
     core_is_typed f a calls (t.choose x l r) ty locals below ls under t w h g = absurd h
     core_is_typed f a calls (t.same l r) ty locals below ls under t w h g = absurd h
     core_is_typed f a calls (t.cast x e) ty locals below ls under t w h g = absurd h
+    core_is_typed f a calls (t.naming x e) ty locals below ls under t w h g = absurd h
     core_is_typed f a calls (t.make x y args) ty locals below ls under t w h g = absurd h
     core_is_typed f a calls (t.assign (t.named (variable.Local i)) s e) ty locals below ls under n w h g =
         let same : slice_get locals (length ls - suc i) ≡ Some ty = ap (λ k. slice_get locals (k - suc i)) (sym (typed_length z o m w.objects locals ls g.locals_typed)) ∙ h.0 in

@@ -20,8 +20,8 @@ use Rattle.ang_typed.specs.declared.expression.TypedVariable.{TypedVariable}
 use Rattle.ang_typed.specs.declared.expression.TypedVariable.TheVariants as variable
 use Rattle.ang_typed.specs.declared.expression.TypedCallee.{TypedCallee}
 use Rattle.ang_typed.specs.declared.expression.TypedCallee.TheVariants as callee
-use Rattle.ang_typed.specs.declared.expression.Operator.TheVariants as operator
-use Rattle.ang_typed.specs.declared.expression.Comparison.TheVariants as comparison
+use Rattle.ang_kinds.specs.declared.operator.Operator.TheVariants as operator
+use Rattle.ang_kinds.specs.declared.operator.Comparison.TheVariants as comparison
 use Rattle.ang_typed.specs.declared.expression.StepKind.TheVariants as kind
 use Rattle.ang_typed.specs.declared.program.TypedParameter.{TypedParameter}
 use Rattle.ang_typed.specs.Typed as t
@@ -37,7 +37,8 @@ use Rattle.ang_meaning.specs.Numbers.{binary_result, changed, holds_of}
 use Rattle.ang_meaning.specs.Perform.{perform, change_of, global_or, global_put}
 use Rattle.ang_meaning.specs.Results.{Gave, Failed, Went, Reply, Yields, Raises, brought, replied, found_entered, enter}
 use Rattle.ang_meaning.proofs.Keys.{key_back}
-use Rattle.ang_source.specs.Meaning.{Callees, Passes, evaluate, run, body_at, codes_in, called_with, initialized_all, routine, passings_in, heading_among, class_in, method_in, slot_in}
+use Rattle.ang_meaning.specs.Bodies.{Callees}
+use Rattle.ang_source.specs.Meaning.{Passes, evaluate, run, body_at, codes_in, called_with, initialized_all, routine, passings_in, heading_among, class_in, method_in, slot_in}
 
 -- ---- parts of trees
 

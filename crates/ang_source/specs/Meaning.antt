@@ -3,9 +3,11 @@
 -- `Results`. A local is numbered from the outermost one, and `this` is local 0 of the bodies of methods and constructors.
 use Rattle.std.specs.Prelude.{ℕ, zero, suc, ◌-◌, ◌==◌, true, false, List, [], ◌∷◌, length, reverse, map, find, ◌++◌, Option, Some, None, option_map, option_and_then, slice_get, slice_index_or}
 use Rattle.std.specs.Option.{option_or}
+use Rattle.ang_kinds.specs.declared.operator.Operator.{Operator}
+use Rattle.ang_kinds.specs.declared.operator.Operator.TheVariants as operator
 use Rattle.ang_kinds.specs.declared.primitive.Primitive.{Primitive}
 use Rattle.ang_kinds.specs.declared.primitive.Primitive.TheVariants.{I8, I16, I32, I64, U8, U16, U32, U64, Bool as Truth}
-use Rattle.ang_kinds.specs.declared.fault.Fault.TheVariants.{Null, Budget, Memory}
+use Rattle.ang_kinds.specs.declared.fault.Fault.TheVariants.{Null, Budget}
 use Rattle.ang_kinds.specs.declared.types.Pass.{Pass}
 use Rattle.ang_kinds.specs.declared.types.Pass.TheVariants as pass
 use Rattle.ang_types.specs.declared.arg_type.ArgType.{ArgType}
@@ -16,10 +18,6 @@ use Rattle.ang_typed.specs.declared.expression.TypedMember.{TypedMember}
 use Rattle.ang_typed.specs.declared.expression.TypedMember.TheVariants as member
 use Rattle.ang_typed.specs.declared.expression.TypedCallee as typed
 use Rattle.ang_typed.specs.declared.expression.TypedCallee.TheVariants as callee
-use Rattle.ang_typed.specs.declared.expression.Operator.{Operator}
-use Rattle.ang_typed.specs.declared.expression.Operator.TheVariants as operator
-use Rattle.ang_typed.specs.declared.expression.Comparison.{Comparison}
-use Rattle.ang_typed.specs.declared.expression.Comparison.TheVariants as comparison
 use Rattle.ang_typed.specs.declared.expression.StepKind.{StepKind}
 use Rattle.ang_typed.specs.declared.expression.StepKind.TheVariants as kind
 use Rattle.ang_typed.specs.declared.program.TypedClass as families
@@ -31,10 +29,6 @@ use Rattle.ang_meaning.specs.declared.class.ValueKind.{ValueKind}
 use Rattle.ang_meaning.specs.declared.class.ValueKind.TheVariants as holds_a
 use Rattle.ang_meaning.specs.declared.slot.Slot.{Slot}
 use Rattle.ang_meaning.specs.declared.slot.Slot.TheVariants.{Bits, Script}
-use Rattle.ang_meaning.specs.declared.operation.Arithmetic.{Arithmetic}
-use Rattle.ang_meaning.specs.declared.operation.Arithmetic.TheVariants as work
-use Rattle.ang_meaning.specs.declared.operation.Comparison as compared
-use Rattle.ang_meaning.specs.declared.operation.Comparison.TheVariants as holds
 use Rattle.ang_meaning.specs.declared.operation.Update.{Update}
 use Rattle.ang_meaning.specs.declared.operation.Operation.TheVariants.{Binary, Compare, Convert, Negate, Complement, Not, Same, GlobalGet, GlobalSet, GlobalChange, Ask, Read, Write, Alter, Make, FieldGet, FieldSet, FieldChange, Cast}
 use Rattle.ang_meaning.specs.declared.routine.Routine.{Routine}
@@ -46,44 +40,25 @@ use Rattle.ang_meaning.specs.declared.routine.Spot.{Spot}
 use Rattle.ang_meaning.specs.declared.routine.Spot.TheVariants as spot
 use Rattle.ang_meaning.specs.declared.routine.Target.{Target}
 use Rattle.ang_meaning.specs.Numbers.{truth, is_signed}
-use Rattle.ang_meaning.specs.World.{World, or_else, give, give_all, memory_step}
-use Rattle.ang_meaning.specs.Environment.{Environment, default_of, params_of}
+use Rattle.ang_meaning.specs.World.{World, give}
+use Rattle.ang_meaning.specs.Environment.{Environment, default_of}
 use Rattle.ang_meaning.specs.Perform.{perform}
-use Rattle.ang_meaning.specs.Results.{Evaluated, Gave, Gathered, Ready, Ran, Went, Returned, Halted, Broken, Continued, Reply, Yields, Raises, Calls, local_at, on_test, ticked, loaded, applied, assigned, altered, chosen, then_rest, called, leave, with_value, then_run, caught, finished, enter}
+use Rattle.ang_meaning.specs.Bodies.{Callees, PassesOf}
+use Rattle.ang_meaning.specs.Bodies as bodies_of
+use Rattle.ang_meaning.specs.Results.{Evaluated, Gave, Gathered, Ready, Ran, Went, Returned, Halted, Broken, Continued, Reply, Calls, local_at, on_test, ticked, loaded, applied, assigned, altered, chosen, then_rest, called, leave, with_value, then_run, caught}
 
 -- ---- operators
 
-abbrev pub work_of : Operator → Arithmetic
-work_of operator.Add = work.Add
-work_of operator.Subtract = work.Subtract
-work_of operator.Multiply = work.Multiply
-work_of operator.Divide = work.Divide
-work_of operator.Remainder = work.Remainder
-work_of operator.BitAnd = work.And
-work_of operator.BitOr = work.Or
-work_of operator.BitXor = work.Xor
-work_of operator.ShiftLeft = work.ShiftLeft
-work_of operator.ShiftRight = work.ShiftRight
-work_of operator.ShiftRightArithmetic = work.ShiftSigned
-
-abbrev pub test_of : Comparison → compared.Comparison
-test_of comparison.Equal = holds.Equal
-test_of comparison.NotEqual = holds.Unequal
-test_of comparison.Less = holds.Less
-test_of comparison.LessEqual = holds.LessEqual
-test_of comparison.Greater = holds.Greater
-test_of comparison.GreaterEqual = holds.GreaterEqual
-
 -- `operator=` of a variable of type `ty`, in the type `at`: the value is what was stored
 abbrev pub compound_of : Primitive → Operator → Primitive → Update
-compound_of ty op at = record { work = work_of op; at = at; to = ty; old = false }
+compound_of ty op at = record { operator = op; at = at; to = ty; old = false }
 
 -- `++` and `--` in the variable's type; after the variable the value is the old one
 abbrev pub step_of : Primitive → StepKind → Update
-step_of ty kind.IncrementBefore = record { work = work.Add; at = ty; to = ty; old = false }
-step_of ty kind.DecrementBefore = record { work = work.Subtract; at = ty; to = ty; old = false }
-step_of ty kind.IncrementAfter = record { work = work.Add; at = ty; to = ty; old = true }
-step_of ty kind.DecrementAfter = record { work = work.Subtract; at = ty; to = ty; old = true }
+step_of ty kind.IncrementBefore = record { operator = operator.Add; at = ty; to = ty; old = false }
+step_of ty kind.DecrementBefore = record { operator = operator.Subtract; at = ty; to = ty; old = false }
+step_of ty kind.IncrementAfter = record { operator = operator.Add; at = ty; to = ty; old = true }
+step_of ty kind.DecrementAfter = record { operator = operator.Subtract; at = ty; to = ty; old = true }
 
 -- the integer type that a value is brought to, as it moves into a variable of this type
 abbrev pub integer_of : Primitive → Option Primitive
@@ -174,13 +149,13 @@ module _ (z : Environment) (m : ℕ) where
   -- A variable is changed by an operand.
   abbrev pub changed_by : TypedVariable → List Slot → Update → Evaluated → Evaluated
   changed_by (variable.Local i) ls c e = altered (inner ls i) c e
-  changed_by (variable.Global g) ls c e = applied (perform z m (GlobalChange g c)) (one e)
+  changed_by (variable.Global g) ls c e = applied (perform z m (GlobalChange c g)) (one e)
   changed_by (variable.Property h) ls c e = applied (perform z m (Alter h.entity c)) (one e)
-  changed_by (variable.Field i) ls c e = applied (perform z m (FieldChange i c)) (two e this_of)
+  changed_by (variable.Field i) ls c e = applied (perform z m (FieldChange c i)) (two e this_of)
 
   -- A member of an object, which comes after the operand, is changed by it.
   abbrev pub member_changed : TypedMember → Update → Evaluated → (List Slot → ℕ → World → Evaluated) → Evaluated
-  member_changed (member.Field i) c e object = applied (perform z m (FieldChange i c)) (two e object)
+  member_changed (member.Field i) c e object = applied (perform z m (FieldChange c i)) (two e object)
   member_changed (member.Property h) c e object = applied (perform z m (Alter h.entity c)) (two e object)
 
 -- ---- the targets of a call
@@ -210,10 +185,6 @@ callee_of (callee.Own f) = Own f
 callee_of (callee.Import i) = Import i
 callee_of (callee.Chosen s) = Virtual s
 
--- the calls that a body makes
-abbrev pub Callees : Type 0
-Callees = Callee → List Slot → ℕ → World → Reply
-
 -- An expression in module m. Operands are evaluated from left to right; in an assignment the value comes first. An object is made
 -- before the arguments of its constructor, which gives it back.
 abbrev mutual
@@ -228,13 +199,14 @@ abbrev mutual
   evaluate z m c (t.complement ty e) ls t w = applied (perform z m (Complement ty)) (one (evaluate z m c e ls t w))
   evaluate z m c (t.not e) ls t w = applied (perform z m Not) (one (evaluate z m c e ls t w))
   evaluate z m c (t.operate op ty l r) ls t w =
-      applied (perform z m (Binary (work_of op) ty)) (two (evaluate z m c l ls t w) (evaluate z m c r))
+      applied (perform z m (Binary op ty)) (two (evaluate z m c l ls t w) (evaluate z m c r))
   evaluate z m c (t.compare op ty l r) ls t w =
-      applied (perform z m (Compare (test_of op) (is_signed ty))) (two (evaluate z m c l ls t w) (evaluate z m c r))
+      applied (perform z m (Compare op (is_signed ty))) (two (evaluate z m c l ls t w) (evaluate z m c r))
   evaluate z m c (t.and l r) ls t w = chosen (evaluate z m c l ls t w) (evaluate z m c r) (λ ls' t' w'. Gave (Bits (truth false)) ls' t' w')
   evaluate z m c (t.or l r) ls t w = chosen (evaluate z m c l ls t w) (λ ls' t' w'. Gave (Bits (truth true)) ls' t' w') (evaluate z m c r)
   evaluate z m c (t.choose a l r) ls t w = chosen (evaluate z m c a ls t w) (evaluate z m c l) (evaluate z m c r)
   evaluate z m c (t.same l r) ls t w = applied (perform z m Same) (two (evaluate z m c l ls t w) (evaluate z m c r))
+  evaluate z m c (t.naming x e) ls t w = evaluate z m c e ls t w
   evaluate z m c (t.cast n e) ls t w = applied (perform z m (Cast n)) (one (evaluate z m c e ls t w))
   evaluate z m c (t.make n None args) ls t w = applied (perform z m (Make n)) (Ready [] ls t w)
   evaluate z m c (t.make n (Some k) args) ls t w =
@@ -265,7 +237,7 @@ abbrev mutual
 
 -- one pass of a loop, its tick taken: the condition, the body and the steps; a condition that is not written is true
 abbrev pub Passes : Type 0
-Passes = Option t.Expr → t.Stmts → List t.Expr → List Slot → ℕ → World → Ran
+Passes = PassesOf (Option t.Expr) t.Stmts (List t.Expr)
 
 -- what a new local begins with: its initializer's value, or 0, false or null
 abbrev pub begin_local : Environment → ℕ → Callees → ArgType → Option t.Expr → List Slot → ℕ → World → Evaluated
@@ -348,39 +320,27 @@ run_code z m c p (of_global g e) ls t w = discarded (stored z m (variable.Global
 abbrev pub Codes : Type 0
 Codes = Routine → Code
 
--- Bodies and loops where fewer than n ticks are left; d counts the callers of the body. With no n left a run has used up its ticks before.
-abbrev mutual
-  pub body_at : Environment → Codes → ℕ → ℕ → Calls
-  body_at z codes zero d g vs t w = Raises Budget w
-  body_at z codes (suc n) d g vs t w =
-      finished (params_of z g) (run_code z g.home (enter z (body_at z codes n (suc d)) d g.home) (pass_at z codes n d g.home) (codes g) vs t w)
+-- Whole bodies and initializers, as `ang_meaning/specs/Bodies.antt` has them of any tree: the ticks, the nesting and the memory around each.
+abbrev pub body_at : Environment → Codes → ℕ → ℕ → Calls
+body_at = bodies_of.body_at run_code pass_of
 
-  pub pass_at : Environment → Codes → ℕ → ℕ → ℕ → Passes
-  pass_at z codes zero d m e ss steps ls t w = Halted Budget ls w
-  pass_at z codes (suc n) d m e ss steps ls t w =
-      pass_of z m (enter z (body_at z codes n (suc d)) d m) (pass_at z codes n d m) e ss steps ls t w
+abbrev pub pass_at : Environment → Codes → ℕ → ℕ → ℕ → Passes
+pass_at = bodies_of.pass_at run_code pass_of
 
--- the entry of a body that wants memory for its frame
 abbrev pub begun : Environment → Codes → Routine → List Slot → ℕ → World → Reply
-begun z codes g vs t w = or_else (memory_step w) (λ w'. Raises Memory (give_all vs w')) (λ w'. body_at z codes (suc t) 0 g vs t w')
+begun = bodies_of.begun run_code pass_of
 
 -- A command's call of a function with a budget of ticks: its entry takes one.
 abbrev pub called_with : Environment → Codes → ℕ → Routine → List Slot → World → Reply
-called_with z codes budget g vs w = ticked budget (Raises Budget (give_all vs w)) (λ t. begun z codes g vs t w)
+called_with = bodies_of.called_with run_code pass_of
 
 -- An initializer's run, with t ticks left: its entry takes none.
 abbrev pub initialized : Environment → Codes → ℕ → Routine → World → Reply
-initialized z codes t g w = begun z codes g [] t w
-
--- what follows an initializer
-abbrev pub then_initialized : Reply → (ℕ → World → Reply) → Reply
-then_initialized (Yields v outs t w) go = go t (give v w)
-then_initialized (Raises f w) go = Raises f w
+initialized = bodies_of.initialized run_code pass_of
 
 -- A build's initializers in order of declaration, on one budget: a fault ends them.
 abbrev pub initialized_all : Environment → Codes → List Routine → ℕ → World → Reply
-initialized_all z codes [] t w = Yields (Bits 0) [] t w
-initialized_all z codes (g ∷ gs) t w = then_initialized (initialized z codes t g w) (λ t' w'. initialized_all z codes gs t' w')
+initialized_all = bodies_of.initialized_all run_code pass_of
 
 -- ---- a module's bodies
 

@@ -156,6 +156,7 @@ module _ (M : Module) where
     Sound n (t.choose c l r) = Sound n c × Sound n l × Sound n r
     Sound n (t.same l r) = Sound n l × Sound n r
     Sound n (t.cast c e) = (c < M.classes) × Sound n e
+    Sound n (t.naming x e) = Sound n e
     Sound n (t.make c None args) = (c < M.classes) × (args ≡ t.none)
     Sound n (t.make c (Some k) args) =
         (c < M.classes) × ((own : TypedParameter) × (ps : List TypedParameter) × (slice_get M.parameters k ≡ Some (own ∷ ps)) × (own.pass ≢ RefOut) × SoundArguments n ps args)

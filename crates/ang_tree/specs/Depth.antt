@@ -1,8 +1,10 @@
 -- Tokens that lie too deep, which is judged before the grammar. (docs/LANGUAGE.md, "Grammar": `TooDeep`.)
-use Rattle.std.specs.Prelude.{ℕ, ◌+◌, ◌-◌, nat_lt, Bool, true, false, ◌||◌, if◌then◌else◌, List, [], ◌∷◌, Option, Some, None}
+use Rattle.std.specs.Prelude.{ℕ, ◌+◌, ◌-◌, nat_lt, Bool, true, false, ◌||◌, if◌then◌else◌, List, [], ◌∷◌, Option, Some, None, is_some}
 use Rattle.ang_lex.specs.declared.token.Token.{Token}
 use Rattle.ang_lex.specs.declared.token.TokenKind.{TokenKind}
 use Rattle.ang_lex.specs.declared.token.TokenKind.TheVariants as k
+use Rattle.ang_lex.specs.Operators.{binary_operator}
+use Rattle.ang_tree.specs.Kinds.{assignment_kind, prefix_kind}
 
 -- How many of `(` and `{` are open after a token. A `)` or `}` closes the last open one, of either kind, if there is one.
 abbrev pub opened : ℕ → TokenKind → ℕ
@@ -12,55 +14,20 @@ opened n k.RightParen = n - 1
 opened n k.RightBrace = n - 1
 opened n _ = n
 
+-- what counts as operators do: `? .`, and the words `if else while for do`
+abbrev pub counts_besides : TokenKind → Bool
+counts_besides k.If = true
+counts_besides k.Else = true
+counts_besides k.While = true
+counts_besides k.For = true
+counts_besides k.Do = true
+counts_besides k.Question = true
+counts_besides k.Dot = true
+counts_besides _ = false
+
 -- The operators, and the words `if else while for do not and or xor is`: all signs but `; , ( ) { } :: :`.
 abbrev pub counts : TokenKind → Bool
-counts k.If = true
-counts k.Else = true
-counts k.While = true
-counts k.For = true
-counts k.Do = true
-counts k.Is = true
-counts k.NotIs = true
-counts k.And = true
-counts k.Or = true
-counts k.Xor = true
-counts k.Not = true
-counts k.ShiftRightArithmeticAssign = true
-counts k.ShiftLeftAssign = true
-counts k.ShiftRightAssign = true
-counts k.ShiftRightArithmetic = true
-counts k.ShiftLeft = true
-counts k.ShiftRight = true
-counts k.LessEqual = true
-counts k.GreaterEqual = true
-counts k.Equal = true
-counts k.NotEqual = true
-counts k.Increment = true
-counts k.Decrement = true
-counts k.PlusAssign = true
-counts k.MinusAssign = true
-counts k.StarAssign = true
-counts k.SlashAssign = true
-counts k.PercentAssign = true
-counts k.AmpersandAssign = true
-counts k.PipeAssign = true
-counts k.CaretAssign = true
-counts k.Plus = true
-counts k.Minus = true
-counts k.Star = true
-counts k.Slash = true
-counts k.Percent = true
-counts k.Ampersand = true
-counts k.Pipe = true
-counts k.Caret = true
-counts k.Tilde = true
-counts k.Less = true
-counts k.Greater = true
-counts k.Assign = true
-counts k.Question = true
-counts k.Dot = true
-counts k.At = true
-counts _ = false
+counts kind = is_some (binary_operator kind) || assignment_kind kind || prefix_kind kind || counts_besides kind
 
 -- `;`, `{` and `}`, after which the count of operators begins again
 abbrev pub ends_count : TokenKind → Bool

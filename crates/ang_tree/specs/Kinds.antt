@@ -1,8 +1,9 @@
 -- What the grammar asks of a token: its kind. (docs/LANGUAGE.md, "Tokens" and "Grammar".)
-use Rattle.std.specs.Prelude.{◌≡◌, ℕ, Bool, true, false, List, ◌∷◌, Option, Some, None}
+use Rattle.std.specs.Prelude.{◌≡◌, ℕ, Bool, true, false, ◌||◌, List, ◌∷◌, Option, Some, None, is_some}
 use Rattle.ang_lex.specs.declared.token.Token.{Token}
 use Rattle.ang_lex.specs.declared.token.TokenKind.{TokenKind}
 use Rattle.ang_lex.specs.declared.token.TokenKind.TheVariants as k
+use Rattle.ang_lex.specs.Operators.{binary_operator, compound_operator, precedence_of}
 
 -- the token is of this kind
 abbrev pub Is : TokenKind → Token → Type 0
@@ -69,47 +70,18 @@ step_kind k.Increment = true
 step_kind k.Decrement = true
 step_kind _ = false
 
+-- `=`
+abbrev pub plain_assignment_kind : TokenKind → Bool
+plain_assignment_kind k.Assign = true
+plain_assignment_kind _ = false
+
 -- `=` and the compound assignments
 abbrev pub assignment_kind : TokenKind → Bool
-assignment_kind k.Assign = true
-assignment_kind k.PlusAssign = true
-assignment_kind k.MinusAssign = true
-assignment_kind k.StarAssign = true
-assignment_kind k.SlashAssign = true
-assignment_kind k.PercentAssign = true
-assignment_kind k.AmpersandAssign = true
-assignment_kind k.PipeAssign = true
-assignment_kind k.CaretAssign = true
-assignment_kind k.ShiftLeftAssign = true
-assignment_kind k.ShiftRightAssign = true
-assignment_kind k.ShiftRightArithmeticAssign = true
-assignment_kind _ = false
+assignment_kind kind = plain_assignment_kind kind || is_some (compound_operator kind)
 
 -- How tightly a binary operator binds, from `||` at 1 to `*` at 10. No other token is a binary operator: 0.
 abbrev pub precedence : TokenKind → ℕ
-precedence k.Or = 1
-precedence k.And = 2
-precedence k.Equal = 3
-precedence k.NotEqual = 3
-precedence k.Is = 3
-precedence k.NotIs = 3
-precedence k.Xor = 3
-precedence k.Less = 4
-precedence k.LessEqual = 4
-precedence k.Greater = 4
-precedence k.GreaterEqual = 4
-precedence k.Pipe = 5
-precedence k.Caret = 6
-precedence k.Ampersand = 7
-precedence k.ShiftLeft = 8
-precedence k.ShiftRight = 8
-precedence k.ShiftRightArithmetic = 8
-precedence k.Plus = 9
-precedence k.Minus = 9
-precedence k.Star = 10
-precedence k.Slash = 10
-precedence k.Percent = 10
-precedence _ = 0
+precedence kind = precedence_of (binary_operator kind)
 
 -- `in`, `out`, `inout`
 abbrev pub direction_kind : TokenKind → Bool

@@ -1,13 +1,14 @@
 -- The resolved tree of a module, without where it lies in memory: source text with its meaning settled. (docs/ARCHITECTURE.md.)
 use Rattle.std.specs.Prelude.{ℕ, Bool, List, [], ◌∷◌, Option}
+use Rattle.ang_kinds.specs.declared.mask.EntityNo.{EntityNo}
 use Rattle.ang_kinds.specs.declared.primitive.Primitive.{Primitive}
 use Rattle.ang_types.specs.declared.arg_type.ArgType.{ArgType}
 use Rattle.ang_typed.specs.declared.expression.HostEntity.{HostEntity}
 use Rattle.ang_typed.specs.declared.expression.TypedVariable.{TypedVariable}
 use Rattle.ang_typed.specs.declared.expression.TypedMember.{TypedMember}
 use Rattle.ang_typed.specs.declared.expression.TypedCallee.{TypedCallee}
-use Rattle.ang_typed.specs.declared.expression.Operator.{Operator}
-use Rattle.ang_typed.specs.declared.expression.Comparison.{Comparison}
+use Rattle.ang_kinds.specs.declared.operator.Operator.{Operator}
+use Rattle.ang_kinds.specs.declared.operator.Comparison.{Comparison}
 use Rattle.ang_typed.specs.declared.expression.StepKind.{StepKind}
 use Rattle.ang_typed.specs.declared.program.TypedClass.{TypedClass}
 use Rattle.ang_typed.specs.declared.program.Heading.{Heading}
@@ -32,6 +33,8 @@ mutual
     choose : Expr → Expr → Expr → Expr
     same : Expr → Expr → Expr
     cast : ℕ → Expr → Expr
+    -- the operand, in which this entry is named
+    naming : EntityNo → Expr → Expr
     make : ℕ → Option ℕ → Args → Expr
     assign : Site → ArgType → Expr → Expr
     compound : Site → Primitive → Operator → Primitive → Expr → Expr

@@ -38,6 +38,7 @@ expression_step (TypedExpression-F.Or l r) = t.or l.value r.value
 expression_step (TypedExpression-F.Choose c l r) = t.choose c.value l.value r.value
 expression_step (TypedExpression-F.Same l r) = t.same l.value r.value
 expression_step (TypedExpression-F.Cast n e) = t.cast n e.value
+expression_step (TypedExpression-F.Naming x e) = t.naming x e.value
 expression_step (TypedExpression-F.Make n f es) = t.make n f (t.args es.items)
 expression_step (TypedExpression-F.Assign x ty e) = t.assign x ty e.value
 expression_step (TypedExpression-F.Compound x ty op operating e) = t.compound x ty op operating e.value

@@ -1,6 +1,6 @@
 //! Expressions with their meaning settled.
 
-use ang_kinds::{EntityNo, Prim};
+use ang_kinds::{Comparison, EntityNo, Operator, Prim};
 use ang_types::ArgType;
 
 /// A registered entity that a use was resolved to, and how the host is asked for it.
@@ -63,51 +63,6 @@ pub enum TypedSite {
         /// Which member of it.
         member: TypedMember,
     },
-}
-
-/// An operator on two integers of one type, with a result of that type.
-#[derive(Clone, Copy)]
-pub enum Operator {
-    /// `+`, which wraps.
-    Add,
-    /// `-`, which wraps.
-    Subtract,
-    /// `*`, which wraps.
-    Multiply,
-    /// `/`, which truncates toward zero. A divisor 0 is the fault `DivideByZero`, and the least value of a
-    /// signed type divided by -1 is `DivideOverflow`.
-    Divide,
-    /// `%`, the remainder of `/`, with its faults.
-    Remainder,
-    /// `&`, bit by bit.
-    BitAnd,
-    /// `|`, bit by bit.
-    BitOr,
-    /// `^`, bit by bit.
-    BitXor,
-    /// `<<`. The count is taken modulo the type's width, as for all shifts.
-    ShiftLeft,
-    /// `>>`, which fills with zeros.
-    ShiftRight,
-    /// `>>>`, which copies the sign; of an unsigned type it fills with zeros.
-    ShiftRightArithmetic,
-}
-
-/// A comparison of two values of one type.
-#[derive(Clone, Copy)]
-pub enum Comparison {
-    /// `==`, of integers or of two `bool`.
-    Equal,
-    /// `!=`, and `xor` of two `bool`.
-    NotEqual,
-    /// `<`, of integers alone, as are those that follow.
-    Less,
-    /// `<=`, of integers alone.
-    LessEqual,
-    /// `>`, of integers alone.
-    Greater,
-    /// `>=`, of integers alone.
-    GreaterEqual,
 }
 
 /// What `++` and `--` do to a variable, and which of its values they give.
@@ -236,6 +191,14 @@ pub enum TypedExpression {
         /// The number of the family that is asked for.
         family: usize,
         /// The handle.
+        operand: Box<TypedExpression>,
+    },
+    /// The operand, in which a registered entry is named that nobody is asked for: a value of an enumeration by its
+    /// name, a conversion to an enumeration, or a cast to a host type. Its value is the operand's.
+    Naming {
+        /// The entry that is named.
+        entity: EntityNo,
+        /// What it is the value of.
         operand: Box<TypedExpression>,
     },
     /// A new object of a script's class. Its fields are 0, false and null; then the constructor runs on it, where one

@@ -17,8 +17,8 @@ mod program;
 mod statement;
 
 pub use expression::{
-    Comparison, HostEntity, Operator, StepKind, TypedArgument, TypedCallee, TypedExpression,
-    TypedMember, TypedSite, TypedVariable,
+    HostEntity, StepKind, TypedArgument, TypedCallee, TypedExpression, TypedMember, TypedSite,
+    TypedVariable,
 };
 pub use program::{Global, Heading, Typed, TypedClass, TypedFunction, TypedParameter};
 pub use statement::{Local, TypedBlock, TypedChoice, TypedFor, TypedLoop, TypedStatement};

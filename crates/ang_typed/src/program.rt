@@ -2,7 +2,7 @@
 
 use crate::expression::TypedExpression;
 use crate::statement::TypedBlock;
-use ang_kinds::{List, Pass};
+use ang_kinds::{List, Pass, Position};
 use ang_types::ArgType;
 
 /// What the checker gives for the scripts of one build.
@@ -56,6 +56,10 @@ pub struct TypedFunction {
     pub result: ArgType,
     /// Its statements. A path through them that does not return ends only a `void` function.
     pub body: TypedBlock,
+    /// Where these statements and those inside them begin, in the order of the text: the `{` of a block, what a `for`
+    /// starts with after the `for` itself. Of a constructor the call of its base class's stands first, at its name where
+    /// `super` is not written, and what gives the object back last, at the closing `}`. No meaning reads it.
+    pub positions: List<Position>,
 }
 
 /// A parameter.

@@ -33,11 +33,11 @@ unseen z m Not e is none = absurd (let y : ⊥ = cc in y)
 unseen z m Same e is none = absurd (let y : ⊥ = cc in y)
 unseen z m (GlobalGet g) e is none = absurd (let y : ⊥ = cc in y)
 unseen z m (GlobalSet g) e is none = absurd (let y : ⊥ = cc in y)
-unseen z m (GlobalChange g c) e is none = absurd (let y : ⊥ = cc in y)
+unseen z m (GlobalChange c g) e is none = absurd (let y : ⊥ = cc in y)
 unseen z m (Make c) e is none = absurd (let y : ⊥ = cc in y)
 unseen z m (FieldGet i) e is none = absurd (let y : ⊥ = cc in y)
 unseen z m (FieldSet i) e is none = absurd (let y : ⊥ = cc in y)
-unseen z m (FieldChange i c) e is none = absurd (let y : ⊥ = cc in y)
+unseen z m (FieldChange c i) e is none = absurd (let y : ⊥ = cc in y)
 unseen z m (Cast c) e is none = absurd (let y : ⊥ = cc in y)
 
 pub unseen_unfit : (t : Table) (m nesting : ℕ) (o : Operation) (e : EntityNo) (r : Option (Bor HostUse)) → asked_by o ≡ Some e

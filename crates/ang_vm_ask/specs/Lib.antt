@@ -6,4 +6,3 @@ pub mod Entities
 pub mod Fitting
 pub mod Handing
 pub mod Replies
-pub mod Arguments

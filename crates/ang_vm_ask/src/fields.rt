@@ -175,7 +175,7 @@ pub fn alter(
         (world_of ⟦<dyn Driver as Driver>⟧ store.old) }
     ensures told { (z : Environment) (home : ℕ)
         → StoreTold ⟦<dyn Driver as Driver>⟧
-        (perform z home (FieldChange index by) (object ∷ operand ∷ [])) store.old (done result)
+        (perform z home (FieldChange by index) (object ∷ operand ∷ [])) store.old (done result)
         store.new }
     ensures moves { HasMoved ⟦<dyn Driver as Driver>⟧ store.old store.new }
 {

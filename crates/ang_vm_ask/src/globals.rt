@@ -83,7 +83,7 @@ pub fn alter(
     requires ready { IsReady ⟦<dyn Driver as Driver>⟧ store.old }
     ensures told { (z : Environment)
         → StoreTold ⟦<dyn Driver as Driver>⟧
-        (perform z home (GlobalChange number by) (operand ∷ [])) store.old (done result) store.new }
+        (perform z home (GlobalChange by number) (operand ∷ [])) store.old (done result) store.new }
     ensures moves { HasMoved ⟦<dyn Driver as Driver>⟧ store.old store.new }
 {
     let old = store.globals.get_or(home, number, Slot::Bits(0));

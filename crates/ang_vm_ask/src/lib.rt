@@ -8,7 +8,6 @@
 
 mod arguments;
 mod asking;
-mod few_values;
 pub mod fields;
 mod fitting;
 pub mod globals;

@@ -3,7 +3,7 @@ use Rattle.std.proofs.Common.{◌≡◌, ℕ, [], ◌∷◌, refl, sym, ap, ◌�
 use Rattle.ang_kinds.specs.declared.primitive.Primitive.{Primitive}
 use Rattle.ang_kinds.specs.declared.fault.Fault.{Fault}
 use Rattle.ang_meaning.specs.declared.slot.Slot.TheVariants.{Bits}
-use Rattle.ang_meaning.specs.declared.operation.Arithmetic.{Arithmetic}
+use Rattle.ang_kinds.specs.declared.operator.Operator.{Operator}
 use Rattle.ang_meaning.specs.declared.operation.Operation.TheVariants.{Binary}
 use Rattle.ang_meaning.specs.Numbers.{Worked, Is, Cannot, binary_result}
 use Rattle.ang_meaning.specs.World.{World}
@@ -21,6 +21,6 @@ ends_same : (o : Worked) (w : World) → work_done o w ≡ ends_with (answer_of 
 ends_same (Is n) w = refl
 ends_same (Cannot f) w = refl
 
-pub work_ends : (what : Arithmetic) (p : Primitive) (x y : ℕ) (r : Result ℕ Fault) → r ≡ answer_of (binary_result what p x y) → (z : Environment) (m : ℕ) (w : World) → perform z m (Binary what p) (Bits y ∷ Bits x ∷ []) w ≡ ends_with r w
+pub work_ends : (what : Operator) (p : Primitive) (x y : ℕ) (r : Result ℕ Fault) → r ≡ answer_of (binary_result what p x y) → (z : Environment) (m : ℕ) (w : World) → perform z m (Binary what p) (Bits y ∷ Bits x ∷ []) w ≡ ends_with r w
 unfolding perform
 work_ends what p x y r e z m w = ends_same (binary_result what p x y) w ∙ ap (λ o. ends_with o w) (sym e)

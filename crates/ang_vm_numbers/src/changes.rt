@@ -27,7 +27,7 @@ pub struct Updated {
 pub fn change(by: Update, x: u64, y: u64) -> Result<Updated, Fault>
     ensures exact { result ≡ altered_of (changed by x y) }
 {
-    let worked = work(by.work, by.at, convert(by.at, x), y)?;
+    let worked = work(by.operator, by.at, convert(by.at, x), y)?;
     let stored = convert(by.to, worked);
     let given = if by.old { x } else { stored };
     Ok(Updated { stored, given })

@@ -2,7 +2,7 @@
 ghost use Rattle.std.specs.Prelude.{◌≡◌, int_lt, int_le};
 ghost use Rattle.ang_meaning.specs.Numbers.{number, compared, holds_of, denied};
 
-use ang_meaning::Comparison;
+use ang_kinds::Comparison;
 
 #[inline(always)]
 fn less(signed: bool, x: u64, y: u64) -> bool
@@ -32,7 +32,7 @@ fn holds(what: Comparison, signed: bool, x: u64, y: u64) -> bool
 {
     match what {
         Comparison::Equal => x == y,
-        Comparison::Unequal => x != y,
+        Comparison::NotEqual => x != y,
         Comparison::Less => less(signed, x, y),
         Comparison::LessEqual => at_most(signed, x, y),
         Comparison::Greater => less(signed, y, x),

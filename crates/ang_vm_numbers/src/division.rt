@@ -1,7 +1,7 @@
 //! Quotients and remainders, truncated toward zero.
 ghost use Rattle.std.specs.Prelude.{◌≡◌, ℤ, pos, int_div, int_rem, IfNone};
 ghost use Rattle.std.specs.Int.{w64, IsNonZero};
-ghost use Rattle.ang_meaning.specs.declared.operation.Arithmetic.TheVariants.{Divide, Remainder};
+ghost use Rattle.ang_kinds.specs.declared.operator.Operator.TheVariants.{Divide, Remainder};
 ghost use Rattle.ang_meaning.specs.Numbers.{divided, binary_result};
 ghost use Rattle.ang_vm_numbers.specs.Answers.{answer_of, unless};
 

@@ -6,8 +6,7 @@ ghost use Rattle.ang_vm_numbers.specs.Answers.{answer_of};
 use crate::conversions::convert;
 use crate::division::{quotient, remainder};
 use crate::shifts::{shift_left, shift_right, shift_signed};
-use ang_kinds::{Fault, Prim};
-use ang_meaning::Arithmetic;
+use ang_kinds::{Fault, Operator, Prim};
 
 #[inline(always)]
 #[tactic(auto, using(crate::proofs::Congruence::sum_bits))]
@@ -40,20 +39,20 @@ fn multiply(at: Prim, x: u64, y: u64) -> u64
 /// number of the type.
 #[inline(always)]
 #[tactic(auto, unfolding(ang_meaning::specs::Numbers::binary_result))]
-pub fn work(what: Arithmetic, at: Prim, x: u64, y: u64) -> Result<u64, Fault>
+pub fn work(what: Operator, at: Prim, x: u64, y: u64) -> Result<u64, Fault>
     ensures exact { result ≡ answer_of (binary_result what at x y) }
 {
     match what {
-        Arithmetic::Add => Ok(add(at, x, y)),
-        Arithmetic::Subtract => Ok(subtract(at, x, y)),
-        Arithmetic::Multiply => Ok(multiply(at, x, y)),
-        Arithmetic::Divide => quotient(at, x, y),
-        Arithmetic::Remainder => remainder(at, x, y),
-        Arithmetic::And => Ok(x & y),
-        Arithmetic::Or => Ok(x | y),
-        Arithmetic::Xor => Ok(x ^ y),
-        Arithmetic::ShiftLeft => Ok(shift_left(at, x, y)),
-        Arithmetic::ShiftRight => Ok(shift_right(at, x, y)),
-        Arithmetic::ShiftSigned => Ok(shift_signed(at, x, y)),
+        Operator::Add => Ok(add(at, x, y)),
+        Operator::Subtract => Ok(subtract(at, x, y)),
+        Operator::Multiply => Ok(multiply(at, x, y)),
+        Operator::Divide => quotient(at, x, y),
+        Operator::Remainder => remainder(at, x, y),
+        Operator::BitAnd => Ok(x & y),
+        Operator::BitOr => Ok(x | y),
+        Operator::BitXor => Ok(x ^ y),
+        Operator::ShiftLeft => Ok(shift_left(at, x, y)),
+        Operator::ShiftRight => Ok(shift_right(at, x, y)),
+        Operator::ShiftRightArithmetic => Ok(shift_signed(at, x, y)),
     }
 }

@@ -60,7 +60,7 @@ pub fn do_operation(
         Operation::GlobalSet(number) => {
             next(here, set_global(body, stack, store, top, room, number))
         }
-        Operation::GlobalChange(number, by) => next(
+        Operation::GlobalChange(by, number) => next(
             here,
             change_global(body, stack, store, top, room, number, by),
         ),
@@ -72,7 +72,7 @@ pub fn do_operation(
         }
         Operation::FieldGet(number) => next(here, get_field(stack, store, top, room, number)),
         Operation::FieldSet(number) => next(here, set_field(stack, store, top, room, number)),
-        Operation::FieldChange(number, by) => {
+        Operation::FieldChange(by, number) => {
             next(here, change_field(stack, store, top, room, number, by))
         }
         Operation::Cast(class) => next(here, cast(table, body, stack, store, top, room, class)),

@@ -16,8 +16,8 @@ ghost use Rattle.ang_vm_steps.specs.Arms.{ActsAlone};
 use crate::operations::{
     compare_slots, complement_slot, convert_slot, deny_slot, negate_slot, work_slots,
 };
-use ang_kinds::{Fault, Prim};
-use ang_meaning::{Arithmetic, Comparison, Slot};
+use ang_kinds::{Comparison, Fault, Operator, Prim};
+use ang_meaning::Slot;
 use ang_vm_stack::stack::{peek, push};
 use ang_vm_stack::stop::Trap;
 
@@ -56,7 +56,7 @@ pub(crate) fn do_work(
     stack: &mut [Slot],
     top: usize,
     room: usize,
-    what: Arithmetic,
+    what: Operator,
     at: Prim,
 ) -> Result<usize, Trap>
     requires in_room { top ≤ room }

@@ -111,7 +111,7 @@ pub(crate) fn change_field(
     requires within { room ≤ length stack.old }
     requires ready { IsReady ⟦<dyn Driver as Driver>⟧ store.old }
     requires counted { AreCounted ⟦<dyn Driver as Driver>⟧ stack.old top store.old }
-    ensures acts { ActsOn ⟦<dyn Driver as Driver>⟧ (Apply (FieldChange index by)) room top stack.old
+    ensures acts { ActsOn ⟦<dyn Driver as Driver>⟧ (Apply (FieldChange by index)) room top stack.old
         store.old result stack.new store.new }
     ensures in_room { IfOk result (λ n. n ≤ room) }
     ensures moves { HasMoved ⟦<dyn Driver as Driver>⟧ store.old store.new }

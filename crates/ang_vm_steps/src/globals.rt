@@ -81,7 +81,7 @@ pub(crate) fn change_global(
     requires within { room ≤ length stack.old }
     requires ready { IsReady ⟦<dyn Driver as Driver>⟧ store.old }
     requires counted { AreCounted ⟦<dyn Driver as Driver>⟧ stack.old top store.old }
-    ensures acts { BodyActs ⟦<dyn Driver as Driver>⟧ body (Apply (GlobalChange number by)) room top
+    ensures acts { BodyActs ⟦<dyn Driver as Driver>⟧ body (Apply (GlobalChange by number)) room top
         stack.old store.old result stack.new store.new }
     ensures in_room { IfOk result (λ n. n ≤ room) }
     ensures moves { HasMoved ⟦<dyn Driver as Driver>⟧ store.old store.new }

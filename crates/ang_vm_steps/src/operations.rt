@@ -7,8 +7,8 @@ ghost use Rattle.ang_meaning.specs.Environment.{Environment};
 ghost use Rattle.ang_meaning.specs.Perform.{perform};
 ghost use Rattle.ang_vm_stack.specs.Arms.{done};
 
-use ang_kinds::{Fault, Prim};
-use ang_meaning::{Arithmetic, Comparison, Slot};
+use ang_kinds::{Comparison, Fault, Operator, Prim};
+use ang_meaning::Slot;
 use ang_vm_numbers::{compare, complement, convert, deny, negate, work};
 
 /// A binary operator on two slots: both have to be numbers.
@@ -17,7 +17,7 @@ use ang_vm_numbers::{compare, complement, convert, deny, negate, work};
 /// `Null` where one is no number, and the faults of the operator.
 #[inline(always)]
 #[tactic(auto, unfolding(ang_meaning::specs::Perform::perform))]
-pub(crate) fn work_slots(what: Arithmetic, at: Prim, x: Slot, y: Slot) -> Result<Slot, Fault>
+pub(crate) fn work_slots(what: Operator, at: Prim, x: Slot, y: Slot) -> Result<Slot, Fault>
     ensures exact { (z : Environment) (m : ℕ) (w : World)
         → perform z m (Binary what at) (y ∷ x ∷ []) w ≡ done result w }
 {
@@ -114,7 +114,7 @@ pub(crate) fn deny_slot(x: Slot) -> Result<Slot, Fault>
 
 #[inline(always)]
 #[tactic(auto, unfolding(ang_meaning::specs::Perform::perform), using(ang_vm_numbers::proofs::Working::work_ends))]
-fn work_bits(what: Arithmetic, at: Prim, x: u64, y: u64) -> Result<Slot, Fault>
+fn work_bits(what: Operator, at: Prim, x: u64, y: u64) -> Result<Slot, Fault>
     ensures exact { (z : Environment) (m : ℕ) (w : World)
         → perform z m (Binary what at) (Bits y ∷ Bits x ∷ []) w ≡ done result w }
 {

@@ -12,7 +12,7 @@ use ang_check::check;
 use ang_engine_build::{NoProgram, Program, build_sections};
 use ang_kinds::{List, Mask};
 use ang_lex::lex;
-use ang_names::declare;
+use ang_names::{Names, declare};
 use ang_parse::parse;
 use ang_registry::{Registry, View};
 use ang_tree::Script;
@@ -51,9 +51,16 @@ fn is_put_registered(registry: &mut Registry) -> bool {
     registry.function(0, 0, b"void put(int)").is_ok()
 }
 
+// The drop of names is written out at each place: there is one.
+fn let_go(_names: Names) {}
+
 fn functions_of(built: Result<Program, NoProgram>) -> Option<usize> {
     match built {
-        Ok(program) => Some(program.names.functions().len()),
+        Ok(program) => {
+            let count = program.names.functions().len();
+            let_go(program.names);
+            Some(count)
+        }
         Err(_) => None,
     }
 }
@@ -92,27 +99,23 @@ fn counts(alloc: Global, text: &[u8]) -> Option<(usize, usize)> {
     }
 }
 
-/// Whether what scripts declare is accepted.
-fn is_declared(alloc: Global, view: &View, scripts: &[Script]) -> bool {
-    declare(alloc, view, scripts).is_ok()
-}
-
-/// Whether what scripts declare is accepted, and their bodies too.
-fn is_checked(alloc: Global, view: &View, scripts: &[Script]) -> bool {
+/// Whether what scripts declare is accepted, and their bodies too where the stage is past declaring.
+fn is_accepted(alloc: Global, view: &View, scripts: &[Script], stage: Stage) -> bool {
     match declare(alloc, view, scripts) {
-        Ok(names) => check(alloc, view, &names, scripts).is_ok(),
+        Ok(names) => {
+            let is_accepted = stage == Stage::Declared
+                || check(alloc, view, &names, scripts).is_ok();
+            let_go(names);
+            is_accepted
+        }
         Err(_) => false,
     }
 }
 
-/// Goes from a tree up to a stage. Whether nothing is refused.
-fn is_accepted(alloc: Global, registry: &Registry, scripts: &[Script], stage: Stage) -> bool {
+/// Goes from a tree up to a stage past it. Whether nothing is refused.
+fn is_built_on(alloc: Global, registry: &Registry, scripts: &[Script], stage: Stage) -> bool {
     match registry.seen(alloc, MASK) {
-        Ok(view) => match stage {
-            Stage::Parsed => true,
-            Stage::Declared => is_declared(alloc, &view, scripts),
-            Stage::Checked | Stage::Built => is_checked(alloc, &view, scripts),
-        },
+        Ok(view) => is_accepted(alloc, &view, scripts, stage),
         Err(_) => false,
     }
 }
@@ -121,7 +124,7 @@ fn is_accepted(alloc: Global, registry: &Registry, scripts: &[Script], stage: St
 fn is_read(alloc: Global, registry: &Registry, text: &[u8], stage: Stage) -> bool {
     match parsed(alloc, text) {
         Some((script, _)) => {
-            stage == Stage::Parsed || is_accepted(alloc, registry, slice::from_ref(&script), stage)
+            stage == Stage::Parsed || is_built_on(alloc, registry, slice::from_ref(&script), stage)
         }
         None => false,
     }

@@ -4,9 +4,11 @@
 #![tactic(auto)]
 
 ghost use Rattle.ang_engine.specs.Sound.{IsSound};
+ghost use Rattle.ang_host.specs.Boxes.{members};
+ghost use Rattle.ang_host.specs.Members.{AreFresh, states_of};
 
 use ang_drivers::Counter;
-use ang_engine::{Command, Engine, Limits, NewRefused, Outcome};
+use ang_engine::{Command, Engine, Held, Limits, NewRefused, Outcome, Reply, Unheard};
 use ang_host::{Driver, Drivers};
 use ang_kinds::{List, Mask, Value};
 use ang_registry::{RegError, Registry};
@@ -31,18 +33,53 @@ int64 bumps(int64 n) {
 
 const TICKS: u64 = 2_147_483_647;
 
-/// What scripts see: counters, of driver 0.
-fn registry(alloc: Global) -> Result<Registry, RegError> {
-    let mut registry = Registry::new(alloc);
+/// Registers what scripts see: counters, of driver 0.
+fn add_counters(registry: &mut Registry) -> Result<(), RegError> {
     registry.type_(b"Counter", 0)?;
     registry.factory(b"Counter", 1, b"Counter@ make(int)")?;
     registry.method(b"Counter", 0, b"void bump()")?;
     registry.method(b"Counter", 1, b"int value() const")?;
-    Ok(registry)
+    Ok(())
 }
 
 fn bytes(alloc: Global, text: &str) -> Result<List<u8>, AllocError> {
     Ok(List::from_vec(Vec::from_slice(alloc, text.as_bytes())?))
+}
+
+fn new_module(alloc: Global) -> Result<Command, AllocError> {
+    let (name, mask) = (bytes(alloc, BENCH)?, Mask(1));
+    Ok(Command::NewModule { name, mask })
+}
+
+fn add_section(alloc: Global) -> Result<Command, AllocError> {
+    let (name, text) = (bytes(alloc, BENCH)?, bytes(alloc, SCRIPT)?);
+    Ok(Command::AddSection { name, text })
+}
+
+fn build_module(alloc: Global) -> Result<Command, AllocError> {
+    let (name, budget) = (bytes(alloc, BENCH)?, TICKS);
+    Ok(Command::Build { name, budget })
+}
+
+/// Gives a command. What is replied is let go.
+fn apply(engine: &mut Engine, command: Result<Command, AllocError>) -> Result<(), AllocError>
+    requires sound { IsSound ⟦<dyn Driver as Driver>⟧ engine.old }
+    ensures sound { IsSound ⟦<dyn Driver as Driver>⟧ engine.new }
+{
+    drop(engine.apply(command?));
+    Ok(())
+}
+
+/// The same, and events are only counted.
+fn apply_unheard(
+    engine: &mut Engine,
+    command: Result<Command, AllocError>,
+) -> Result<(), AllocError>
+    requires sound { IsSound ⟦<dyn Driver as Driver>⟧ engine.old }
+    ensures sound { IsSound ⟦<dyn Driver as Driver>⟧ engine.new }
+{
+    drop(engine.apply_unheard(command?));
+    Ok(())
 }
 
 /// Builds the script.
@@ -50,30 +87,85 @@ fn build(alloc: Global, engine: &mut Engine) -> Result<(), AllocError>
     requires sound { IsSound ⟦<dyn Driver as Driver>⟧ engine.old }
     ensures sound { IsSound ⟦<dyn Driver as Driver>⟧ engine.new }
 {
-    let (name, mask) = (bytes(alloc, BENCH)?, Mask(1));
-    drop(engine.apply(Command::NewModule { name, mask }));
-    let (name, text) = (bytes(alloc, BENCH)?, bytes(alloc, SCRIPT)?);
-    drop(engine.apply(Command::AddSection { name, text }));
-    let (name, budget) = (bytes(alloc, BENCH)?, TICKS);
-    drop(engine.apply(Command::Build { name, budget }));
-    Ok(())
+    apply(engine, new_module(alloc))?;
+    apply(engine, add_section(alloc))?;
+    apply(engine, build_module(alloc))
+}
+
+fn number(alloc: Global, count: u32) -> Result<List<Value>, AllocError> {
+    let args = Vec::from_slice(alloc, &[Value::Int(i64::from(count))])?;
+    Ok(List::from_vec(args))
 }
 
 /// The call that asks so many times.
 fn bumps(alloc: Global, count: u32) -> Result<Command, AllocError> {
-    let args = Vec::from_slice(alloc, &[Value::Int(i64::from(count))])?;
     Ok(Command::Call {
         name: bytes(alloc, BENCH)?,
         decl: bytes(alloc, "int64 bumps(int64)")?,
-        args: List::from_vec(args),
+        args: number(alloc, count)?,
         budget: TICKS,
     })
 }
 
 fn outcome_text(alloc: Global, outcome: Outcome) -> Result<Vec<u8>, AllocError> {
     let mut text = Vec::new(alloc);
-    push_outcome(&mut text, outcome)?;
-    Ok(text)
+    match push_outcome(&mut text, outcome) {
+        Ok(()) => Ok(text),
+        Err(error) => Err(error),
+    }
+}
+
+fn text_heard(alloc: Global, reply: Reply) -> Result<(usize, Vec<u8>), AllocError> {
+    let events = reply.events.len();
+    match outcome_text(alloc, reply.outcome) {
+        Ok(text) => Ok((events, text)),
+        Err(error) => Err(error),
+    }
+}
+
+/// Calls the script. How many events are listed, and the answer.
+fn heard(alloc: Global, engine: &mut Engine, count: u32) -> Result<(usize, Vec<u8>), AllocError>
+    requires sound { IsSound ⟦<dyn Driver as Driver>⟧ engine.old }
+    ensures sound { IsSound ⟦<dyn Driver as Driver>⟧ engine.new }
+{
+    text_heard(alloc, engine.apply(bumps(alloc, count)?))
+}
+
+/// How many host calls and ends are counted.
+#[derive(Clone, Copy)]
+struct Counts {
+    asked: usize,
+    ended: usize,
+}
+
+fn text_counted(alloc: Global, answer: Unheard) -> Result<(Counts, Vec<u8>), AllocError> {
+    let (asked, ended) = (answer.asked, answer.ended);
+    match outcome_text(alloc, answer.outcome) {
+        Ok(text) => Ok((Counts { asked, ended }, text)),
+        Err(error) => Err(error),
+    }
+}
+
+/// Calls the script. What is counted, and the answer.
+fn counted(alloc: Global, engine: &mut Engine, count: u32) -> Result<(Counts, Vec<u8>), AllocError>
+    requires sound { IsSound ⟦<dyn Driver as Driver>⟧ engine.old }
+    ensures sound { IsSound ⟦<dyn Driver as Driver>⟧ engine.new }
+{
+    text_counted(alloc, engine.apply_unheard(bumps(alloc, count)?))
+}
+
+fn print_call(
+    rt: &HostRuntime,
+    count: u32,
+    listed: usize,
+    counts: Counts,
+    text: &[u8],
+    is_same: bool,
+) -> io::Result<()> {
+    let Counts { asked, ended } = counts;
+    let same = if is_same { "the same" } else { "another" };
+    print!(rt; "{count} bumps: {listed} events, counted {asked} and {ended}, {same} answer: ")?;
+    io::writer(rt).write_all(text)
 }
 
 /// Calls the script twice. Prints the events of the one call, the host calls and ends of the other, and the answer.
@@ -81,15 +173,21 @@ fn call(rt: &HostRuntime, engine: &mut Engine, count: u32) -> io::Result<()>
     requires sound { IsSound ⟦<dyn Driver as Driver>⟧ engine.old }
     ensures sound { IsSound ⟦<dyn Driver as Driver>⟧ engine.new }
 {
-    let alloc = rt.alloc();
-    let reply = engine.apply(bumps(alloc, count)?);
-    let answer = engine.apply_unheard(bumps(alloc, count)?);
-    let text = outcome_text(alloc, reply.outcome)?;
-    let is_same = text.as_slice() == outcome_text(alloc, answer.outcome)?.as_slice();
-    let same = if is_same { "the same" } else { "another" };
-    let (listed, asked, ended) = (reply.events.len(), answer.asked, answer.ended);
-    print!(rt; "{count} bumps: {listed} events, counted {asked} and {ended}, {same} answer: ")?;
-    io::writer(rt).write_all(&text)
+    let (listed, text) = heard(rt.alloc(), engine, count)?;
+    let (counts, other) = counted(rt.alloc(), engine, count)?;
+    let is_same = text.as_slice() == other.as_slice();
+    print_call(rt, count, listed, counts, text.as_slice(), is_same)
+}
+
+fn print_held(rt: &HostRuntime, held: Held) -> io::Result<()> {
+    println!(rt;
+        "{} slots and {} objects are held",
+        held.slots, held.objects
+    )
+}
+
+fn print_limit(rt: &HostRuntime, limits: Limits) -> io::Result<()> {
+    println!(rt; "from here on at most {} events", limits.events)
 }
 
 /// Calls the script without a limit of events and with one.
@@ -101,14 +199,14 @@ fn call_each(rt: &HostRuntime, engine: &mut Engine) -> io::Result<()>
     let mut limits = Limits::none();
     limits.events = 100;
     engine.set_limits(limits);
-    println!(rt; "from here on at most {} events", engine.limits().events)?;
+    print_limit(rt, engine.limits())?;
     call(rt, engine, 1_000)?;
     call(rt, engine, 10)?;
-    let held = engine.held();
-    println!(rt;
-        "{} slots and {} objects are held",
-        held.slots, held.objects
-    )
+    print_held(rt, engine.held())
+}
+
+fn print_time(rt: &HostRuntime, count: u32, how: &str, nanos: u128) -> io::Result<()> {
+    println!(rt; "{count} bumps, {how}: {nanos} nanoseconds")
 }
 
 /// Takes the time of a call whose events are listed.
@@ -116,11 +214,9 @@ fn measure_heard(rt: &HostRuntime, engine: &mut Engine, count: u32) -> io::Resul
     requires sound { IsSound ⟦<dyn Driver as Driver>⟧ engine.old }
     ensures sound { IsSound ⟦<dyn Driver as Driver>⟧ engine.new }
 {
-    let bumps = bumps(rt.alloc(), count)?;
     let start = Instant::now(rt)?;
-    drop(engine.apply(bumps));
-    let nanos = start.elapsed(rt)?.as_nanos();
-    println!(rt; "{count} bumps, listed: {nanos} nanoseconds")
+    apply(engine, bumps(rt.alloc(), count))?;
+    print_time(rt, count, "listed", start.elapsed(rt)?.as_nanos())
 }
 
 /// Takes the time of a call whose events are counted alone.
@@ -128,11 +224,9 @@ fn measure_unheard(rt: &HostRuntime, engine: &mut Engine, count: u32) -> io::Res
     requires sound { IsSound ⟦<dyn Driver as Driver>⟧ engine.old }
     ensures sound { IsSound ⟦<dyn Driver as Driver>⟧ engine.new }
 {
-    let bumps = bumps(rt.alloc(), count)?;
     let start = Instant::now(rt)?;
-    drop(engine.apply_unheard(bumps));
-    let nanos = start.elapsed(rt)?.as_nanos();
-    println!(rt; "{count} bumps, counted: {nanos} nanoseconds")
+    apply_unheard(engine, bumps(rt.alloc(), count))?;
+    print_time(rt, count, "counted", start.elapsed(rt)?.as_nanos())
 }
 
 /// Builds the script and calls it, or takes the time where a count is given.
@@ -148,38 +242,70 @@ fn run_script(rt: &HostRuntime, engine: &mut Engine, count: Option<u32>) -> io::
     measure_unheard(rt, engine, count)
 }
 
-/// Makes the engine, and discards it at the end.
-fn run(rt: &HostRuntime) -> io::Result<()> {
+/// Runs the script on an engine, and discards that at the end.
+fn run_on(rt: &HostRuntime, engine: Engine, count: Option<u32>) -> io::Result<()>
+    requires sound { IsSound ⟦<dyn Driver as Driver>⟧ engine }
+{
+    let mut engine = engine;
+    let ended = run_script(rt, &mut engine, count);
+    drop(engine.discard());
+    ended
+}
+
+fn end_refused(rt: &HostRuntime, refused: NewRefused) -> io::Result<()> {
+    let NewRefused {
+        why,
+        registry,
+        drivers,
+    } = refused;
+    drop(registry);
+    drop(drivers.into_boxes());
+    eprintln!(rt; "no engine was made: {why:?}")
+}
+
+/// Makes the engine of these drivers.
+fn run_with(
+    rt: &HostRuntime,
+    registry: Registry,
+    drivers: Drivers,
+    count: Option<u32>,
+) -> io::Result<()>
+    requires fresh { AreFresh (states_of ⟦<dyn Driver as Driver>⟧ (members drivers)) }
+{
+    match Engine::new(rt.alloc(), registry, drivers) {
+        Ok(engine) => run_on(rt, engine, count),
+        Err(refused) => end_refused(rt, refused),
+    }
+}
+
+fn run_over(
+    rt: &HostRuntime,
+    registry: Registry,
+    boxes: Vec<Box<dyn Driver>>,
+    count: Option<u32>,
+) -> io::Result<()> {
+    match Drivers::new(boxes) {
+        Ok(drivers) => run_with(rt, registry, drivers, count),
+        Err((why, _)) => eprintln!(rt; "the drivers were refused: {why:?}"),
+    }
+}
+
+fn run_count(rt: &HostRuntime, count: Option<u32>) -> io::Result<()> {
     let alloc = rt.alloc();
-    let words: Vec<String> = env::args(rt)?.collect(alloc)?;
-    let count = words.get(1).and_then(|word| word.parse::<u32>().ok());
-    let Ok(registry) = registry(alloc) else {
-        return eprintln!(rt; "a registration was refused");
-    };
     let mut boxes: Vec<Box<dyn Driver>> = Vec::new(alloc);
     boxes.push(Box::new(alloc, Counter::new(alloc)?)?)?;
-    let drivers = match Drivers::new(boxes) {
-        Ok(drivers) => drivers,
-        Err((why, _)) => return eprintln!(rt; "the drivers were refused: {why:?}"),
-    };
-    match Engine::new(alloc, registry, drivers) {
-        Ok(mut engine) => {
-            let ended = run_script(rt, &mut engine, count);
-            drop(engine.discard());
-            ended
-        }
-        Err(
-            NewRefused {
-                why,
-                registry,
-                drivers,
-            },
-        ) => {
-            drop(registry);
-            drop(drivers.into_boxes());
-            eprintln!(rt; "no engine was made: {why:?}")
-        }
+    let mut registry = Registry::new(alloc);
+    if add_counters(&mut registry).is_err() {
+        return eprintln!(rt; "a registration was refused");
     }
+    run_over(rt, registry, boxes, count)
+}
+
+fn run(rt: &HostRuntime) -> io::Result<()> {
+    let words: Vec<String> = env::args(rt)?.collect(rt.alloc())?;
+    let count = words.get(1).and_then(|word| word.parse::<u32>().ok());
+    drop(words);
+    run_count(rt, count)
 }
 
 fn main(rt: HostRuntime) -> ExitCode {

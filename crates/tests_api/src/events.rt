@@ -10,7 +10,7 @@ use ang_host::{
     make_listed, read_listed, release_listed, write_listed,
 };
 use ang_kinds::{EntityNo, Value};
-use std::alloc::AllocError;
+use std::alloc::{AllocError, Global};
 
 /// Asks the first driver, a console, to note these arguments.
 fn note(
@@ -100,44 +100,6 @@ fn reads_more(log: &EventLog) -> bool {
             Value::Int(9),
         ],
     )
-}
-
-#[test]
-fn calls_are_read_back(rt: HostRuntime) -> Result<(), AllocError> {
-    let alloc = rt.alloc();
-    let mut boxes: Vec<Box<dyn Driver>> = Vec::new(alloc);
-    boxes.push(Box::new(alloc, Console::new(alloc)?)?)?;
-    let mut events = EventBuffer::new(alloc);
-    if let Ok(mut drivers) = Drivers::new(boxes) {
-        let some = note_some(&mut drivers, &mut events);
-        let more = note_more(&mut drivers, &mut events);
-        let _ = drivers.into_boxes();
-        some?;
-        more?;
-    }
-    assert!(rt; events.is_listening());
-    let log = EventLog::from_buffer(events);
-    assert!(rt; (log.len(), log.ends(), log.is_empty()) == (5, 0, false));
-    assert!(rt; reads_some(&log));
-    assert!(rt; reads_more(&log));
-    assert!(rt; log.get(5).is_none());
-    Ok(())
-}
-
-#[test]
-fn unheard_calls_are_counted(rt: HostRuntime) -> Result<(), AllocError> {
-    let alloc = rt.alloc();
-    let mut boxes: Vec<Box<dyn Driver>> = Vec::new(alloc);
-    boxes.push(Box::new(alloc, Console::new(alloc)?)?)?;
-    let mut events = EventBuffer::unheard(alloc);
-    if let Ok(mut drivers) = Drivers::new(boxes) {
-        let some = note_some(&mut drivers, &mut events);
-        let _ = drivers.into_boxes();
-        some?;
-    }
-    assert!(rt; !events.is_listening());
-    assert!(rt; (events.len(), events.ends()) == (3, 0));
-    Ok(())
 }
 
 /// Makes a cell with the second driver, writes and reads it, and gives it up.
@@ -232,24 +194,109 @@ fn is_read(event: Option<EventRef<'_>>) -> bool {
     }
 }
 
-#[test]
-fn each_sort_of_event_is_read_back(rt: HostRuntime) -> Result<(), AllocError> {
-    let alloc = rt.alloc();
+/// What the drivers are asked.
+#[derive(Clone, Copy)]
+enum Asked {
+    /// Three notes.
+    Some,
+    /// These and two longer ones.
+    Notes,
+    /// A cell is made and ends, and the register is written and read.
+    Each,
+}
+
+fn ask(drivers: &mut Drivers, events: &mut EventBuffer, asked: Asked) -> Result<(), AllocError> {
+    match asked {
+        Asked::Some => note_some(drivers, events),
+        Asked::Notes => {
+            note_some(drivers, events)?;
+            note_more(drivers, events)
+        }
+        Asked::Each => {
+            use_a_cell(drivers, events)?;
+            use_a_register(drivers, events)
+        }
+    }
+}
+
+fn ask_and_end(
+    mut drivers: Drivers,
+    events: &mut EventBuffer,
+    asked: Asked,
+) -> Result<(), AllocError> {
+    let done = ask(&mut drivers, events, asked);
+    let _ = drivers.into_boxes();
+    done
+}
+
+/// Asks a new console and a new cell.
+fn ask_new(alloc: Global, events: &mut EventBuffer, asked: Asked) -> Result<(), AllocError> {
     let mut boxes: Vec<Box<dyn Driver>> = Vec::new(alloc);
     boxes.push(Box::new(alloc, Console::new(alloc)?)?)?;
     boxes.push(Box::new(alloc, Cell::new(alloc)?)?)?;
-    let mut events = EventBuffer::new(alloc);
-    if let Ok(mut drivers) = Drivers::new(boxes) {
-        let object = use_a_cell(&mut drivers, &mut events);
-        let register = use_a_register(&mut drivers, &mut events);
-        let _ = drivers.into_boxes();
-        object?;
-        register?;
+    match Drivers::new(boxes) {
+        Ok(drivers) => ask_and_end(drivers, events, asked),
+        Err(_) => Err(AllocError),
     }
-    assert!(rt; events.is_listening());
-    let log = EventLog::from_buffer(events);
-    assert!(rt; (log.len(), log.ends()) == (4, 1));
-    assert!(rt; is_made(log.get(0)) && is_ended(log.get(1)));
-    assert!(rt; is_written(log.get(2)) && is_read(log.get(3)));
+}
+
+/// The log of what was asked, which is listened to.
+fn log_of(alloc: Global, asked: Asked) -> Result<Option<EventLog>, AllocError> {
+    let mut events = EventBuffer::new(alloc);
+    ask_new(alloc, &mut events, asked)?;
+    if events.is_listening() {
+        Ok(Some(EventLog::from_buffer(events)))
+    } else {
+        Ok(None)
+    }
+}
+
+fn reads_notes(log: &EventLog) -> bool {
+    (log.len(), log.ends(), log.is_empty()) == (5, 0, false)
+        && reads_some(log)
+        && reads_more(log)
+        && log.get(5).is_none()
+}
+
+fn reads_each(log: &EventLog) -> bool {
+    (log.len(), log.ends()) == (4, 1)
+        && is_made(log.get(0))
+        && is_ended(log.get(1))
+        && is_written(log.get(2))
+        && is_read(log.get(3))
+}
+
+fn reads(log: &Option<EventLog>, asked: Asked) -> bool {
+    match (log, asked) {
+        (Some(log), Asked::Notes) => reads_notes(log),
+        (Some(log), Asked::Each) => reads_each(log),
+        _ => false,
+    }
+}
+
+#[test]
+fn calls_are_read_back(rt: HostRuntime) -> Result<(), AllocError> {
+    let is_read = reads(&log_of(rt.alloc(), Asked::Notes)?, Asked::Notes);
+    assert!(rt; is_read);
+    Ok(())
+}
+
+#[test]
+fn each_sort_of_event_is_read_back(rt: HostRuntime) -> Result<(), AllocError> {
+    let is_read = reads(&log_of(rt.alloc(), Asked::Each)?, Asked::Each);
+    assert!(rt; is_read);
+    Ok(())
+}
+
+/// Whether three calls that nobody hears are counted.
+fn counts_unheard(alloc: Global) -> Result<bool, AllocError> {
+    let mut events = EventBuffer::unheard(alloc);
+    ask_new(alloc, &mut events, Asked::Some)?;
+    Ok(!events.is_listening() && (events.len(), events.ends()) == (3, 0))
+}
+
+#[test]
+fn unheard_calls_are_counted(rt: HostRuntime) -> Result<(), AllocError> {
+    assert!(rt; counts_unheard(rt.alloc())?);
     Ok(())
 }

@@ -1,7 +1,7 @@
 //! What bodies that use enumerations of the host are refused for, and what is built of them.
 
 use crate::host::Line;
-use crate::outcomes::Outcome::{Brings, Built, Gives, Refused, Undeclared};
+use crate::outcomes::Outcome::{Brings, Built, Converts, Gives, Refused, Undeclared};
 use crate::outcomes::{Row, first_wrong};
 use ang_kinds::ErrorKind;
 
@@ -274,12 +274,15 @@ fn enumerations_stand_where_int_does(rt: HostRuntime) {
     assert_eq!(rt; first_wrong(rt.alloc(), &HOST, 1, &BUILT), None);
 }
 
-/// The numbers that functions return, of which some are brought into an `int` first.
+/// The values that functions return, of which some are brought into an `int` or converted to `Shade` first.
 const VALUES: [Row; 4] = [
-    ("Color m() { return Color::RED; }", Gives(1)),
-    ("Color m() { return BLUE; }", Gives(0xffff_ffff_ffff_fffe)),
-    ("int m() { return BLUE; }", Brings(0xffff_ffff_ffff_fffe)),
-    ("Shade m() { return Shade(Color::RED); }", Brings(1)),
+    ("Color m() { return Color::RED; }", Gives(1, 1)),
+    (
+        "Color m() { return BLUE; }",
+        Gives(2, 0xffff_ffff_ffff_fffe),
+    ),
+    ("int m() { return BLUE; }", Brings(2, 0xffff_ffff_ffff_fffe)),
+    ("Shade m() { return Shade(Color::RED); }", Converts(4, 1, 1)),
 ];
 
 #[test]

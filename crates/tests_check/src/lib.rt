@@ -17,4 +17,6 @@ mod operators;
 #[cfg(test)]
 mod outcomes;
 #[cfg(test)]
+mod positions;
+#[cfg(test)]
 mod rows;

@@ -2,7 +2,7 @@
 
 use crate::host::{Line, view_of};
 use ang_check::check;
-use ang_kinds::{EntityNo, Error, ErrorKind, Prim, Unbuilt};
+use ang_kinds::{EntityNo, Error, ErrorKind, Position, Prim, Unbuilt};
 use ang_lex::lex;
 use ang_names::declare;
 use ang_parse::parse;
@@ -27,10 +27,14 @@ pub enum Outcome {
     Built,
     /// Its one function has one statement, a call of that entry.
     Calls(u32),
-    /// Its first function returns that number of type `int`, kept in 64 bits.
-    Gives(u64),
-    /// The same of a number that is brought into an `int`.
-    Brings(u64),
+    /// Its first function returns the value of that entry, which is that number of type `int`, kept in 64 bits.
+    Gives(u32, u64),
+    /// The same of a value that is brought into an `int`.
+    Brings(u32, u64),
+    /// The same where what is brought is converted to the enumeration of the first number.
+    Converts(u32, u32, u64),
+    /// The statements of the body of that number stand at these lines and columns, from 0.
+    Stands(usize, &'static [(u16, u16)]),
 }
 
 /// A section, and what becomes of it.
@@ -127,25 +131,67 @@ fn is_number(e: &TypedExpression, bits: u64) -> bool {
     }
 }
 
-/// The same of what is brought into an `int`.
-fn is_brought(e: &TypedExpression, bits: u64) -> bool {
+/// Whether it is that number, in which the entry of this number is named.
+fn is_value(e: &TypedExpression, entry: u32, bits: u64) -> bool {
     match e {
-        TypedExpression::Convert { from, to, operand } => {
-            *from == Prim::I32 && *to == Prim::I32 && is_number(operand, bits)
+        TypedExpression::Naming { entity, operand } => {
+            entity.0 == entry && is_number(operand, bits)
         }
         _ => false,
     }
 }
 
-fn is_value(e: Option<&TypedExpression>, bits: u64, is_converted: bool) -> bool {
+/// The same of what is brought into an `int`.
+fn is_brought(e: &TypedExpression, entry: u32, bits: u64) -> bool {
     match e {
-        Some(e) => {
-            if is_converted {
-                is_brought(e, bits)
-            } else {
-                is_number(e, bits)
-            }
+        TypedExpression::Convert { from, to, operand } => {
+            *from == Prim::I32 && *to == Prim::I32 && is_value(operand, entry, bits)
         }
+        _ => false,
+    }
+}
+
+/// The same where it is converted to the enumeration of this number.
+fn is_converted(e: &TypedExpression, enumeration: u32, entry: u32, bits: u64) -> bool {
+    match e {
+        TypedExpression::Naming { entity, operand } => {
+            entity.0 == enumeration && is_brought(operand, entry, bits)
+        }
+        _ => false,
+    }
+}
+
+fn is_returned(e: &TypedExpression, outcome: &Outcome) -> bool {
+    match outcome {
+        Outcome::Gives(entry, bits) => is_value(e, *entry, *bits),
+        Outcome::Brings(entry, bits) => is_brought(e, *entry, *bits),
+        Outcome::Converts(enumeration, entry, bits) => {
+            is_converted(e, *enumeration, *entry, *bits)
+        }
+        _ => false,
+    }
+}
+
+fn is_position(position: Position, want: Option<&(u16, u16)>) -> bool {
+    match want {
+        Some((line, column)) => position.line == *line && position.column == *column,
+        None => false,
+    }
+}
+
+/// Whether these are all positions, in their order.
+fn are_positions(found: &[Position], wanted: &[(u16, u16)]) -> bool {
+    for (at, position) in found.iter().enumerate() {
+        if !is_position(*position, wanted.get(at)) {
+            return false;
+        }
+    }
+    found.len() == wanted.len()
+}
+
+fn stands(module: &Typed, body: usize, wanted: &[(u16, u16)]) -> bool {
+    match module.functions.as_slice().get(body) {
+        Some(function) => are_positions(function.positions.as_slice(), wanted),
         None => false,
     }
 }
@@ -154,9 +200,11 @@ fn is_module(module: &Typed, outcome: &Outcome) -> bool {
     match outcome {
         Outcome::Built => true,
         Outcome::Calls(entry) => entry_called(module) == Some(EntityNo(*entry)),
-        Outcome::Gives(bits) => is_value(returned(module), *bits, false),
-        Outcome::Brings(bits) => is_value(returned(module), *bits, true),
-        _ => false,
+        Outcome::Stands(body, wanted) => stands(module, *body, wanted),
+        _ => match returned(module) {
+            Some(e) => is_returned(e, outcome),
+            None => false,
+        },
     }
 }
 

@@ -3,8 +3,8 @@ use crate::modules::{Code, first_unlike};
 use ang_code::{Instruction, RoutineCode};
 use ang_core::{CoreBody, CoreExpression, CoreStatement};
 use ang_gen::generate_module;
-use ang_kinds::Prim;
-use ang_meaning::{Arithmetic, Callee, Operation, Passing, Spot, Target};
+use ang_kinds::{Operator, Prim};
+use ang_meaning::{Callee, Operation, Passing, Spot, Target};
 use std::alloc::{AllocError, Global};
 
 type Row = Result<Box<CoreStatement>, AllocError>;
@@ -26,6 +26,7 @@ fn body(alloc: Global, params: &[Passing], statement: Row) -> Made {
         params,
         result: Some(Prim::I32),
         statement: Box::into_inner(statement),
+        positions: Vec::new(alloc),
     })
 }
 
@@ -114,7 +115,7 @@ fn called(alloc: Global) -> Row {
     let mut operands = Vec::with_capacity(alloc, 2)?;
     operands.push(CoreExpression::Number(1))?;
     operands.push(CoreExpression::Call(Callee::Own(3), arguments, targets))?;
-    let minus = Operation::Binary(Arithmetic::Subtract, Prim::I32);
+    let minus = Operation::Binary(Operator::Subtract, Prim::I32);
     let difference = boxed(alloc, CoreExpression::Apply(minus, operands))?;
     row(alloc, CoreStatement::Evaluate(difference))
 }
@@ -184,7 +185,7 @@ const CALL: &[Instruction] = &[
         with: 3,
     },
     Instruction::DropUnder(1),
-    Instruction::Apply(Operation::Binary(Arithmetic::Subtract, Prim::I32)),
+    Instruction::Apply(Operation::Binary(Operator::Subtract, Prim::I32)),
     Instruction::Drop,
     Instruction::PushBits(0),
     Instruction::Return(0),

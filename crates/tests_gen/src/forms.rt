@@ -1,10 +1,10 @@
 //! Resolved trees by their parts. A part that could not be made is handed on to the whole, so that who writes
 //! a tree down has nothing to drop before its end.
-use ang_kinds::{List, Pass, Prim};
+use ang_kinds::{Comparison, EntityNo, List, Operator, Pass, Prim};
 use ang_typed::{
-    Comparison, Global as GlobalVariable, Local, Operator, StepKind, Typed, TypedArgument,
-    TypedBlock, TypedCallee, TypedChoice, TypedExpression, TypedFor, TypedFunction, TypedLoop,
-    TypedMember, TypedParameter, TypedSite, TypedStatement, TypedVariable,
+    Global as GlobalVariable, Local, StepKind, Typed, TypedArgument, TypedBlock, TypedCallee,
+    TypedChoice, TypedExpression, TypedFor, TypedFunction, TypedLoop, TypedMember, TypedParameter,
+    TypedSite, TypedStatement, TypedVariable,
 };
 use ang_types::ArgType;
 use std::alloc::{AllocError, Global};
@@ -187,6 +187,13 @@ pub fn same(alloc: Global, left: Tree, right: Tree) -> Tree {
 pub fn cast(alloc: Global, family: usize, operand: Tree) -> Tree {
     let operand = operand?;
     leaf(alloc, TypedExpression::Cast { family, operand })
+}
+
+/// The operand, in which the entry of that number is named.
+pub fn naming(alloc: Global, number: u32, operand: Tree) -> Tree {
+    let entity = EntityNo(number);
+    let operand = operand?;
+    leaf(alloc, TypedExpression::Naming { entity, operand })
 }
 
 /// A call that gives an `int`.
@@ -389,8 +396,9 @@ fn integers(alloc: Global, passes: &[Pass]) -> Result<Vec<TypedParameter>, Alloc
     Ok(parameters)
 }
 
-/// A function that gives an `int`.
+/// A function that gives an `int`, without the places of its statements.
 pub fn function_of(
+    alloc: Global,
     parameters: Result<Vec<TypedParameter>, AllocError>,
     statements: Rows,
 ) -> Result<TypedFunction, AllocError> {
@@ -402,6 +410,7 @@ pub fn function_of(
         parameters,
         result,
         body,
+        positions: List::from_vec(Vec::new(alloc)),
     })
 }
 
@@ -411,7 +420,7 @@ pub fn function(
     passes: &[Pass],
     statements: Rows,
 ) -> Result<TypedFunction, AllocError> {
-    function_of(integers(alloc, passes), statements)
+    function_of(alloc, integers(alloc, passes), statements)
 }
 
 /// A module without classes and imports.

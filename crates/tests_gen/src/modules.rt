@@ -1,12 +1,12 @@
 //! A small module, with the code that docs/MEANING.md ("Code") gives for it.
-use ang_code::{Instruction, RoutineCode};
+use ang_code::{Instruction, Mark, RoutineCode};
 use ang_gen::generate_module;
-use ang_kinds::{List, Pass, Prim};
+use ang_kinds::{Comparison, List, Operator, Pass, Position, Prim};
 use ang_lower::lower;
-use ang_meaning::{Arithmetic, Callee, Comparison as Test, Operation, Passing, Update};
+use ang_meaning::{Callee, Operation, Passing, Update};
 use ang_typed::{
-    Comparison, Global as GlobalVariable, StepKind, Typed, TypedBlock, TypedExpression,
-    TypedFunction, TypedLoop, TypedParameter, TypedSite, TypedStatement, TypedVariable,
+    Global as GlobalVariable, StepKind, Typed, TypedBlock, TypedExpression, TypedFunction,
+    TypedLoop, TypedParameter, TypedSite, TypedStatement, TypedVariable,
 };
 use ang_types::ArgType;
 use std::alloc::{AllocError, Global};
@@ -56,16 +56,30 @@ fn repeated(alloc: Global) -> Result<Box<TypedLoop>, AllocError> {
     Ok(Box::new(alloc, TypedLoop { condition, body })?)
 }
 
+/// Where `while` and `--n` stand in the text of `looping`.
+const POSITIONS: &[Position] = &[
+    Position {
+        line: 0,
+        column: 16,
+    },
+    Position {
+        line: 0,
+        column: 32,
+    },
+];
+
 /// `void f(int n) { while (n > 0) { --n; } }`
 fn looping(alloc: Global) -> Result<TypedFunction, AllocError> {
     let ty = INT;
     let pass = Pass::Value;
+    let positions = Vec::from_slice(alloc, POSITIONS)?;
     let parameters = vec![in alloc; TypedParameter { ty, pass }]?;
     let statements = vec![in alloc; TypedStatement::While(repeated(alloc)?)]?;
     Ok(TypedFunction {
         parameters: List::from_vec(parameters),
         result: ArgType::Void,
         body: TypedBlock { statements },
+        positions: List::from_vec(positions),
     })
 }
 
@@ -111,7 +125,7 @@ pub type Code = (
 );
 
 const LESS: Update = Update {
-    work: Arithmetic::Subtract,
+    operator: Operator::Subtract,
     at: Prim::I32,
     to: Prim::I32,
     old: false,
@@ -125,7 +139,7 @@ const LOOPING: Code = (
         Instruction::Tick,
         Instruction::Load(0),
         Instruction::PushBits(0),
-        Instruction::Apply(Operation::Compare(Test::Greater, true)),
+        Instruction::Apply(Operation::Compare(Comparison::Greater, true)),
         Instruction::JumpIfFalse(4),
         Instruction::PushBits(1),
         Instruction::Update(LESS, 0),
@@ -151,12 +165,17 @@ const INITIALIZER: Code = (
 
 const CODES: [Code; 2] = [LOOPING, INITIALIZER];
 
+/// For each code the first instruction of each mark, and the column of its statement. The jump back of a loop is the
+/// loop's own, though it stands after the loop's body.
+const MARKS: [&[(u32, u16)]; 2] = [&[(0, 16), (5, 32), (8, 16)], &[]];
+
 fn is_same_operation(one: Operation, other: Operation) -> bool {
     match (one, other) {
         (Operation::Binary(one, at), Operation::Binary(other, its)) => one == other && at == its,
-        (Operation::Compare(Test::Greater, one), Operation::Compare(Test::Greater, other)) => {
-            one == other
-        }
+        (
+            Operation::Compare(Comparison::Greater, one),
+            Operation::Compare(Comparison::Greater, other),
+        ) => { one == other }
         (Operation::GlobalSet(one), Operation::GlobalSet(other)) => one == other,
         _ => false,
     }
@@ -233,5 +252,33 @@ fn first_wrong(alloc: Global, module: Typed) -> Result<Option<usize>, AllocError
 fn functions_and_then_initializers(rt: HostRuntime) -> Result<(), AllocError> {
     let wrong = first_wrong(rt.alloc(), module(rt.alloc())?)?;
     assert_eq!(rt; wrong, None);
+    Ok(())
+}
+
+fn are_marks(marks: &[Mark], wanted: &[(u32, u16)]) -> bool {
+    for (at, mark) in marks.iter().enumerate() {
+        match wanted.get(at) {
+            Some((first, column)) if mark.at == *first && mark.position.column == *column => {}
+            _ => return false,
+        }
+    }
+    marks.len() == wanted.len()
+}
+
+/// Whether each code has the marks that are wanted.
+fn are_marked(codes: &[RoutineCode]) -> bool {
+    for (at, code) in codes.iter().enumerate() {
+        match MARKS.get(at) {
+            Some(wanted) if are_marks(code.marks.as_slice(), wanted) => {}
+            _ => return false,
+        }
+    }
+    codes.len() == MARKS.len()
+}
+
+#[test]
+fn instructions_are_of_the_innermost_statement(rt: HostRuntime) -> Result<(), AllocError> {
+    let codes = codes_of(rt.alloc(), module(rt.alloc())?)?;
+    assert!(rt; are_marked(codes.as_slice()));
     Ok(())
 }

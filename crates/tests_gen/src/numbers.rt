@@ -1,5 +1,5 @@
-use ang_kinds::{Fault, Prim};
-use ang_meaning::{Arithmetic, Comparison, Update};
+use ang_kinds::{Comparison, Fault, Operator, Prim};
+use ang_meaning::Update;
 use ang_vm_numbers::{change, compare, complement, convert, deny, negate, work};
 
 // The 64 bits of a negative number.
@@ -15,39 +15,33 @@ const MINUS_56: u64 = u64::MAX - 55;
 
 const LEAST_INT: u64 = u64::MAX - 0x7FFF_FFFF;
 
-const WORKS: [(Arithmetic, Prim, u64, u64, Result<u64, Fault>); 8] = [
+const WORKS: [(Operator, Prim, u64, u64, Result<u64, Fault>); 8] = [
+    (Operator::ShiftRight, Prim::I32, MINUS_8, 1, Ok(2147483644)),
     (
-        Arithmetic::ShiftRight,
+        Operator::ShiftRightArithmetic,
         Prim::I32,
         MINUS_8,
         1,
-        Ok(2147483644),
+        Ok(MINUS_4),
     ),
-    (Arithmetic::ShiftSigned, Prim::I32, MINUS_8, 1, Ok(MINUS_4)),
-    (Arithmetic::ShiftLeft, Prim::U8, 0x81, 9, Ok(2)),
+    (Operator::ShiftLeft, Prim::U8, 0x81, 9, Ok(2)),
     (
-        Arithmetic::Divide,
+        Operator::Divide,
         Prim::I32,
         LEAST_INT,
         MINUS_1,
         Err(Fault::DivideOverflow),
     ),
     (
-        Arithmetic::Divide,
+        Operator::Divide,
         Prim::I64,
         LEAST_INT,
         MINUS_1,
         Ok(2147483648),
     ),
-    (
-        Arithmetic::Divide,
-        Prim::I32,
-        10,
-        0,
-        Err(Fault::DivideByZero),
-    ),
-    (Arithmetic::Remainder, Prim::I32, MINUS_8, 5, Ok(MINUS_3)),
-    (Arithmetic::Add, Prim::I32, 0, MINUS_56, Ok(MINUS_56)),
+    (Operator::Divide, Prim::I32, 10, 0, Err(Fault::DivideByZero)),
+    (Operator::Remainder, Prim::I32, MINUS_8, 5, Ok(MINUS_3)),
+    (Operator::Add, Prim::I32, 0, MINUS_56, Ok(MINUS_56)),
 ];
 
 #[test]
@@ -58,7 +52,7 @@ fn operators(rt: HostRuntime) {
 }
 
 const STEP: Update = Update {
-    work: Arithmetic::Add,
+    operator: Operator::Add,
     at: Prim::I32,
     to: Prim::U8,
     old: true,

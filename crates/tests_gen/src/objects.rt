@@ -6,9 +6,9 @@ use crate::forms::{
     read_at, same, step, step_at, then, two_out, value_of,
 };
 use crate::trees::first_wrong;
-use ang_kinds::{EntityNo, Pass, Prim};
+use ang_kinds::{EntityNo, Operator, Pass, Prim};
 use ang_typed::{
-    HostEntity, Operator, StepKind, Typed, TypedArgument, TypedCallee, TypedMember, TypedParameter,
+    HostEntity, StepKind, Typed, TypedArgument, TypedCallee, TypedMember, TypedParameter,
     TypedVariable,
 };
 use ang_types::ArgType;
@@ -37,7 +37,7 @@ const OTHER: TypedParameter = TypedParameter {
 /// A method with a parameter `T@ o`: `this` is local 0 and o is local 1.
 fn method(alloc: Global, statements: Rows) -> Result<Typed, AllocError> {
     let parameters = Vec::from_slice(alloc, &[THIS, OTHER]);
-    module_with(alloc, function_of(parameters, statements))
+    module_with(alloc, function_of(alloc, parameters, statements))
 }
 
 // ---- members
@@ -72,8 +72,8 @@ fn changing(alloc: Global) -> Rows {
 
 /// A member's object comes after the value.
 const CHANGING: &str = "[In, Object] { (FieldSet(2)) 1 l0; (Write(EntityNo(21))) 2 l0; \
-    (FieldChange(2, Change { work: Add, at: I32, to: I32, old: false })) 3 l0; \
-    (Alter(EntityNo(21), Change { work: Add, at: I32, to: I32, old: true })) 1 l0; \
+    (FieldChange(2, Update { operator: Add, at: I32, to: I32, old: false })) 3 l0; \
+    (Alter(EntityNo(21), Update { operator: Add, at: I32, to: I32, old: true })) 1 l0; \
     return (FieldGet(2)) l0; }";
 
 #[test]
@@ -111,7 +111,7 @@ fn own(alloc: Global) -> Rows {
 
 /// A field of `this` is one of local 0.
 const OWN: &str = "[In, Object] { (FieldSet(0)) 1 l1; \
-    (FieldChange(0, Change { work: Subtract, at: I32, to: I32, old: false })) 1 l1; \
+    (FieldChange(0, Update { operator: Subtract, at: I32, to: I32, old: false })) 1 l1; \
     (Import(7) [Target { spot: Field { object: 1, field: 2 }, to: Some(U8) }, \
     Target { spot: Field { object: 1, field: 1 }, to: Some(I32) }]) 0 0; return (FieldGet(0)) l1; }";
 

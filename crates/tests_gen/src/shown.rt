@@ -1,28 +1,29 @@
 //! Core trees as text.
 use ang_core::{CoreBody, CoreExpression, CoreStatement};
-use ang_meaning::{Arithmetic, Callee, Comparison, Operation, Spot, Target, Update};
+use ang_kinds::{Comparison, Operator};
+use ang_meaning::{Callee, Operation, Spot, Target, Update};
 use std::alloc::{AllocError, Global};
 
-fn work_name(work: Arithmetic) -> &'static str {
-    match work {
-        Arithmetic::Add => "Add",
-        Arithmetic::Subtract => "Subtract",
-        Arithmetic::Multiply => "Multiply",
-        Arithmetic::Divide => "Divide",
-        Arithmetic::Remainder => "Remainder",
-        Arithmetic::And => "And",
-        Arithmetic::Or => "Or",
-        Arithmetic::Xor => "Xor",
-        Arithmetic::ShiftLeft => "ShiftLeft",
-        Arithmetic::ShiftRight => "ShiftRight",
-        Arithmetic::ShiftSigned => "ShiftSigned",
+fn operator_name(operator: Operator) -> &'static str {
+    match operator {
+        Operator::Add => "Add",
+        Operator::Subtract => "Subtract",
+        Operator::Multiply => "Multiply",
+        Operator::Divide => "Divide",
+        Operator::Remainder => "Remainder",
+        Operator::BitAnd => "BitAnd",
+        Operator::BitOr => "BitOr",
+        Operator::BitXor => "BitXor",
+        Operator::ShiftLeft => "ShiftLeft",
+        Operator::ShiftRight => "ShiftRight",
+        Operator::ShiftRightArithmetic => "ShiftRightArithmetic",
     }
 }
 
-fn test_name(test: Comparison) -> &'static str {
-    match test {
+fn comparison_name(comparison: Comparison) -> &'static str {
+    match comparison {
         Comparison::Equal => "Equal",
-        Comparison::Unequal => "Unequal",
+        Comparison::NotEqual => "NotEqual",
         Comparison::Less => "Less",
         Comparison::LessEqual => "LessEqual",
         Comparison::Greater => "Greater",
@@ -31,9 +32,14 @@ fn test_name(test: Comparison) -> &'static str {
 }
 
 fn change_text(alloc: Global, by: Update) -> Result<String, AllocError> {
-    let Update { work, at, to, old } = by;
-    let work = work_name(work);
-    format!(in alloc; "Change {{ work: {work}, at: {at:?}, to: {to:?}, old: {old} }}")
+    let Update {
+        operator,
+        at,
+        to,
+        old,
+    } = by;
+    let operator = operator_name(operator);
+    format!(in alloc; "Update {{ operator: {operator}, at: {at:?}, to: {to:?}, old: {old} }}")
 }
 
 fn changing_text(alloc: Global, word: &str, at: usize, by: Update) -> Result<String, AllocError> {
@@ -43,8 +49,12 @@ fn changing_text(alloc: Global, word: &str, at: usize, by: Update) -> Result<Str
 
 fn operation_text(alloc: Global, operation: Operation) -> Result<String, AllocError> {
     match operation {
-        Operation::Binary(work, at) => format!(in alloc; "Work({}, {at:?})", work_name(work)),
-        Operation::Compare(test, sign) => format!(in alloc; "Compare({}, {sign})", test_name(test)),
+        Operation::Binary(operator, at) => {
+            format!(in alloc; "Binary({}, {at:?})", operator_name(operator))
+        }
+        Operation::Compare(test, sign) => {
+            format!(in alloc; "Compare({}, {sign})", comparison_name(test))
+        }
         Operation::Convert(at) => format!(in alloc; "Convert({at:?})"),
         Operation::Negate(at) => format!(in alloc; "Negate({at:?})"),
         Operation::Complement(at) => format!(in alloc; "Complement({at:?})"),
@@ -52,7 +62,7 @@ fn operation_text(alloc: Global, operation: Operation) -> Result<String, AllocEr
         Operation::Same => format!(in alloc; "Same"),
         Operation::GlobalGet(at) => format!(in alloc; "GlobalGet({at})"),
         Operation::GlobalSet(at) => format!(in alloc; "GlobalSet({at})"),
-        Operation::GlobalChange(at, by) => changing_text(alloc, "GlobalChange", at, by),
+        Operation::GlobalChange(by, at) => changing_text(alloc, "GlobalChange", at, by),
         Operation::Ask(entity) => format!(in alloc; "Ask({entity:?})"),
         Operation::Read(entity) => format!(in alloc; "Read({entity:?})"),
         Operation::Write(entity) => format!(in alloc; "Write({entity:?})"),
@@ -63,7 +73,7 @@ fn operation_text(alloc: Global, operation: Operation) -> Result<String, AllocEr
         Operation::Make(class) => format!(in alloc; "Make({class})"),
         Operation::FieldGet(at) => format!(in alloc; "FieldGet({at})"),
         Operation::FieldSet(at) => format!(in alloc; "FieldSet({at})"),
-        Operation::FieldChange(at, by) => changing_text(alloc, "FieldChange", at, by),
+        Operation::FieldChange(by, at) => changing_text(alloc, "FieldChange", at, by),
         Operation::Cast(class) => format!(in alloc; "Cast({class})"),
     }
 }

@@ -1,17 +1,17 @@
 //! Small modules as resolved trees, and the core trees that docs/MEANING.md gives them.
 use crate::forms::{
     INT, Row, Rows, Tree, and, assign, block, call, choice, choose, compare, complement, converted,
-    do_loop, evaluate, for_loop, function, give_back, go_on, leaf, leave, local, module_of, negate,
-    none, not, nothing, number, one_local, one_value, only, operate, or, plain_module, step, then,
-    truth, two_locals, two_out, value_of, while_loop,
+    do_loop, evaluate, for_loop, function, give_back, go_on, leaf, leave, local, module_of, naming,
+    negate, none, not, nothing, number, one_local, one_value, only, operate, or, plain_module,
+    step, then, truth, two_locals, two_out, value_of, while_loop,
 };
 use crate::shown::show_body;
 use ang_core::CoreBody;
-use ang_kinds::{EntityNo, Pass, Prim};
+use ang_kinds::{Comparison, EntityNo, Operator, Pass, Prim};
 use ang_lower::lower;
 use ang_typed::{
-    Comparison, Global as GlobalVariable, HostEntity, Operator, StepKind, Typed, TypedCallee,
-    TypedExpression, TypedSite, TypedVariable,
+    Global as GlobalVariable, HostEntity, StepKind, Typed, TypedCallee, TypedExpression, TypedSite,
+    TypedVariable,
 };
 use ang_types::ArgType;
 use std::alloc::{AllocError, Global};
@@ -62,7 +62,7 @@ fn counting(alloc: Global) -> Result<Typed, AllocError> {
     module_of(alloc, &[Pass::Value, Pass::RefOut], counting_rows(alloc))
 }
 
-const COUNTING: &str = "[Out, In] { declare (Work(Add, I32)) l1 1; (l1 =) l0; return l0; }";
+const COUNTING: &str = "[Out, In] { declare (Binary(Add, I32)) l1 1; (l1 =) l0; return l0; }";
 
 #[test]
 fn locals_count_from_the_innermost(rt: HostRuntime) -> Result<(), AllocError> {
@@ -96,8 +96,8 @@ fn looping(alloc: Global) -> Result<Typed, AllocError> {
 
 const LOOPING: &str = "[In] { { declare 0; while (Compare(Less, true)) l0 l1;\
     { if (Compare(Equal, true)) l0 l1;{ continue; }{ break; } }\
-    { (l0 Change { work: Add, at: I32, to: I32, old: false }) 1; } } \
-    while 1;{ (l0 Change { work: Subtract, at: I32, to: I32, old: true }) 1; }skip; \
+    { (l0 Update { operator: Add, at: I32, to: I32, old: false }) 1; } } \
+    while 1;{ (l0 Update { operator: Subtract, at: I32, to: I32, old: true }) 1; }skip; \
     do while 0;{ skip; } }";
 
 #[test]
@@ -139,7 +139,7 @@ fn calling(alloc: Global, to: ArgType) -> Result<Typed, AllocError> {
     module_of(alloc, &[], rows)
 }
 
-const CALLING: &str = "[] { declare 0; declare 0; return (Work(Add, I32)) (Own(0) [\
+const CALLING: &str = "[] { declare 0; declare 0; return (Binary(Add, I32)) (Own(0) [\
     Target { spot: Global(4), to: Some(I8) }, Target { spot: Local(1), to: Some(I32) }]) 0 0 \
     (Ask(EntityNo(17))) 1; }";
 
@@ -151,7 +151,8 @@ fn the_last_target_comes_first(rt: HostRuntime) -> Result<(), AllocError> {
     Ok(())
 }
 
-const CALLING_FOR_ENUMERATION: &str = "[] { declare 0; declare 0; return (Work(Add, I32)) (Own(0) [\
+const CALLING_FOR_ENUMERATION: &str =
+    "[] { declare 0; declare 0; return (Binary(Add, I32)) (Own(0) [\
     Target { spot: Global(4), to: Some(I32) }, Target { spot: Local(1), to: Some(I32) }]) 0 0 \
     (Ask(EntityNo(17))) 1; }";
 
@@ -216,7 +217,7 @@ fn choosing(alloc: Global) -> Result<Typed, AllocError> {
 }
 
 const CHOOSING: &str = "[] { { (Write(EntityNo(13))) (GlobalGet(2)); \
-    (GlobalChange(2, Change { work: Xor, at: I64, to: U8, old: false })) \
+    (GlobalChange(2, Update { operator: BitXor, at: I64, to: U8, old: false })) \
     [(Not) [[(Compare(Greater, true)) 1 2 ? 1 : 0] ? 1 : 0] ? 18446744073709551615 : \
     (Complement(I64)) (Read(EntityNo(14)))]; } }";
 
@@ -254,6 +255,23 @@ fn operations_on_literals_are_done(rt: HostRuntime) -> Result<(), AllocError> {
     Ok(())
 }
 
+/// `{ uint8(V); cast<T>(a); }` of a value V of an enumeration, which is 300 and entity 6, of a host type T, which is
+/// entity 2, and of a parameter a.
+fn names(alloc: Global) -> Result<Typed, AllocError> {
+    let value = naming(alloc, 6, number(alloc, 300));
+    let rows = only(alloc, evaluate(alloc, converted(alloc, Prim::U8, value)));
+    let same = naming(alloc, 2, local(alloc, 0));
+    let rows = then(rows, evaluate(alloc, same));
+    module_of(alloc, &[Pass::Value], rows)
+}
+
+#[test]
+fn an_entry_that_is_named_leaves_no_trace(rt: HostRuntime) -> Result<(), AllocError> {
+    let wrong = first_wrong(rt.alloc(), names(rt.alloc())?, &["[In] { 44; l0; }"])?;
+    assert_eq!(rt; wrong, None);
+    Ok(())
+}
+
 /// `int a; int b = 5; int c = b + 1;`
 fn globals(alloc: Global) -> Result<Vec<GlobalVariable>, AllocError> {
     let b = value_of(alloc, TypedVariable::Global(1));
@@ -285,7 +303,7 @@ fn initialized(alloc: Global) -> Result<Typed, AllocError> {
 const INITIALIZED: [&str; 3] = [
     "[] { }",
     "[] (GlobalSet(1)) 5;",
-    "[] (GlobalSet(2)) (Work(Add, I32)) (GlobalGet(1)) 1;",
+    "[] (GlobalSet(2)) (Binary(Add, I32)) (GlobalGet(1)) 1;",
 ];
 
 #[test]

@@ -5,8 +5,8 @@ use ang_code::Instruction;
 use ang_code::Instruction::{
     Apply, Drop, DropUnder, Enter, Leave, Load, PushBits, PushNull, Return, Store, SwapField,
 };
-use ang_kinds::Prim;
-use ang_meaning::{Arithmetic, Callee, Operation, Passing, Slot, Update, ValueKind};
+use ang_kinds::{Operator, Prim};
+use ang_meaning::{Callee, Operation, Passing, Slot, Update, ValueKind};
 
 /// The module `c`, with one global.
 pub const CLASSES: Module = Module {
@@ -37,22 +37,22 @@ const ROWS: &[ClassRow] = &[
     (5, &[HANDLE, HANDLE], &[4], &[]),
 ];
 
-const ADD: Instruction = Apply(Operation::Binary(Arithmetic::Add, Prim::I32));
+const ADD: Instruction = Apply(Operation::Binary(Operator::Add, Prim::I32));
 
-const DIVIDE: Instruction = Apply(Operation::Binary(Arithmetic::Divide, Prim::I32));
+const DIVIDE: Instruction = Apply(Operation::Binary(Operator::Divide, Prim::I32));
 
 /// `+= n` on an `int8`.
 const PLUS: Update = Update {
-    work: Arithmetic::Add,
+    operator: Operator::Add,
     at: Prim::I32,
     to: Prim::I8,
     old: false,
 };
 
-const ADD_TO_0: Instruction = Apply(Operation::FieldChange(0, PLUS));
+const ADD_TO_0: Instruction = Apply(Operation::FieldChange(PLUS, 0));
 
 /// `++` after the field, before the 1 and the object.
-const RAISE_0: Instruction = Apply(Operation::FieldChange(0, Update { old: true, ..PLUS }));
+const RAISE_0: Instruction = Apply(Operation::FieldChange(Update { old: true, ..PLUS }, 0));
 
 /// The bodies by number.
 const TEXTS: &[Text] = list! {

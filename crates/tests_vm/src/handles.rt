@@ -8,8 +8,8 @@ use ang_code::Instruction::{
     Apply, Drop, DropUnder, Enter, Leave, Load, LoopBack, PushBits, PushNull, Return, Store, Swap,
     Tick,
 };
-use ang_kinds::Prim;
-use ang_meaning::{Arithmetic, Callee, Operation, Passing, Routine, Slot, Update};
+use ang_kinds::{Operator, Prim};
+use ang_meaning::{Callee, Operation, Passing, Routine, Slot, Update};
 
 /// The module `a`, with two globals.
 pub const HANDLES: Module = Module {
@@ -36,11 +36,11 @@ pub const EXPORTER: Module = Module {
     globals: &[],
 };
 
-const DIVIDE: Instruction = Apply(Operation::Binary(Arithmetic::Divide, Prim::I32));
+const DIVIDE: Instruction = Apply(Operation::Binary(Operator::Divide, Prim::I32));
 
 /// `+= n` on an `int`.
 const PLUS: Update = Update {
-    work: Arithmetic::Add,
+    operator: Operator::Add,
     at: Prim::I32,
     to: Prim::I32,
     old: false,
@@ -56,7 +56,7 @@ const STEP_ON: Instruction = Apply(Operation::Alter(STEP, Update { old: true, ..
 const STEP_PARTED: Instruction = Apply(Operation::Alter(
     STEP,
     Update {
-        work: Arithmetic::Divide,
+        operator: Operator::Divide,
         ..PLUS
     },
 ));

@@ -6,8 +6,8 @@ use ang_code::Instruction::{
     Apply, Drop, DropUnder, Enter, JumpIfFalse, Load, LoopBack, PushBits, Return, Store, Swap,
     Tick, Update as Changed,
 };
-use ang_kinds::Prim;
-use ang_meaning::{Arithmetic, Callee, Comparison, Operation, Passing, Slot, Update};
+use ang_kinds::{Comparison, Operator, Prim};
+use ang_meaning::{Callee, Operation, Passing, Slot, Update};
 
 /// The module `m`, with two globals.
 pub const NUMBERS: Module = Module {
@@ -22,23 +22,23 @@ pub const NUMBERS: Module = Module {
 
 /// An addition of a number, whose value is the one before.
 const INCREMENT: Update = Update {
-    work: Arithmetic::Add,
+    operator: Operator::Add,
     at: Prim::I64,
     to: Prim::I64,
     old: true,
 };
 
-const ADD: Instruction = Apply(Operation::Binary(Arithmetic::Add, Prim::I32));
+const ADD: Instruction = Apply(Operation::Binary(Operator::Add, Prim::I32));
 
-const SUBTRACT: Instruction = Apply(Operation::Binary(Arithmetic::Subtract, Prim::I32));
+const SUBTRACT: Instruction = Apply(Operation::Binary(Operator::Subtract, Prim::I32));
 
-const DIVIDE: Instruction = Apply(Operation::Binary(Arithmetic::Divide, Prim::I32));
+const DIVIDE: Instruction = Apply(Operation::Binary(Operator::Divide, Prim::I32));
 
 /// Adds an `int` to the register; its value is the new one.
 const ADD_TO_REG: Instruction = Apply(Operation::Alter(
     REGISTER,
     Update {
-        work: Arithmetic::Add,
+        operator: Operator::Add,
         at: Prim::I32,
         to: Prim::I32,
         old: false,

@@ -53,6 +53,7 @@ fn body(alloc: Global, ty: Option<Prim>, text: &Text) -> Result<LoadedBody, Allo
         result: ty,
         height: text.1,
         text: text.2.to_vec(alloc)?,
+        marks: Vec::new(alloc),
     };
     LoadedBody::new(alloc, code)
 }

@@ -7,8 +7,8 @@ use ang_code::Instruction::{
     Apply, Drop, DropUnder, Enter, JumpIfFalse, Leave, Load, LoopBack, PushBits, PushNull, Return,
     Store, Tick, Update as Changed,
 };
-use ang_kinds::{EntityNo, Prim};
-use ang_meaning::{Arithmetic, Callee, Comparison, Operation, Slot, Update};
+use ang_kinds::{Comparison, EntityNo, Operator, Prim};
+use ang_meaning::{Callee, Operation, Slot, Update};
 use ang_vm_fused::fused::take;
 use ang_vm_stack::fuse::fuse;
 use ang_vm_stack::kind::Dispatch;
@@ -18,16 +18,16 @@ use std::alloc::{AllocError, Global};
 
 const LESS: Comparison = Comparison::Less;
 
-const ADD: Arithmetic = Arithmetic::Add;
+const ADD: Operator = Operator::Add;
 
-const SUBTRACT: Arithmetic = Arithmetic::Subtract;
+const SUBTRACT: Operator = Operator::Subtract;
 
 const I64: Prim = Prim::I64;
 
 const U64: Prim = Prim::U64;
 
 const LATER: Update = Update {
-    work: Arithmetic::Add,
+    operator: Operator::Add,
     at: Prim::I64,
     to: Prim::I64,
     old: true,
@@ -110,7 +110,7 @@ const LEFT: [(Step, Dispatch); 21] = [
     (Step::KeepOut(None, 0), Dispatch::Value),
     (Step::KeepLastOut(None, 0), Dispatch::Value),
     (
-        Step::WorkTopConstant(Arithmetic::Divide, I64, 0),
+        Step::WorkTopConstant(Operator::Divide, I64, 0),
         Dispatch::Value,
     ),
 ];
@@ -295,7 +295,7 @@ const CALLS: [(usize, Option<Step>); 8] = [
 
 /// A change of a `uint` by `^`.
 const DIFFER: Update = Update {
-    work: Arithmetic::Xor,
+    operator: Operator::BitXor,
     at: Prim::U32,
     to: Prim::U32,
     old: false,
@@ -306,9 +306,9 @@ const DIFFER: Update = Update {
 const PAIRED: &[Instruction] = &[
     Load(1),
     Load(1),
-    Apply(Operation::Binary(Arithmetic::Multiply, I64)),
+    Apply(Operation::Binary(Operator::Multiply, I64)),
     PushBits(16),
-    Apply(Operation::Binary(Arithmetic::ShiftSigned, I64)),
+    Apply(Operation::Binary(Operator::ShiftRightArithmetic, I64)),
     Load(1),
     Load(1),
     Apply(Operation::Binary(ADD, I64)),
@@ -324,29 +324,29 @@ const PAIRED: &[Instruction] = &[
     Drop,
     Load(1),
     Load(1),
-    Apply(Operation::Binary(Arithmetic::Multiply, Prim::I32)),
+    Apply(Operation::Binary(Operator::Multiply, Prim::I32)),
     Load(2),
     Apply(Operation::Compare(Comparison::LessEqual, true)),
     JumpIfFalse(4),
     Load(1),
     Load(1),
-    Apply(Operation::Binary(Arithmetic::Remainder, Prim::I32)),
+    Apply(Operation::Binary(Operator::Remainder, Prim::I32)),
     PushBits(0),
     Apply(Operation::Compare(Comparison::Equal, true)),
     JumpIfFalse(4),
     Load(1),
     Load(1),
     PushBits(255),
-    Apply(Operation::Binary(Arithmetic::And, Prim::U32)),
-    Apply(Operation::Binary(Arithmetic::Xor, Prim::U32)),
+    Apply(Operation::Binary(Operator::BitAnd, Prim::U32)),
+    Apply(Operation::Binary(Operator::BitXor, Prim::U32)),
     Load(1),
     PushBits(15),
-    Apply(Operation::Binary(Arithmetic::ShiftRight, Prim::U32)),
+    Apply(Operation::Binary(Operator::ShiftRight, Prim::U32)),
     Changed(DIFFER, 0),
     Drop,
     Load(1),
     Load(1),
-    Apply(Operation::Binary(Arithmetic::Xor, Prim::I32)),
+    Apply(Operation::Binary(Operator::BitXor, Prim::I32)),
     Apply(Operation::Convert(I64)),
     Changed(LATER, 0),
     Drop,
@@ -453,7 +453,7 @@ const OUT_STEPS: [(usize, Option<Step>); 6] = [
 
 /// A change of a `uint64` by `^`.
 const DIFFER_64: Update = Update {
-    work: Arithmetic::Xor,
+    operator: Operator::BitXor,
     at: U64,
     to: U64,
     old: false,
@@ -464,24 +464,24 @@ const HASHING: &[Instruction] = &[
     Load(1),
     Load(1),
     PushBits(255),
-    Apply(Operation::Binary(Arithmetic::And, U64)),
-    Apply(Operation::Binary(Arithmetic::Xor, U64)),
+    Apply(Operation::Binary(Operator::BitAnd, U64)),
+    Apply(Operation::Binary(Operator::BitXor, U64)),
     PushBits(0x1_0000_01B3),
-    Apply(Operation::Binary(Arithmetic::Multiply, U64)),
+    Apply(Operation::Binary(Operator::Multiply, U64)),
     Store(0),
     Drop,
     PushBits(0x1_0000_01B3),
-    Apply(Operation::Binary(Arithmetic::Multiply, U64)),
+    Apply(Operation::Binary(Operator::Multiply, U64)),
     PushBits(0x1_0000_01B3),
     Apply(Operation::Binary(ADD, U64)),
     Load(1),
     PushBits(13),
-    Apply(Operation::Binary(Arithmetic::ShiftLeft, U64)),
+    Apply(Operation::Binary(Operator::ShiftLeft, U64)),
     Changed(DIFFER_64, 0),
     Drop,
     Load(1),
     PushBits(7),
-    Apply(Operation::Binary(Arithmetic::ShiftRight, U64)),
+    Apply(Operation::Binary(Operator::ShiftRight, U64)),
     Changed(DIFFER_64, 0),
     Drop,
 ];
@@ -507,7 +507,7 @@ const OBJECTS: &[Instruction] = &[
     Apply(Operation::FieldSet(4)),
     Drop,
     Load(5),
-    Apply(Operation::FieldChange(6, LATER)),
+    Apply(Operation::FieldChange(LATER, 6)),
     Drop,
     Load(1),
     Apply(Operation::FieldGet(2)),
@@ -538,7 +538,7 @@ const GLOBALS: &[Instruction] = &[
     Apply(Operation::GlobalGet(2)),
     Apply(Operation::GlobalSet(3)),
     Drop,
-    Apply(Operation::GlobalChange(4, LATER)),
+    Apply(Operation::GlobalChange(LATER, 4)),
     Drop,
     Apply(Operation::GlobalGet(2)),
     Apply(Operation::GlobalSet(3)),

@@ -87,22 +87,40 @@ fn of_an_object(faulty: &mut Faulty) -> Option<([Answer; 4], bool)> {
     Some(([set, added, failed, told], ends(faulty, key)))
 }
 
-#[test]
-fn one_asking_of_a_faulty_driver_fails(rt: HostRuntime) -> Result<(), AllocError> {
-    for (how, rows) in ASKED {
-        let wrong = wrong_answer(rt.alloc(), how, &rows)?;
-        assert!(rt; wrong == None, "{how:?}");
+/// The place of the first row of which another asking is answered otherwise.
+fn first_wrong_asked(alloc: Global) -> Result<Option<usize>, AllocError> {
+    for (at, (how, rows)) in ASKED.iter().enumerate() {
+        if wrong_answer(alloc, *how, rows)?.is_some() {
+            return Ok(Some(at));
+        }
     }
-    for (how, makings_wanted) in MADE {
-        let answers = makings(rt.alloc(), how)?;
-        assert!(rt; answers == makings_wanted, "{how:?}");
+    Ok(None)
+}
+
+/// The place of the first row whose makings are answered otherwise.
+fn first_wrong_made(alloc: Global) -> Result<Option<usize>, AllocError> {
+    for (at, (how, wanted)) in MADE.iter().enumerate() {
+        if makings(alloc, *how)? != *wanted {
+            return Ok(Some(at));
+        }
     }
-    let mut faulty = Faulty::new(rt.alloc(), 4, Failing::Fault)?;
+    Ok(None)
+}
+
+/// What is answered about one object of a driver, and whether that is idle before and after.
+fn with_an_object(alloc: Global) -> Result<(bool, Option<([Answer; 4], bool)>, bool), AllocError> {
+    let mut faulty = Faulty::new(alloc, 4, Failing::Fault)?;
     let is_idle_before = is_idle(&faulty);
     let answers = of_an_object(&mut faulty);
-    let is_idle_after = is_idle(&faulty);
-    drop(faulty);
+    Ok((is_idle_before, answers, is_idle(&faulty)))
+}
+
+#[test]
+fn one_asking_of_a_faulty_driver_fails(rt: HostRuntime) -> Result<(), AllocError> {
+    assert_eq!(rt; first_wrong_asked(rt.alloc())?, None);
+    assert_eq!(rt; first_wrong_made(rt.alloc())?, None);
     let wanted = [Answer::Void, Answer::Void, Answer::Fault(9), int(8)];
+    let (is_idle_before, answers, is_idle_after) = with_an_object(rt.alloc())?;
     assert!(rt; is_idle_before && is_idle_after);
     assert!(rt; answers == Some((wanted, true)));
     Ok(())

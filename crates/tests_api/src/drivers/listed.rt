@@ -2,26 +2,54 @@
 use ang_drivers::{Cell, Console, Counter};
 use ang_host::{Driver, Drivers, DriversError, Made};
 use ang_kinds::Value;
-use std::alloc::AllocError;
+use std::alloc::{AllocError, Global};
+
+/// Whether so many drivers are taken, and how many there are then, and how many are given back.
+fn taken(alloc: Global, count: usize) -> Result<(bool, usize, usize), AllocError> {
+    let mut boxes: Vec<Box<dyn Driver>> = Vec::new(alloc);
+    for _ in 0..count {
+        boxes.push(Box::new(alloc, Console::new(alloc)?)?)?;
+    }
+    Ok(match Drivers::new(boxes) {
+        Ok(drivers) => (true, drivers.len(), drivers.into_boxes().len()),
+        Err((_why, boxes)) => (false, count, boxes.len()),
+    })
+}
+
+/// How many drivers, and whether they are taken.
+const COUNTS: [(usize, bool); 4] = [(0, true), (1, true), (64, true), (65, false)];
+
+/// The first number of drivers of which something else comes.
+fn first_wrong(alloc: Global) -> Result<Option<usize>, AllocError> {
+    for (count, is_taken) in &COUNTS {
+        if taken(alloc, *count)? != (*is_taken, *count, *count) {
+            return Ok(Some(*count));
+        }
+    }
+    Ok(None)
+}
 
 #[test]
 fn the_list_takes_at_most_64_drivers(rt: HostRuntime) -> Result<(), AllocError> {
-    for (count, taken) in [(0, true), (1, true), (64, true), (65, false)] {
-        let mut boxes: Vec<Box<dyn Driver>> = Vec::new(rt.alloc());
-        for _ in 0..count {
-            boxes.push(Box::new(rt.alloc(), Console::new(rt.alloc())?)?)?;
-        }
-        let found = match Drivers::new(boxes) {
-            Ok(drivers) => (true, drivers.len(), drivers.into_boxes().len()),
-            Err((_why, boxes)) => (false, count, boxes.len()),
-        };
-        assert!(rt; found == (taken, count, count), "{count} drivers");
-    }
+    assert_eq!(rt; first_wrong(rt.alloc())?, None);
     Ok(())
 }
 
-fn refusal(taken: Result<Drivers, (DriversError, Vec<Box<dyn Driver>>)>) -> Option<DriversError> {
-    match taken {
+/// Why drivers are refused, of which there are so many counters and a cell that has an object.
+fn refusal(alloc: Global, counters: usize) -> Result<Option<DriversError>, AllocError> {
+    let mut boxes: Vec<Box<dyn Driver>> = Vec::new(alloc);
+    for _ in 0..counters {
+        boxes.push(Box::new(alloc, Counter::new(alloc)?)?)?;
+    }
+    let mut cell = Cell::new(alloc)?;
+    if cell.make(0, &[Value::Int(1)]) == Made::Key(0) {
+        boxes.push(Box::new(alloc, cell)?)?;
+    }
+    Ok(why_refused(boxes))
+}
+
+fn why_refused(boxes: Vec<Box<dyn Driver>>) -> Option<DriversError> {
+    match Drivers::new(boxes) {
         Ok(drivers) => {
             let _ = drivers.into_boxes();
             None
@@ -32,30 +60,12 @@ fn refusal(taken: Result<Drivers, (DriversError, Vec<Box<dyn Driver>>)>) -> Opti
 
 #[test]
 fn the_list_refuses_a_driver_in_use(rt: HostRuntime) -> Result<(), AllocError> {
-    let alloc = rt.alloc();
-    let mut cell = Cell::new(alloc)?;
-    let made = cell.make(0, &[Value::Int(1)]);
-    let mut boxes: Vec<Box<dyn Driver>> = Vec::new(alloc);
-    boxes.push(Box::new(alloc, Counter::new(alloc)?)?)?;
-    boxes.push(Box::new(alloc, cell)?)?;
-    let refused = refusal(Drivers::new(boxes));
-    assert!(rt; made == Made::Key(0));
-    assert!(rt; refused == Some(DriversError::Busy));
+    assert!(rt; refusal(rt.alloc(), 1)? == Some(DriversError::Busy));
     Ok(())
 }
 
 #[test]
 fn the_list_refuses_65_drivers_before_one_in_use(rt: HostRuntime) -> Result<(), AllocError> {
-    let alloc = rt.alloc();
-    let mut cell = Cell::new(alloc)?;
-    let made = cell.make(0, &[Value::Int(1)]);
-    let mut boxes: Vec<Box<dyn Driver>> = Vec::new(alloc);
-    boxes.push(Box::new(alloc, cell)?)?;
-    for _ in 0..64 {
-        boxes.push(Box::new(alloc, Counter::new(alloc)?)?)?;
-    }
-    let refused = refusal(Drivers::new(boxes));
-    assert!(rt; made == Made::Key(0));
-    assert!(rt; refused == Some(DriversError::TooMany));
+    assert!(rt; refusal(rt.alloc(), 64)? == Some(DriversError::TooMany));
     Ok(())
 }

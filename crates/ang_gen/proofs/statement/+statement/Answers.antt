@@ -125,8 +125,8 @@ write_row-overflow_sub-here t c =
     let room = row_room xs ys c.in-Some.s c.args.locals c.loop-s.here (declared_in xs + c.args.locals) turn.0 turn.1 so_far refl c.loop-s.invariant.1 in
     omega (arith, room, c.declared_by-here.ensures.count)
 
-pub write_row-write_statement-requires : goal.write_row-write_statement-requires
-write_row-write_statement-requires t c =
+pub write_row-write_item-requires : goal.write_row-write_item-requires
+write_row-write_item-requires t c =
     let xs = c.args.row.now in let ys = c.loop-s.yielded in
     let turn = YieldsList-turn (YieldsList-from_rev_slice xs (cc)) ys _ c.loop-s.yielded_by _ _ c.in-Some.s c.in-Some.is c.next.ensures.steps in
     let so_far = YieldsList-so_far (YieldsList-from_rev_slice xs (cc)) ys _ c.loop-s.yielded_by in
@@ -158,7 +158,7 @@ write_row-loop-s-preserved t c =
     let room = row_room xs ys y c.args.locals next (declared_in xs + c.args.locals) turn.0 turn.1 so_far refl c.loop-s.invariant.1 in
     let n_is : next ≡ declared y.now + here = omega (arith, room, c.declared_by-here.ensures.count) in
     let count = ap (λ l. declared_in l) (one_more ys y) in (
-      row_turn x.params x.alive here next x.exit x.again ys y c.loop-s.text c.write_statement.new.text old c.loop-s.invariant.0 n_is c.requires.exit c.requires.again c.in_ok-write_statement.ensures.code,
+      row_turn x.params x.alive here next x.exit x.again ys y c.loop-s.text c.write_item.new.text old c.loop-s.invariant.0 n_is c.requires.exit c.requires.again c.in_ok-write_item.ensures.code,
       omega (arith, n_is, count, c.loop-s.invariant.1),
     )
 

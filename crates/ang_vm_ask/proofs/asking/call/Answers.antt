@@ -26,7 +26,7 @@ returns-in_default-room_for_call-clause-told g c = λ z m sees.
 
 pub call_listed-answer-requires-clause-args_live : goal.call_listed-answer-requires-clause-args_live
 call_listed-answer-requires-clause-args_live g c =
-    subst (AreLive (driver_state (λ v. (g.dyn-1.0.entry v).1) c.args.store.now c.args.host.now.driver)) (sym (c.as_slice-args.ensures.exact ∙ c.in-Ok.ensures.exact)) c.requires.args_live
+    subst (AreLive (driver_state (λ v. (g.dyn-1.0.entry v).1) c.args.store.now c.args.host.now.driver)) (sym (c.as_slice-args.ensures ∙ c.in-Ok.ensures.exact)) c.requires.args_live
 
 pub returns-clause-told : goal.returns-clause-told
 returns-clause-told g c = λ z m sees.
@@ -37,7 +37,7 @@ returns-clause-told g c = λ z m sees.
     (counts_of (λ v. (g.dyn-1.0.entry v).1) (members c.call_listed-answer.new.drivers)) (listed_in c.call_listed-answer.new.events)
     (by_calling host.role c.args.number c.call_listed-answer.result c.requires.role)
     (answer_counts _ _ _ _ _ _ _ _ c.call_listed-answer.ensures.moved)
-    (listed_by _ _ _ _ c.args.entity host.driver c.args.object _ _ reply c.call_listed-answer.ensures.listed c.room_for_call.ensures.events (c.as_slice-args.ensures.exact ∙ c.in-Ok.ensures.exact)))
+    (listed_by _ _ _ _ c.args.entity host.driver c.args.object _ _ reply c.call_listed-answer.ensures.listed c.room_for_call.ensures.events (c.as_slice-args.ensures ∙ c.in-Ok.ensures.exact)))
     c.take_answer.ensures.told
 
 pub returns-clause-asked : goal.returns-clause-asked

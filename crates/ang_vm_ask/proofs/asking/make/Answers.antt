@@ -41,7 +41,7 @@ returns-in_default-room_for_ends-clause-told g c = λ z m sees.
 
 pub make_listed-answer-requires-clause-args_live : goal.make_listed-answer-requires-clause-args_live
 make_listed-answer-requires-clause-args_live g c =
-    subst (AreLive (driver_state (λ v. (g.dyn-1.0.entry v).1) c.args.store.now c.args.host.now.driver)) (sym (c.as_slice-args.ensures.exact ∙ c.in-Ok.ensures.exact)) c.requires.args_live
+    subst (AreLive (driver_state (λ v. (g.dyn-1.0.entry v).1) c.args.store.now c.args.host.now.driver)) (sym (c.as_slice-args.ensures ∙ c.in-Ok.ensures.exact)) c.requires.args_live
 
 pub returns-clause-told : goal.returns-clause-told
 returns-clause-told g c = λ z m sees.
@@ -52,7 +52,7 @@ returns-clause-told g c = λ z m sees.
     (counts_of (λ v. (g.dyn-1.0.entry v).1) (members c.make_listed-answer.new.drivers)) (listed_in c.make_listed-answer.new.events)
     (by_making host.role c.args.number made c.requires.role)
     (made_counts _ _ _ _ _ _ _ made c.make_listed-answer.ensures.moved)
-    (listed_by _ _ _ _ c.args.entity host.driver None _ _ (Making made) c.make_listed-answer.ensures.listed c.room_for_call.ensures.events (c.as_slice-args.ensures.exact ∙ c.in-Ok.ensures.exact)))
+    (listed_by _ _ _ _ c.args.entity host.driver None _ _ (Making made) c.make_listed-answer.ensures.listed c.room_for_call.ensures.events (c.as_slice-args.ensures ∙ c.in-Ok.ensures.exact)))
     (told_same (λ is. (λ j. done ((sym c.take_made.ensures.exact) j) (with_inputs is (world_of (λ v. (g.dyn-1.0.entry v).1) ((sym c.take_made.ensures.live) j))))))
 
 pub returns-clause-enough : goal.returns-clause-enough

@@ -114,7 +114,7 @@ returns-in-GlobalChange g c = record {
   turned = λ there.
       let w = world_of (λ v. (g.dyn-1.0.entry v).1) c.args.store.now in
       let u = world_of (λ v. (g.dyn-1.0.entry v).1) c.change_global.new.store in
-      turned_do c.args.table.now c.args.body c.args.room c.args.here c.args.operation.now (GlobalChange c.in-GlobalChange.number c.in-GlobalChange.by) c.args.size c.args.stack.now _ w u c.in-GlobalChange.is there c.requires.in_room c.change_global.result c.next-in-GlobalChange.result
+      turned_do c.args.table.now c.args.body c.args.room c.args.here c.args.operation.now (GlobalChange c.in-GlobalChange.by c.in-GlobalChange.number) c.args.size c.args.stack.now _ w u c.in-GlobalChange.is there c.requires.in_room c.change_global.result c.next-in-GlobalChange.result
       (λ nesting. c.change_global.ensures.acts (setting_of c.args.table.now nesting) (texts_of c.args.table.now)) c.change_global.ensures.in_room c.next-in-GlobalChange.ensures.exact;
   moves = λ roles h. c.change_global.ensures.moves roles;
   ready = (c.change_global.ensures.moves []).ready c.requires.ready;
@@ -162,8 +162,8 @@ returns-in-FieldChange g c = record {
   turned = λ there.
       let w = world_of (λ v. (g.dyn-1.0.entry v).1) c.args.store.now in
       let u = world_of (λ v. (g.dyn-1.0.entry v).1) c.change_field.new.store in
-      turned_do c.args.table.now c.args.body c.args.room c.args.here c.args.operation.now (FieldChange c.in-FieldChange.number c.in-FieldChange.by) c.args.size c.args.stack.now _ w u c.in-FieldChange.is there c.requires.in_room c.change_field.result c.next-in-FieldChange.result
-      (turned_act c.args.table.now c.args.body c.args.room c.args.here (FieldChange c.in-FieldChange.number c.in-FieldChange.by) c.args.stack.now _ w u c.change_field.result (λ nesting. c.change_field.ensures.acts (setting_of c.args.table.now nesting) (texts_of c.args.table.now))) c.change_field.ensures.in_room c.next-in-FieldChange.ensures.exact;
+      turned_do c.args.table.now c.args.body c.args.room c.args.here c.args.operation.now (FieldChange c.in-FieldChange.by c.in-FieldChange.number) c.args.size c.args.stack.now _ w u c.in-FieldChange.is there c.requires.in_room c.change_field.result c.next-in-FieldChange.result
+      (turned_act c.args.table.now c.args.body c.args.room c.args.here (FieldChange c.in-FieldChange.by c.in-FieldChange.number) c.args.stack.now _ w u c.change_field.result (λ nesting. c.change_field.ensures.acts (setting_of c.args.table.now nesting) (texts_of c.args.table.now))) c.change_field.ensures.in_room c.next-in-FieldChange.ensures.exact;
   moves = λ roles h. c.change_field.ensures.moves roles;
   ready = (c.change_field.ensures.moves []).ready c.requires.ready;
   count = same_count (λ v. (g.dyn-1.0.entry v).1) [] c.args.store.now c.change_field.new.store (c.change_field.ensures.moves []);
