@@ -1,0 +1,346 @@
+"""An engine with its profile and modules: what is told to it, what comes back, and how it is begun anew."""
+
+import inspect
+import re
+import signal
+from contextlib import contextmanager
+from typing import Any, Callable, Dict, Iterator, List, NamedTuple, Optional, Tuple
+
+from bustlebrick import BuildError, Conversation, Engine, EngineLost, Held, Refused, Reply
+from playing import profiles
+from playing.answers import Answered, Host, host_file
+from playing.declared import Called, Declared, functions
+from playing.hints import Known, hidden, hints
+from playing.sentences import error_sentence, fault_sentence, refusal_sentence
+from playing.sources import Source, printable
+from playing.ticks import Counter
+
+PROGRAM = inspect.signature(Engine).parameters["program"].default
+
+
+class CantStart(Exception):
+    """There is no engine to play on."""
+
+
+class Options(NamedTuple):
+    """What is played on."""
+    program: Optional[str]
+    profile: Optional[str]
+    host: Optional[str]
+    budget: int
+    timeout: float
+    count: bool
+
+
+class Told(NamedTuple):
+    """A command that the engine did, and how its host calls were answered."""
+    text: str
+    answers: List[Answered]
+
+
+class Part:
+    """A module: its mask, its sections, and the imports that were bound."""
+
+    def __init__(self, mask: int) -> None:
+        self.mask, self.built_mask = mask, mask
+        self.sources: List[Source] = []
+        self.bound: Dict[int, Tuple[str, str]] = {}
+
+    def functions(self) -> List[Declared]:
+        return functions(it.text for it in self.sources)
+
+
+class Stage:
+    """An engine, and the modules that were made in it."""
+
+    def __init__(self, options: Options, tell: Callable[..., None]) -> None:
+        self.options, self.tell = options, tell
+        self.parts: Dict[str, Part] = {}
+        self.events: List[str] = []  # of the last command
+        self.budget = options.budget
+        self._keys: Dict[str, str] = {}
+        self._counter: Optional[Counter] = None
+        names = host_file(options.host) if options.host else {}
+        self._host = Host(names, options.host or "", tell)
+        self._text = _read(options.profile) if options.profile else ""
+        self._read = self._profile(self._host.answering)
+        self._limits: Dict[str, Any] = dict(self._read.limits)
+        self.engine = self._engine(self._read)
+        self._begin()
+
+    @property
+    def path(self) -> str:
+        return self.options.profile or ""
+
+    def _profile(self, answering: profiles.Answering) -> profiles.Read:
+        try:
+            return profiles.read_profile(self._text, answering)
+        except profiles.BadProfile as bad:
+            self._tell_line(bad.line, str(bad))
+            raise CantStart from bad
+
+    def _tell_line(self, line: int, message: str) -> None:
+        source = self._text.split("\n")[line - 1].rstrip("\r") if line else ""
+        self.tell("wrong", where=f"{self.path}:{line}" if line else self.path, message=message, source=source)
+
+    def _engine(self, read: profiles.Read) -> Engine:
+        program = self.options.program or PROGRAM
+        try:
+            with _deaf_to_interrupts():
+                return Engine(read.profile, program, self.options.timeout, **self._limits)
+        except Refused as refused:
+            self._tell_refused_line(program, refused)
+        except OSError as error:
+            self.tell("wrong", where=program, message=f"the engine can't be started ({error.strerror}): name it by --engine")
+        except EngineLost as lost:
+            self.tell("wrong", where=program, message=f"this does not answer as an engine: {lost}")
+        except ValueError as error:
+            self.tell("wrong", where=self.path or program, message=str(error))
+        raise CantStart
+
+    def _tell_refused_line(self, program: str, refused: Refused) -> None:
+        """Has the engine read the file itself, since that says the line."""
+        line, word = 0, str(refused).partition(":")[0]
+        words = [program, "--profile", self.path, "--drivers", "64"]
+        try:
+            Conversation(words, lambda line: "void").say("", self.options.timeout)
+        except EngineLost as lost:
+            found = re.match(r"profile (\d+) (\w+)", "".join(lost.said))
+            if found:
+                line, word = int(found[1]), found[2]
+        self._tell_line(line, f"{refusal_sentence(word)} [{word}]")
+
+    def _begin(self) -> None:
+        self.history: List[Told] = []
+        self._keys = {}
+        self._end_counter()
+        self._host.restart()
+        limits = self.engine.limits()
+        self.told(f"budget {self.budget}")
+        for name, most in limits._asdict().items():
+            self.told(f"limit {name} {2**63 - 1 if most is None else most}")
+
+    def told(self, text: str) -> Reply:
+        """Does a command, and keeps what was told."""
+        self._host.begin()
+        reply = self.engine.command(text)
+        self.history.append(Told(text, self._host.log))
+        self.events = reply.events
+        self._tell_ends(reply.events)
+        return reply
+
+    def done(self, what: str, text: str) -> bool:
+        """Does a command that has no events, and tells if it is refused."""
+        reply = self.told(text)
+        if not reply.ok:
+            self._tell_refused(what, reply)
+        return reply.ok
+
+    def _tell_ends(self, events: List[str]) -> None:
+        made = iter(self._host.made)
+        for event in events:
+            found = re.search(r" (?:made (#\d+)|end \d+ (#\d+))$", f" {event}")
+            if found and found[1]:
+                self._keys[found[1]] = next(made, found[1])
+            elif found:
+                self.tell("end", object=self._keys.pop(found[2], found[2]))
+
+    def _tell_refused(self, what: str, reply: Reply) -> None:
+        refusal = reply.outcome.partition(" ")[2]
+        held = self._held(reply) if refusal.endswith("Memory") else None
+        message = refusal_sentence(refusal)
+        self.tell("refused", what=what, refusal=refusal, message=message, cause=self._cause(reply), held=held)
+
+    def _held(self, reply: Reply) -> str:
+        used = self.engine.used()
+        return str(Held(len(reply.events) + used.objects, used, self.engine.limits()))
+
+    def _cause(self, reply: Reply) -> Optional[str]:
+        return self._host.raised() or (str(reply.cause) if reply.cause else None)
+
+    # ---- modules
+
+    def module(self, name: str, mask: int) -> bool:
+        """Makes a module, without scripts."""
+        if not self.done(f"module {name}", f"module {_field(name)} {mask:08x}"):
+            return False
+        self.parts[name] = Part(mask)
+        return True
+
+    def mask(self, name: str, mask: int) -> bool:
+        """Gives a module a mask for its next build."""
+        if not self.done(f"mask {name}", f"mask {_field(name)} {mask:08x}"):
+            return False
+        self.parts[name].mask = mask
+        return True
+
+    def build(self, name: str) -> bool:
+        """Builds a module of its sections."""
+        part = self.parts[name]
+        for source in part.sources:
+            if not self.done(source.name, section_text(name, source.text)):
+                self._drop_waiting(name)
+                return False
+        self._forget_bindings(name)
+        part.built_mask = part.mask
+        reply = self.told(f"build {name}")
+        if reply.ok:
+            self.tell("built", module=name, mask=f"{part.mask:08x}", functions=[it.declaration for it in part.functions()])
+        else:
+            self._tell_errors(part, reply)
+            self._tell_refused(name, reply)
+        return reply.ok
+
+    def _drop_waiting(self, name: str) -> None:
+        """Makes a module anew, so that none of its sections wait."""
+        self._forget_bindings(name)
+        self.told(f"discard {name}")
+        self.told(f"module {name} {self.parts[name].mask:08x}")
+
+    def _forget_bindings(self, name: str) -> None:
+        self.parts[name].bound.clear()
+        for part in self.parts.values():
+            part.bound = {number: to for number, to in part.bound.items() if to[0] != name}
+
+    def _tell_errors(self, part: Part, reply: Reply) -> None:
+        known = Known(profiles.seen(self.engine.profile, part.mask), part.sources, reply.denials)
+        for source in part.sources:
+            if source.bad_text():
+                line, column, byte = source.bad_text()
+                self.tell("note", message=f"{source.name} is not UTF-8: line {line}, column {column} has the byte 0x{byte:02x}")
+        for error in reply.errors:
+            self._tell_error(known, error)
+
+    def _tell_error(self, known: Known, error: BuildError) -> None:
+        source, place = known.sources[error.place.section], error.place
+        name = source.text_at(place.line, place.column) or error.name  # a reply's line can't hold a text with spaces
+        shown = source.shown(place.line, place.column)
+        self.tell(
+            "error", file=source.name, line=place.line, column=place.column,
+            character=source.characters_before(place.line, place.column), kind=error.kind, name=name,
+            message=error_sentence(error.kind, name), hints=hints(known, error), denials=hidden(known, error),
+            source=shown.text, caret=shown.caret,
+        )
+
+    def bind(self, name: str, number: int, exporter: str, declaration: str) -> bool:
+        """Binds an import of a module to a function of another one."""
+        text = f"bind {_field(name)} {number} {_field(exporter)} {' '.join(declaration.split())}"
+        if not self.done(f"bind {number}", text):
+            return False
+        self.parts[name].bound[number] = (exporter, declaration)
+        return True
+
+    def discard(self, name: str) -> bool:
+        """Ends a module."""
+        if not self.done(f"discard {name}", f"discard {_field(name)}"):
+            return False
+        self._forget_bindings(name)
+        del self.parts[name]
+        return True
+
+    # ---- calls
+
+    def call(self, name: str, called: Called) -> bool:
+        """Calls a function of a module."""
+        values = f"({called.values})"
+        reply = self.told(f"call {_field(name)} {values} {called.declaration}")
+        what = called.declaration + (f" with {values}" if called.values else "")
+        word, _, rest = reply.outcome.partition(" ")
+        if word == "ok":
+            self.tell("result", call=what, value=rest, **self._ticks(reply.outcome))
+        elif word == "fault":
+            held = self._held(reply) if rest == "Memory" else None
+            self.tell(
+                "fault", call=what, fault=rest, message=fault_sentence(rest), **self._ticks(reply.outcome),
+                cause=self._cause(reply), held=held,
+            )
+        else:
+            self._tell_refused(what, reply)
+            self._tell_functions(name, rest)
+        return word == "ok"
+
+    def _tell_functions(self, name: str, refusal: str) -> None:
+        """What could have been called, where there is no such function."""
+        known = self.parts[name].functions() if name in self.parts and refusal == "NoFunction" else []
+        if known:
+            self.tell("note", message=f"the script has {printable('; '.join(it.declaration for it in known))}")
+
+    def _ticks(self, outcome: str) -> Dict[str, Any]:
+        """How many ticks the last call took."""
+        if not self.options.count:
+            return {}
+        if outcome == "fault Budget":
+            return {"ticks": self.budget}
+        if self._counter is None:
+            self._counter = Counter(self.options.program or PROGRAM, self._profile, _deaf_to_interrupts)
+        low, high = self._counter.ticks(self.history, list(self.parts), self.budget)
+        if low + 1 == high:
+            return {"ticks": high}
+        return {"ticks": low, "bound": "more than "} if low else {}
+
+    # ---- the engine
+
+    def set_budget(self, ticks: int) -> None:
+        if self.done("budget", f"budget {ticks}"):
+            self.budget = ticks
+
+    def set_limits(self, given: Dict[str, Optional[int]]) -> Dict[str, Optional[int]]:
+        """Sets limits that are named, and gives all. What no engine should have is a ValueError."""
+        limits = self.engine.limits(**given)._asdict()
+        for name, most in limits.items():
+            self.told(f"limit {name} {2**63 - 1 if most is None else most}")
+        return dict(limits)
+
+    def revive(self) -> None:
+        """Starts another engine, with the same modules, built and bound anew."""
+        parts, self.parts = self.parts, {}
+        with _deaf_to_interrupts():
+            self.engine.restart()
+        self._begin()
+        self.take(parts)
+
+    def take(self, parts: Dict[str, Part]) -> None:
+        """Makes the modules of another stage, builds and binds them."""
+        bound = [(name, number, *to) for name, part in parts.items() for number, to in part.bound.items()]
+        for name, part in parts.items():
+            if self.module(name, part.mask):
+                self.parts[name].sources = part.sources
+                self.build(name)
+        for name, number, exporter, declaration in bound:
+            self.bind(name, number, exporter, declaration)
+
+    def close(self) -> None:
+        self.engine.close()
+        self._end_counter()
+
+    def _end_counter(self) -> None:
+        if self._counter:
+            self._counter.close()
+        self._counter = None
+
+
+def section_text(name: str, text: str) -> str:
+    """The command that adds a section."""
+    text = text[:-1] if text.endswith("\n") else text
+    return f"section {_field(name)} {text.count(chr(10)) + 1}\n{text}"
+
+
+def _field(text: str) -> str:
+    if not re.fullmatch(r"[^\s]+", text):
+        raise ValueError(f"'{printable(text)}' is no name of a module")
+    return text
+
+
+def _read(path: str) -> str:
+    with open(path, encoding="utf-8", newline="") as file:
+        return file.read(1 << 20)
+
+
+@contextmanager
+def _deaf_to_interrupts() -> Iterator[None]:
+    """A process that is started meanwhile is left alone by Ctrl-C, which is for this one."""
+    before = signal.signal(signal.SIGINT, signal.SIG_IGN)
+    try:
+        yield
+    finally:
+        signal.signal(signal.SIGINT, before)

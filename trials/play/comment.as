@@ -1,0 +1,3 @@
+int a;
+/* what follows is
+int b;

@@ -1,0 +1,4 @@
+// Half of a number.
+int half(int n) {
+	return n * 0.5;
+}

@@ -1,0 +1,3 @@
+void greet() {
+	/* 挨拶 é */	print('a');
+}

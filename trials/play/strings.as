@@ -1,0 +1,3 @@
+void greet() {
+	print("hello there");
+}
