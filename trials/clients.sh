@@ -9,9 +9,10 @@
 #     game       the example of each client prints clients/game.expected
 #     sessions   each session of crates/examples and crates/asrun, and 1,000 generated ones, over modules, masks, imports,
 #                numbers and objects: with the drivers of asrun written in Python, asremote prints what asrun prints
-#     lines      some 70 lines of wrong forms: what asremote says to each, and that nothing behind the head of a section runs
+#     lines      some 160 lines, most of wrong forms: what asremote says to each, and that nothing behind the head of a section runs
 #     kills      100 engines of each client are killed at random moments: the host goes on, and the next engine works
 #     limits     a host of each client sets limits, and prints trials/clients/limits.expected
+#     bounds     300 random scripts under random limits: what asremote asks, lists and holds is what a model of limits says
 #     strangers  scripts that take all the memory they can, with the limits that a client sets by itself: other modules go
 #                on, and the process stays below 64 MB; and how long a tick of theirs takes
 #
@@ -31,7 +32,7 @@ asremote=$root/crates/asremote/out/asremote
 asrun=$root/crates/asrun/out/asrun
 [ $# -lt 1 ] || { asremote=$(whole "$1"); shift; }
 [ $# -lt 1 ] || { asrun=$(whole "$1"); shift; }
-[ $# -gt 0 ] || set -- game sessions lines kills limits strangers
+[ $# -gt 0 ] || set -- game sessions lines kills limits bounds strangers
 for program in "$asremote" "$asrun"; do
     [ -x "$program" ] || { echo "there is no $program: run rt ci, or rt run in its crate, first" >&2; exit 2; }
 done
@@ -87,6 +88,10 @@ strangers() {
     python3 trials/clients/strangers.py "$asremote" || bad=1
 }
 
+bounds() {
+    python3 trials/clients/bounds.py "$asremote" || bad=1
+}
+
 sessions() {
     python3 trials/clients/sessions.py "$asremote" "$asrun" || bad=1
 }
@@ -105,7 +110,7 @@ kills() {
 
 for part; do
     case $part in
-    game | sessions | lines | kills | limits | strangers) "$part" ;;
+    game | sessions | lines | kills | limits | bounds | strangers) "$part" ;;
     *) echo "no such part: $part" >&2; exit 2 ;;
     esac
 done

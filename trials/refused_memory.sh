@@ -16,8 +16,11 @@
 #   - its status and what it wrote are those of a run where nothing is refused (the C library did without that memory), or
 #   - its status is 3, it wrote a front of that, whole lines, and `asrun: no memory`, or `asremote: no memory`, on standard
 #     error, or
-#   - its status is 1, or that of a run where nothing is refused, and the first line that it wrote otherwise is an answer of want of memory, before which there may be
-#     the ends of objects that this answer gave up.
+#   - its status is 1, or that of a run where nothing is refused, the first line that it wrote otherwise is an answer of want
+#     of memory, before which there may be the ends of objects that this answer gave up, and no event is missing. Asks are
+#     compared apart, since all of a reply stand before its events: until then they are the usual ones, and as many as a
+#     reply lists host calls, but for those that list `memory`. Where the conversation says `used`, there are as many
+#     objects as were made and did not end.
 # Prints a line for each way to end with the number of runs, each run that did not end well, and the number of those.
 set -eu
 cd "$(dirname "$0")/.."
@@ -98,14 +101,33 @@ COUNT="$folder/count" run || whole=$?
 mv "$folder/out" "$folder/whole"
 number=$(cat "$folder/count")
 
+# Whether want of memory is the first thing that was written otherwise, and no event is missing.
+wanted_memory() {
+    awk '
+        FILENAME == ARGV[1] && /^ask / { usual_asks[++most_asks] = $0; next }
+        FILENAME == ARGV[1] { usual[++lines] = $0; next }
+        /^ask / { asks++ }
+        /^ask / && !otherwise && $0 != usual_asks[++asked] { wrong = 1 }
+        /^ask / { next }
+        /^host / { calls++ }
+        /^host .* memory$/ { unasked++ }
+        /^host .* made #[0-9]+$/ { alive++ }
+        /^end / { alive-- }
+        /^objects / && $2 != alive { wrong = 1 }
+        /^done$/ { if (asks > calls || asks < calls - unasked) wrong = 1; asks = calls = unasked = 0 }
+        !otherwise && $0 != usual[++at] { otherwise = 1 }
+        otherwise && !told && !/^end / { told = 1; memory = tolower($0) ~ /memory$/ }
+        END { exit !memory || wrong }
+    ' "$folder/whole" "$folder/out"
+}
+
 ended_well() {
     lines=$(wc -l < "$folder/out")
     case $1 in
     "$whole") cmp -s "$folder/out" "$folder/whole" && return 0 ;;
     3) head -n "$lines" "$folder/whole" | cmp -s - "$folder/out" && grep -qx "$name: no memory" "$folder/err" && return 0 ;;
     esac
-    [ "$1" = 1 ] || [ "$1" = "$whole" ] || return 1
-    diff "$folder/whole" "$folder/out" | sed -n 's/^> //p' | grep -v '^end ' | head -n 1 | grep -Eqi 'memory$'
+    { [ "$1" = 1 ] || [ "$1" = "$whole" ]; } && wanted_memory
 }
 
 at=1

@@ -4,7 +4,8 @@
     trials/clients/wrong_lines.py ASREMOTE
 
 After a line that may be the head of a section asremote ends, and none of the lines behind it runs: each of them is a
-command here. After any other wrong line it goes on. Prints each line with which it does otherwise, and how many there were.
+command here. After any other wrong line it goes on. Lines `limit` and `used` of the right form are said too, and both kinds
+stand in profiles. Prints each line with which it does otherwise, and how many there were.
 """
 
 import subprocess
@@ -78,40 +79,106 @@ OTHERS = [
     b"bind a 0 b\n",
     b"unbind a x\n",
     b"discard \n",
-    b"limit\n",
-    b"limit events\n",
-    b"limit events x\n",
-    b"limit events -1\n",
-    b"limit slots 9223372036854775808\n",
-    b"limit things 3\n",
-    b"limit objects 3 4\n",
     b"used 1\n",
+    b"used \n",
+    b" used\n",
+    b"Used\n",
+    b"used\r\r\n",
     b"sect a 3\n",
     b"a section\n",
     b"\xff\xfe\n",
 ]
 
+# Lines `limit`, of other forms and of the right one.
+WRONG_LIMITS = [
+    b"limit\n",
+    b"limit \n",
+    b"limit events\n",
+    b"limit events \n",
+    b"limit things 3\n",
+    b"limit event 3\n",
+    b"limit Events 3\n",
+    b"Limit events 3\n",
+    b"limits events 3\n",
+    b" limit events 3\n",
+    b"\xef\xbb\xbflimit events 3\n",
+    b"limit\tevents 3\n",
+    b"limit events\t3\n",
+    b"limit  events 3\n",
+    b"limit events  3\n",
+    b"limit events 3 \n",
+    b"limit events 3\t\n",
+    b"limit events 3\r\r\n",
+    b"limit events=3\n",
+    b"limit 3 events\n",
+    b"limit objects 3 4\n",
+    b"limit events 3 # of all\n",
+    b"limit events x\n",
+    b"limit events -1\n",
+    b"limit events -0\n",
+    b"limit events +1\n",
+    b"limit events 1u\n",
+    b"limit events 0x1\n",
+    b"limit events 1.0\n",
+    b"limit events 1e3\n",
+    b"limit events 1,000\n",
+    b"limit events 3\x00\n",
+    b"limit events none\n",
+    b"limit slots 9223372036854775808\n",
+    b"limit slots 9999999999999999999\n",
+    b"limit slots 18446744073709551615\n",
+    b"limit slots 18446744073709551616\n",
+    b"limit slots 00000000000000000001\n",
+]
+RIGHT_LIMITS = [
+    b"limit events 0\n",
+    b"limit events 3\n",
+    b"limit events 3\r\n",
+    b"limit slots 2147483648\n",
+    b"limit slots 4294967296\n",
+    b"limit objects 9223372036854775807\n",
+    b"limit objects 0000000000000000000\n",
+    b"limit objects 0000000000000000003\n",
+]
 
-def said(program, text):
-    """What asremote prints to a text, and its status."""
+
+def said(program, text, registered=b""):
+    """What asremote prints to a text, after a profile, and its status."""
     with tempfile.NamedTemporaryFile() as profile:
+        profile.write(registered)
+        profile.flush()
         ran = subprocess.run([program, "--profile", profile.name], input=text, stdout=subprocess.PIPE, timeout=60)
     return ran.stdout, ran.returncode
 
 
-def main():
-    program, bad = sys.argv[1], 0
+def conversations():
+    """Lines that are said, each with what asremote prints and its status."""
     ended = (b"done\nok\ndone\nline 2 BadLine\n", 2)
     on = (b"done\nok\ndone\nrefused BadLine\ndone\nok\ndone\nok\ndone\nok\ndone\n", 1)
+    done = (b"done\nok\ndone\nok\ndone\nok\ndone\nok\ndone\nok\ndone\n", 0)
+    told = (b"done\nok\ndone\nslots 0\nobjects 0\nok\ndone\nok\ndone\nok\ndone\nok\ndone\n", 0)
     long = (b"done\nok\ndone\nline 0 TooLong\n", 2)
-    rows = [(line, ended) for line in HEADERS + SHORT] + [(line, on) for line in OTHERS]
-    rows += [(b"x" * 16_777_216 + b"\n", long), (b"section a 1\n" + b"x" * 16_777_216 + b"\n", long)]
-    for line, wanted in rows:
-        got = said(program, FIRST + line + BEHIND)
+    rows = [(line, ended) for line in HEADERS + SHORT] + [(line, on) for line in OTHERS + WRONG_LIMITS]
+    rows += [(line, done) for line in RIGHT_LIMITS] + [(line, told) for line in (b"used\n", b"used\r\n")]
+    return rows + [(b"x" * 16_777_216 + b"\n", long), (b"section a 1\n" + b"x" * 16_777_216 + b"\n", long)]
+
+
+def profiles():
+    """Lines that stand in a profile, likewise."""
+    refused = (b"profile 2 BadLine\n", 2)
+    rows = [(line, refused) for line in WRONG_LIMITS + [b"used\n"]]
+    return rows + [(line, (b"done\n", 0)) for line in RIGHT_LIMITS]
+
+
+def main():
+    program, bad = sys.argv[1], 0
+    rows = [(line, wanted, said(program, FIRST + line + BEHIND)) for line, wanted in conversations()]
+    rows += [(line, wanted, said(program, b"", b"type T 0\n" + line)) for line, wanted in profiles()]
+    for line, wanted, got in rows:
         if got != wanted:
             bad += 1
             print(f"after {line[:60]!r} it says {got[0][-200:]!r}, and ends with the status {got[1]}")
-    print(f"{len(rows)} wrong lines, {bad} taken otherwise than said")
+    print(f"{len(rows)} lines, {bad} taken otherwise than said")
     sys.exit(1 if bad else 0)
 
 
