@@ -7,8 +7,9 @@ A script asks the host N times (100,000, if left out). A call is the time from o
 goes on, and the next ask is read. It is measured twice: by the lines alone, and by a callable of a profile (clients/python). The empty
 round trip is a line to `cat` and back, as often. The median of each is printed, with the lower and the upper tenth.
 
-With --library, of a folder that `make -C clients/c` made (clients/c/out/proved), the same script and an empty command are
-measured with a host in C: with the engine in its process, and with asremote over pipes (bench/inproc.c, which cc compiles).
+With --library, of a folder that `make -C clients/c` made (clients/c/out/proved), the callable is measured with the engine in this
+process too; and the same script and an empty command with a host in C: with the engine in its process, and with asremote over pipes
+(bench/inproc.c, which cc compiles).
 
 Then 4,096 functions are built (bench/sections.py), N times (5) in each program, one after the other, and the quickest counts. Seconds
 are those of the clock: of the whole process, and for asremote those of the line `build` alone too.
@@ -67,10 +68,12 @@ def calls_by_lines(asremote, profile, count):
     return times, outcome
 
 
-def calls_by_profile(asremote, count):
+def calls_by_profile(asremote, count, library=None):
     times, profile = [], Profile()
     profile.function("void put(int64)", lambda n: times.append(time.perf_counter_ns()))
-    with Engine(profile, asremote, SECONDS, events=None) as engine:
+    with Engine(profile, asremote, SECONDS, events=None, library=library) as engine:
+        if library and engine.pid:
+            sys.exit(f"there is no {library}")
         engine.budget(count + 2)
         module = engine.module("m", 1)
         module.section(SCRIPT)
@@ -123,10 +126,14 @@ def main():
             file.write(PROFILE)
         print(f"{words.calls} host calls, in microseconds\n\n| | median | lower tenth | upper tenth |\n|---|---|---|---|")
         tenths("an empty round trip over pipes", trips(words.calls))
-        for name, (times, outcome) in (
+        rows = [
             ("a host call, by its lines", calls_by_lines(words.asremote, profile, words.calls)),
             ("a host call, by a callable of a profile", calls_by_profile(words.asremote, words.calls)),
-        ):
+        ]
+        if words.library:
+            library = os.path.join(words.library, "lib", "libbustlebrick.so")
+            rows.append(("the same, with the engine in process", calls_by_profile(words.asremote, words.calls, library)))
+        for name, (times, outcome) in rows:
             if outcome != ["ok"] or len(times) != words.calls:
                 sys.exit(f"asremote answered {outcome} after {len(times)} calls")
             tenths(name, times)

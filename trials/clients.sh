@@ -1,11 +1,14 @@
 #!/bin/sh
-# Tries the clients of the engine in Python, Rust and C++ (clients/), which run it as a child process.
+# Tries the clients of the engine in Python, Rust and C++ (clients/), which run it as a child process or in their own.
 #
-#     trials/clients.sh [ASREMOTE [ASRUN [PART..]]]
+#     trials/clients.sh [--library FOLDER] [ASREMOTE [ASRUN [PART..]]]
 #
 # ASREMOTE and ASRUN are the programs: those that `rt ci`, or `rt run` in their crates, leave at crates/asremote/out/asremote
-# and crates/asrun/out/asrun, if none are named. The parts, all of them if none is named:
+# and crates/asrun/out/asrun, if none are named. FOLDER is what `make -C clients/c` makes: clients/c/out/proved, if it is there
+# and no other one is named. With it the hosts of the parts game, limits and mended run in both ways. The parts, all of them if
+# none is named:
 #
+#     versions   all clients, the library's header and docs/CHANGES.md name one version
 #     game       the example of each client prints clients/game.expected
 #     sessions   each session of crates/examples and crates/asrun, and 1,000 generated ones, over modules, masks, imports,
 #                numbers and objects: with the drivers of asrun written in Python, asremote prints what asrun prints
@@ -13,42 +16,33 @@
 #     kills      100 engines of each client are killed at random moments: the host goes on, and the next engine works
 #     limits     a host of each client sets limits, and prints trials/clients/limits.expected
 #     bounds     300 random scripts under random limits: what asremote asks, lists and holds is what a model of limits says
+#     mended     a host of each client does what once went wrong, and prints trials/clients/mended.expected: texts that are
+#                more than a command, numbers of faults, timeouts that pass in a callable, a limit of memory
 #     strangers  scripts that take all the memory they can, with the limits that a client sets by itself: other modules go
 #                on, and the process stays below 64 MB; and how long a tick of theirs takes
 #
 # Prints a line or more for each, and what differs. The status is 0 where all went well. Needs python3, cargo and
 # rustc, and a compiler of C++17 (c++, or the one that CXX names); what is built stands in a folder that is removed again.
 set -eu
-here=$(pwd)
-cd "$(dirname "$0")/.."
-root=$(pwd)
-whole() {
-    case $1 in
-    /*) echo "$1" ;;
-    *) echo "$here/$1" ;;
-    esac
-}
+. "$(dirname "$0")/begin.sh"
+library=$root/clients/c/out/proved
+[ "${1:-}" != --library ] || { library=$(whole "$2"); shift 2; [ -d "$library" ] || { echo "there is no $library" >&2; exit 2; }; }
+library=$library/lib/libbustlebrick.so
 asremote=$root/crates/asremote/out/asremote
 asrun=$root/crates/asrun/out/asrun
 [ $# -lt 1 ] || { asremote=$(whole "$1"); shift; }
 [ $# -lt 1 ] || { asrun=$(whole "$1"); shift; }
-[ $# -gt 0 ] || set -- game sessions lines kills limits bounds strangers
-for program in "$asremote" "$asrun"; do
-    [ -x "$program" ] || { echo "there is no $program: run rt ci, or rt run in its crate, first" >&2; exit 2; }
-done
-folder=$(mktemp -d)
-trap 'rm -rf "$folder"' EXIT
-bad=0
+programs "$asremote" "$asrun"
 
 built() {
     [ ! -d "$folder/release" ] || return 0
     (cd clients/rust && CARGO_TARGET_DIR="$folder" cargo build -q --offline --release --lib --examples)
-    for source in trials/clients/kills.rs trials/clients/limits.rs; do
+    for name in kills limits mended; do
         rustc --edition 2021 -O -L "$folder/release/deps" --extern bustlebrick="$folder/release/libbustlebrick.rlib" \
-            "$source" -o "$folder/release/examples/$(basename "$source" .rs)"
+            "trials/clients/$name.rs" -o "$folder/release/examples/$name"
     done
-    for source in clients/cpp/game.cpp trials/clients/kills.cpp trials/clients/limits.cpp; do
-        "${CXX:-c++}" -std=c++17 -O1 -Wall -Wextra -Iclients/cpp "$source" -o "$folder/$(basename "$source" .cpp)"
+    for source in clients/cpp/game.cpp trials/clients/kills.cpp trials/clients/limits.cpp trials/clients/mended.cpp; do
+        "${CXX:-c++}" -std=c++17 -O1 -Wall -Wextra -Iclients/cpp "$source" -o "$folder/$(basename "$source" .cpp)" -ldl
     done
 }
 
@@ -61,27 +55,27 @@ host() {
     esac
 }
 
-# Whether a host of each client prints what is expected: what it is, where the one in Python stands, and what it is to print.
-prints() {
+# hosts WHAT HOST EXPECTED: whether the host of each client prints what is expected, with the engine as a process and, where
+# the library is there, in its own.
+hosts() {
     built
     for client in Python Rust C++; do
-        status=0
-        $(host $client "$2") "$asremote" > "$folder/said" || status=$?
-        if [ "$status" = 0 ] && diff "$3" "$folder/said"; then
-            echo "$1 in $client prints what is expected"
-        else
-            echo "$1 in $client prints something else, or ends with the status $status"
-            bad=1
-        fi
+        prints "$1 in $client" "$3" $(host $client "$2") "$asremote"
+        [ ! -f "$library" ] || prints "$1 in $client, over the library" "$3" $(host $client "$2") "$asremote" "$library"
     done
+    [ -f "$library" ] || echo "$1 was not tried over the library: there is no $library"
 }
 
 game() {
-    prints "the example" clients/python/game clients/game.expected
+    hosts "the example" clients/python/game clients/game.expected
 }
 
 limits() {
-    prints "the host with limits" trials/clients/limits trials/clients/limits.expected
+    hosts "the host with limits" trials/clients/limits trials/clients/limits.expected
+}
+
+mended() {
+    hosts "the host of what was mended" trials/clients/mended trials/clients/mended.expected
 }
 
 strangers() {
@@ -108,10 +102,22 @@ kills() {
     done
 }
 
-for part; do
-    case $part in
-    game | sessions | lines | kills | limits | bounds | strangers) "$part" ;;
-    *) echo "no such part: $part" >&2; exit 2 ;;
-    esac
-done
-[ "$bad" = 0 ]
+# The version that each place names, a line for each.
+named_versions() {
+    sed -n 's/^__version__ = "\(.*\)"/\1/p' clients/python/bustlebrick.py
+    sed -n 's/^version = "\(.*\)"/\1/p' clients/rust/Cargo.toml
+    sed -n 's/^constexpr const char\* version = "\(.*\)";/\1/p' clients/cpp/bustlebrick.hpp
+    sed -n 's/^#define BUSTLEBRICK_VERSION "\(.*\)"/\1/p' clients/c/bustlebrick.h
+    sed -n '/^## /{s/^## \([0-9.]*\).*/\1/p;q;}' docs/CHANGES.md
+}
+
+versions() {
+    if [ "$(named_versions | wc -l)" = 5 ] && [ "$(named_versions | sort -u | wc -l)" = 1 ]; then
+        echo "all name the version $(named_versions | head -n 1)"
+    else
+        echo "WRONG: the versions are $(named_versions | tr '\n' ' ')"
+        bad=1
+    fi
+}
+
+try_parts "versions game sessions lines kills limits bounds mended strangers" "$@"

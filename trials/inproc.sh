@@ -12,7 +12,7 @@
 #                library prints what asrun prints, with the same status, by the callback and by steps
 #     engines    texts that are no command, options and calls out of turn; wrong threads, and 8 threads with an engine each;
 #                engines in one another's callbacks, while a script waits; 10,000 engines with a script that waits; 400 cancels
-#                at random moments; scripts that use up the memory of their engine; exceptions out of callbacks
+#                at random moments; timeouts; scripts that use up the memory of their engine; exceptions out of callbacks
 #     growths    each growth of the heap is refused in turn, in each command of the examples
 #     deep       the deepest sections of trials/hostile.sh, on the least stack that the library takes
 #     checked    the hosts and the engines, with fewer of each, under valgrind, and with the library's C under gcc's address and
@@ -21,25 +21,13 @@
 # Prints a line or more for each, and what went wrong. The status is 0 where all went well. Needs python3, gcc, g++, binutils,
 # and valgrind with its headers for the last part; what is built stands in a folder that is removed again.
 set -eu
-here=$(pwd)
-cd "$(dirname "$0")/.."
-root=$(pwd)
-whole() {
-    case $1 in
-    /*) echo "$1" ;;
-    *) echo "$here/$1" ;;
-    esac
-}
+. "$(dirname "$0")/begin.sh"
 object=$root/crates/asremote/out/asremote.o
 asrun=$root/crates/asrun/out/asrun
 word=proved
 [ $# -lt 1 ] || { [ "$(whole "$1")" = "$object" ] || word=unproved; object=$(whole "$1"); shift; }
 [ $# -lt 1 ] || { asrun=$(whole "$1"); shift; }
-[ $# -gt 0 ] || set -- game sessions engines growths deep checked
 [ -f "$object" ] || { echo "there is no $object: run rt ci, or rt run in its crate, first" >&2; exit 2; }
-folder=$(mktemp -d)
-trap 'rm -rf "$folder"' EXIT
-bad=0
 
 # built NAME FLAGS: the library and the hosts, with these flags, in a folder of this name.
 built() {
@@ -57,18 +45,6 @@ built() {
     case $2 in *-DBB_TRIAL*) gcc -std=gnu11 $flags $in/growths.c $in/drivers.c $in/commands.c "$library" -o "$to/growths" ;; esac
 }
 
-# prints NAME WORDS..: whether a host of the game prints what it should.
-prints() {
-    name=$1
-    shift
-    if "$@" > "$folder/said" && diff clients/game.expected "$folder/said"; then
-        echo "$name prints what is expected"
-    else
-        echo "WRONG: $name"
-        bad=1
-    fi
-}
-
 # The profiles and the sessions whose growths are refused.
 few_sessions() {
     for name in first_call numbers objects properties refused_build runaway; do
@@ -78,19 +54,19 @@ few_sessions() {
 
 game() {
     built plain -O2
-    prints game.c "$folder/plain/game_c"
-    prints game.cpp "$folder/plain/game_cpp"
+    prints game.c clients/game.expected "$folder/plain/game_c"
+    prints game.cpp clients/game.expected "$folder/plain/game_cpp"
 }
 
 sessions() {
-    [ -x "$asrun" ] || { echo "there is no $asrun: run rt ci, or rt run in its crate, first" >&2; exit 2; }
+    programs "$asrun"
     built plain -O2
     python3 trials/inproc/sessions.py "$folder/plain/session" "$asrun" ${COUNT:-1000} || bad=1
 }
 
 engines() {
     built plain -O2
-    "$folder/plain/engines" forms threads waits many cancels memory || bad=1
+    "$folder/plain/engines" forms threads waits many cancels timeouts memory || bad=1
     "$folder/plain/throws" || bad=1
 }
 
@@ -122,21 +98,15 @@ checked() {
     built sanitized "-g -O1 -fsanitize=address,undefined -fno-sanitize-recover=undefined -DBB_TRIAL"
     built watched "-g -O1 -DBB_VALGRIND"
     valgrind="valgrind -q --leak-check=full --error-exitcode=99"
-    prints "game.c, with sanitizers" "$folder/sanitized/game_c"
-    prints "game.cpp, with sanitizers" "$folder/sanitized/game_cpp"
-    prints "game.c under valgrind" $valgrind "$folder/watched/game_c"
-    prints "game.cpp under valgrind" $valgrind "$folder/watched/game_cpp"
-    "$folder/sanitized/engines" forms threads waits some cancels memory || bad=1
+    prints "game.c, with sanitizers" clients/game.expected "$folder/sanitized/game_c"
+    prints "game.cpp, with sanitizers" clients/game.expected "$folder/sanitized/game_cpp"
+    prints "game.c under valgrind" clients/game.expected $valgrind "$folder/watched/game_c"
+    prints "game.cpp under valgrind" clients/game.expected $valgrind "$folder/watched/game_cpp"
+    "$folder/sanitized/engines" forms threads waits some cancels timeouts memory || bad=1
     "$folder/sanitized/throws" || bad=1
     "$folder/sanitized/growths" crates/examples/data/objects.profile crates/examples/data/objects.session || bad=1
     $valgrind "$folder/watched/engines" forms threads waits some || bad=1
     $valgrind "$folder/watched/throws" || bad=1
 }
 
-for part; do
-    case $part in
-    game | sessions | engines | growths | deep | checked) "$part" ;;
-    *) echo "no such part: $part" >&2; exit 2 ;;
-    esac
-done
-[ "$bad" = 0 ]
+try_parts "game sessions engines growths deep checked" "$@"

@@ -53,7 +53,8 @@ if objdump -d --no-show-raw-insn "$object" | grep -qE 'sub +\$0x[0-9a-f]{6,8},%r
     exit 1
 fi
 
-version="$word $(sha256sum "$object" | cut -c1-16)"
+number=$(sed -n 's/^#define BUSTLEBRICK_VERSION "\(.*\)"/\1/p' "$here/bustlebrick.h")
+version="$word $number $(sha256sum "$object" | cut -c1-16)"
 objcopy --redefine-syms="$folder/names" "$object" "$folder/asremote.o"
 for file in bustlebrick lines program stack; do
     ${CC:-cc} -std=gnu11 ${CFLAGS:--O2} -Wall -Wextra -fPIC -fexceptions -DBB_VERSION="\"$version\"" \
@@ -71,13 +72,13 @@ ar rcs "$to/lib/libbustlebrick.a" libbustlebrick.o
 ${CC:-cc} ${CFLAGS:--O2} -shared -Wl,-soname,libbustlebrick.so -Wl,--gc-sections -Wl,-z,noexecstack \
     libbustlebrick.o -o "$to/lib/libbustlebrick.so"
 cp "$here/bustlebrick.h" "$to/include/"
-cat > "$to/lib/pkgconfig/bustlebrick.pc" <<'END'
-prefix=${pcfiledir}/../..
+cat > "$to/lib/pkgconfig/bustlebrick.pc" <<END
+prefix=\${pcfiledir}/../..
 
 Name: bustlebrick
 Description: An engine for scripts in AngelScript, inside the host's process
-Version: 0
-Cflags: -I${prefix}/include
-Libs: -L${prefix}/lib -lbustlebrick
+Version: $number
+Cflags: -I\${prefix}/include
+Libs: -L\${prefix}/lib -lbustlebrick
 END
 echo "$to has the library, $version"

@@ -100,6 +100,11 @@ static void forget_reply(bb_engine *engine)
         engine->output[0] = 0;
 }
 
+static uint64_t sum_of_times(uint64_t one, uint64_t other)
+{
+    return one <= UINT64_MAX - other ? one + other : UINT64_MAX;
+}
+
 /* Begins the command that these pieces are. */
 static bb_state begin(bb_engine *engine, const struct piece *pieces, size_t count)
 {
@@ -113,6 +118,7 @@ static bb_state begin(bb_engine *engine, const struct piece *pieces, size_t coun
     engine->memory_now = memory_for(engine, bytes);
     engine->growths = 0;
     atomic_store_explicit(&engine->cancelled, false, memory_order_relaxed);
+    engine->deadline = engine->timeout ? sum_of_times(bb_now(), engine->timeout) : 0;
     bb_run(engine);
     return engine->state;
 }
@@ -196,6 +202,12 @@ bb_state bb_section(bb_engine *engine, const char *name, const char *text, size_
 void bb_cancel(bb_engine *engine)
 {
     atomic_store_explicit(&engine->cancelled, true, memory_order_relaxed);
+}
+
+void bb_set_timeout(bb_engine *engine, uint64_t milliseconds)
+{
+    if (pthread_equal(engine->thread, pthread_self()))
+        engine->timeout = milliseconds;
 }
 
 /* ---- What it says */

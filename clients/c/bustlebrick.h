@@ -27,6 +27,8 @@
 #include <stddef.h>
 #include <stdint.h>
 
+#define BUSTLEBRICK_VERSION "0.1.0"
+
 #ifdef __cplusplus
 extern "C" {
 #endif
@@ -145,7 +147,8 @@ bb_state bb_section(bb_engine *engine, const char *name, const char *text, size_
    return. */
 bb_state bb_begin(bb_engine *engine, const char *text, size_t bytes);
 
-/* What the script asks that waits. Only in the state BB_ASKS, until bb_resume or bb_end; NULL in any other. */
+/* What the script asks that waits. Only in the state BB_ASKS, until bb_resume or bb_end; NULL in any other. All asks of an
+   engine, and the values of them, have one place each. */
 const bb_ask *bb_asked(const bb_engine *engine);
 
 /* Answers the ask, and goes on to the next one (BB_ASKS) or to the end of the command (BB_DONE). BB_BUSY where none
@@ -168,6 +171,11 @@ const char *bb_outcome(const bb_engine *engine, size_t *bytes);
    so; a run that grows nothing, as an empty loop, goes on to the end of its budget. Without a command it does nothing.
    The engine must not be freed meanwhile. */
 void bb_cancel(bb_engine *engine);
+
+/* How many milliseconds each command from the next one on may take, with the host's answers; 0, as at first, is no limit.
+   After them a growth of the heap is refused, as by bb_cancel. It is told to within some 10 milliseconds. Only by the
+   thread that made the engine; in another one it does nothing. */
+void bb_set_timeout(bb_engine *engine, uint64_t milliseconds);
 
 /* Where the engine stands: BB_DONE, BB_ASKS or BB_ENDED; BB_BUSY while it runs. */
 bb_state bb_state_of(const bb_engine *engine);
@@ -196,8 +204,8 @@ bb_state bb_end(bb_engine *engine);
    BB_ENDED. */
 bb_state bb_free(bb_engine *engine);
 
-/* Which object this library was made of: `proved`, or `unproved` for one of tools/build_unproved.py, a space, and the
-   first 16 hexadecimal digits of its SHA-256. */
+/* Which object this library was made of, in three words: `proved`, or `unproved` for one of tools/build_unproved.py;
+   BUSTLEBRICK_VERSION; and the first 16 hexadecimal digits of the object's SHA-256. */
 const char *bb_version(void);
 
 #ifdef __cplusplus

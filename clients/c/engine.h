@@ -89,6 +89,8 @@ struct bb_engine {
     size_t memory_now;  /* that of the command */
     size_t growths;     /* of the heap, since the command began */
     atomic_bool cancelled;
+    uint64_t timeout;  /* milliseconds of a command, 0 for no limit */
+    uint64_t deadline; /* that of the command, as bb_now tells it; 0 for none */
 #ifdef BB_TRIAL
     size_t refuse_at; /* the growth of a command that is refused, from 1; 0 for none */
 #endif
@@ -96,6 +98,9 @@ struct bb_engine {
 
 /* Lets the program run until it waits for the host, or has ended; `state` says which. */
 void bb_run(bb_engine *engine);
+
+/* Milliseconds from some moment on. */
+uint64_t bb_now(void);
 
 /* The function that the engine's stack begins with. */
 void bb_begin_program(void);

@@ -12,6 +12,7 @@
 #include <stdlib.h>
 #include <string.h>
 #include <sys/types.h>
+#include <time.h>
 
 enum { INPUT = 0, OUTPUT = 1, ERRORS = 2, PROFILE = 3 };
 
@@ -61,12 +62,31 @@ struct tried {
 /* A block that none is. */
 static char nowhere;
 
-/* Whether the next growth of a command is refused because it was cancelled. */
+uint64_t bb_now(void)
+{
+    struct timespec now;
+    clock_gettime(CLOCK_MONOTONIC_COARSE, &now);
+    return (uint64_t)now.tv_sec * 1000 + (uint64_t)now.tv_nsec / 1000000;
+}
+
+/* Whether the command has taken too long. That is told once. */
+static bool is_late(bb_engine *engine)
+{
+    if (!engine->deadline || bb_now() < engine->deadline)
+        return false;
+    engine->deadline = 0;
+    return true;
+}
+
+/* Whether the next growth of a command is refused because it was cancelled, or takes too long. */
 static bool is_cancelled(bb_engine *engine)
 {
-    if (engine->growths <= READING || !atomic_load_explicit(&engine->cancelled, memory_order_relaxed))
+    if (engine->growths <= READING)
         return false;
-    return atomic_exchange_explicit(&engine->cancelled, false, memory_order_relaxed);
+    if (is_late(engine))
+        return true;
+    return atomic_load_explicit(&engine->cancelled, memory_order_relaxed) &&
+           atomic_exchange_explicit(&engine->cancelled, false, memory_order_relaxed);
 }
 
 /* Whether a growth is granted: the heap is to have so many bytes more than the `used` ones. */

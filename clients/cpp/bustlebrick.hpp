@@ -1,11 +1,14 @@
-// Runs scripts in a Bustlebrick engine, which is a child process, and answers what they ask. C++17 and POSIX.
+// Runs scripts in a Bustlebrick engine, a child process or a library in this one, and answers what they ask. C++17 and
+// POSIX.
 //
-// A Profile says what scripts may use, and which callables answer. An Engine is the child with that profile, and a
-// Module in it holds scripts, which see what the module's mask shows them. README.md has an example.
+// A Profile says what scripts may use, and which callables answer. An Engine runs with that profile, and a Module in it
+// holds scripts, which see what the module's mask shows them. README.md has an example.
 #pragma once
 
+#include <dlfcn.h>
 #include <poll.h>
 #include <spawn.h>
+#include <strings.h>
 #include <sys/socket.h>
 #include <sys/wait.h>
 #include <unistd.h>
@@ -22,15 +25,18 @@
 #include <filesystem>
 #include <fstream>
 #include <functional>
+#include <limits>
 #include <map>
 #include <memory>
 #include <optional>
+#include <set>
 #include <stdexcept>
 #include <string>
 #include <string_view>
 #include <system_error>
 #include <type_traits>
 #include <typeinfo>
+#include <unordered_map>
 #include <utility>
 #include <vector>
 
@@ -38,10 +44,21 @@ extern char** environ;
 
 namespace bustlebrick {
 
+constexpr const char* version = "0.1.0";
+
+// From here on, numbers of faults are the engine's own.
+constexpr std::int64_t kept_faults = 4294967280;
+
 // Thrown by a callable: the script that asked ends with the fault `Host NUMBER`.
 struct Fault : std::runtime_error {
-    explicit Fault(std::uint32_t n) : std::runtime_error("fault " + std::to_string(n)), number(n) {}
+    explicit Fault(std::int64_t n) : std::runtime_error("fault " + std::to_string(n)), number(checked(n)) {}
     std::uint32_t number;
+
+  private:
+    static std::uint32_t checked(std::int64_t n) {
+        if (0 <= n && n < kept_faults) return static_cast<std::uint32_t>(n);
+        throw std::invalid_argument("a host's fault is a number from 0 to " + std::to_string(kept_faults - 1));
+    }
 };
 
 // The number of a script's fault where a callable threw something else, or takes other types than it declares.
@@ -156,79 +173,164 @@ inline Texts split(const std::string& text, char between) {
     return parts;
 }
 
+// The kinds of values, of asks and of answers, and both of these, are those of clients/c/bustlebrick.h.
+enum Kind : std::uint32_t { signed_integer, unsigned_integer, truth, key, null };
+enum AskKind : std::uint32_t { make_ask, call_ask, read_ask, write_ask };
+enum AnswerKind : std::uint32_t { void_answer, gave, made, nothing, faulted };
+
+struct Value {
+    Kind kind = null;
+    std::uint64_t bits = 0;
+};
+
+struct Answer {
+    AnswerKind kind = void_answer;
+    std::uint32_t fault = 0;
+    Value value;
+};
+
+using Values = std::vector<Value>;
+
+// The text of a value, and of an answer.
+inline std::string text(const Value& value) {
+    switch (value.kind) {
+        case signed_integer: return std::to_string(static_cast<std::int64_t>(value.bits));
+        case unsigned_integer: return std::to_string(value.bits) + "u";
+        case truth: return value.bits ? "true" : "false";
+        case key: return "#" + std::to_string(value.bits);
+        default: return "null";
+    }
+}
+
+inline std::string text(const Answer& answer) {
+    switch (answer.kind) {
+        case gave: return text(answer.value);
+        case made: return "made " + text(answer.value);
+        case nothing: return "nothing";
+        case faulted: return "fault " + std::to_string(answer.fault);
+        default: return "void";
+    }
+}
+
+// The value of a text.
+inline Value value(std::string_view text) {
+    if (text == "true" || text == "false") return {truth, text == "true"};
+    if (text == "null") return {};
+    if (text.empty()) throw std::invalid_argument("no value");
+    Value value{signed_integer, 0};
+    if (text.front() == '#') value.kind = key;
+    else if (text.back() == 'u') value.kind = unsigned_integer;
+    auto begin = text.data() + (value.kind == key), end = text.data() + text.size() - (value.kind == unsigned_integer);
+    std::int64_t number = 0;
+    auto read = std::from_chars(begin, end, number);
+    value.bits = static_cast<std::uint64_t>(number);
+    if (read.ec == std::errc::result_out_of_range) { // a result of a call has no `u`
+        if (value.kind == signed_integer) value.kind = unsigned_integer;
+        read = std::from_chars(begin, end, value.bits);
+    }
+    if (read.ec != std::errc() || read.ptr != end) throw std::invalid_argument(std::string(text) + " is no value");
+    return value;
+}
+
 // The objects that scripts hold, by their keys.
-struct Objects {
+class Objects {
+  public:
     using Held = std::pair<std::shared_ptr<void>, const std::type_info*>;
 
-    std::map<std::uint64_t, Held> by_key;
-    std::uint64_t made = 0;
     bool is_making = false;
 
+    std::size_t count() const { return by_key_.size(); }
+    const Held& at(std::uint64_t key) const { return by_key_.at(key); }
+
     // What is answered with an object. That of a factory gets a key, which is not used again.
-    std::string answer(const std::shared_ptr<void>& object, const std::type_info& type) {
-        if (!object) return is_making ? "nothing" : "null";
+    Answer answer(const std::shared_ptr<void>& object, const std::type_info& type) {
+        if (!object) return {is_making ? nothing : gave, 0, {}};
         if (is_making) {
-            by_key.insert({++made, {object, &type}});
-            return "made #" + std::to_string(made);
+            by_key_.insert({++made_, {object, &type}});
+            keys_[object.get()].insert(made_);
+            return {made, 0, {key, made_}};
         }
-        for (auto& [key, held] : by_key)
-            if (held.first == object) return "#" + std::to_string(key);
-        throw std::invalid_argument("an object that scripts don't hold");
+        auto keys = keys_.find(object.get());
+        if (keys == keys_.end()) throw std::invalid_argument("an object that scripts don't hold");
+        return {gave, 0, {key, *keys->second.begin()}};
     }
+
+    // Lets an object go that has ended.
+    void end(std::uint64_t key) {
+        auto held = by_key_.find(key);
+        if (held == by_key_.end()) return;
+        auto keys = keys_.find(held->second.first.get());
+        keys->second.erase(key);
+        if (keys->second.empty()) keys_.erase(keys);
+        by_key_.erase(held);
+    }
+
+  private:
+    std::unordered_map<std::uint64_t, Held> by_key_;
+    std::unordered_map<const void*, std::set<std::uint64_t>> keys_;
+    std::uint64_t made_ = 0;
 };
 
 template <class T> struct IsHandle : std::false_type {};
 template <class T> struct IsHandle<std::shared_ptr<T>> : std::true_type { using Object = T; };
 
-// The value of a text, which throws where it is of another type.
-template <class T> T read(const std::string& text, const Objects& objects) {
+// The integer or bool that a value is, which throws where it is of another type.
+template <class T> T plain(const Value& value) {
+    static_assert(std::is_integral_v<T>, "scripts have integers, bool and handles");
+    constexpr bool wants_truth = std::is_same_v<T, bool>;
+    auto number = static_cast<std::int64_t>(value.bits);
+    bool is_negative = value.kind == signed_integer && number < 0;
+    bool fits = wants_truth ? value.kind == truth : value.kind <= unsigned_integer;
+    if constexpr (!wants_truth && std::is_signed_v<T>)
+        fits = value.kind == signed_integer && static_cast<T>(number) == number;
+    if constexpr (!wants_truth && std::is_unsigned_v<T>)
+        fits = fits && !is_negative && value.bits <= std::numeric_limits<T>::max();
+    if (!fits) throw std::invalid_argument(text(value) + " is of another type");
+    return static_cast<T>(value.bits);
+}
+
+// The value of a type of C++, which throws where it is of another type.
+template <class T> T read(const Value& value, const Objects& objects) {
     if constexpr (std::is_lvalue_reference_v<T>) {
-        auto object = read<std::shared_ptr<std::remove_const_t<std::remove_reference_t<T>>>>(text, objects);
+        auto object = read<std::shared_ptr<std::remove_const_t<std::remove_reference_t<T>>>>(value, objects);
         if (!object) throw std::invalid_argument("null for an object");
         return *object;
     } else if constexpr (IsHandle<T>::value) {
-        if (text == "null") return nullptr;
-        auto& [object, type] = objects.by_key.at(std::stoull(text.substr(1)));
+        if (value.kind == null) return nullptr;
+        if (value.kind != key) throw std::invalid_argument(text(value) + " is no object");
+        auto& [object, type] = objects.at(value.bits);
         if (*type != typeid(typename IsHandle<T>::Object)) throw std::invalid_argument("an object of another type");
         return std::static_pointer_cast<typename IsHandle<T>::Object>(object);
-    } else if constexpr (std::is_same_v<T, bool>) {
-        if (text != "true" && text != "false") throw std::invalid_argument(text + " is no bool");
-        return text == "true";
     } else {
-        static_assert(std::is_integral_v<T>, "scripts have integers, bool and handles");
-        T value{};
-        auto [at, error] = std::from_chars(text.data(), text.data() + text.size(), value);
-        // in a reply an unsigned value has no `u`
-        bool is_whole = *at == 0 || (std::is_unsigned_v<T> && std::string_view(at) == "u");
-        if (error != std::errc() || !is_whole) throw std::invalid_argument(text + " is of another type");
-        return value;
+        return plain<T>(value);
     }
 }
 
-// The text of a value.
-template <class T> std::string write(const T& value, Objects& objects) {
-    if constexpr (IsHandle<T>::value) {
-        return objects.answer(value, typeid(typename IsHandle<T>::Object));
-    } else if constexpr (std::is_same_v<T, bool>) {
-        return value ? "true" : "false";
-    } else {
-        static_assert(std::is_integral_v<T>, "scripts have integers, bool and handles");
-        return std::to_string(value) + (std::is_unsigned_v<T> ? "u" : "");
-    }
+// The value that an integer or a bool is.
+template <class T> Value plain_value(T value) {
+    static_assert(std::is_integral_v<T>, "scripts have integers, bool and handles");
+    constexpr auto kind = std::is_same_v<T, bool> ? truth : std::is_signed_v<T> ? signed_integer : unsigned_integer;
+    return {kind, static_cast<std::uint64_t>(value)};
 }
 
-// A callable as it is asked: with the texts of its values, for the text of its answer.
-using Asked = std::function<std::string(const Texts&, Objects&)>;
+// The answer that a result is.
+template <class T> Answer answer(const T& result, Objects& objects) {
+    if constexpr (IsHandle<T>::value) return objects.answer(result, typeid(typename IsHandle<T>::Object));
+    else return {gave, 0, plain_value(result)};
+}
+
+// A callable as it is asked: with its values, for its answer.
+using Asked = std::function<Answer(const Values&, Objects&)>;
 
 template <class R, class... A, std::size_t... I>
 Asked asked(std::function<R(A...)> call, std::index_sequence<I...>) {
-    return [call](const Texts& texts, Objects& objects) -> std::string {
-        if (texts.size() != sizeof...(A)) throw std::invalid_argument("another number of values");
+    return [call](const Values& values, Objects& objects) -> Answer {
+        if (values.size() != sizeof...(A)) throw std::invalid_argument("another number of values");
         if constexpr (std::is_void_v<R>) {
-            call(read<A>(texts[I], objects)...);
-            return "void";
+            call(read<A>(values[I], objects)...);
+            return {};
         } else {
-            return write(call(read<A>(texts[I], objects)...), objects);
+            return answer(call(read<A>(values[I], objects)...), objects);
         }
     };
 }
@@ -250,14 +352,57 @@ template <class R, class T, class... A> Asked asked(R (T::*call)(A...) const) {
 struct Entry {
     std::uint32_t mask;
     std::string line, declaration;
-    std::map<std::string, Asked> asked;
+    Asked asked, written; // what is asked to make, to call or to read, and to write
 };
 
-// An engine's process, and the lines to and from it. It is killed where this is destroyed.
-class Process {
-  public:
-    using Time = std::chrono::steady_clock::time_point;
+using Milliseconds = std::chrono::milliseconds;
+using Time = std::chrono::steady_clock::time_point;
 
+// Until when a command may go on that begins now.
+inline Time deadline(Milliseconds timeout) {
+    auto now = std::chrono::steady_clock::now();
+    return timeout < Time::max() - now ? now + timeout : Time::max();
+}
+
+// The milliseconds up to a deadline, which throws where there are none.
+inline Milliseconds left(Time deadline) {
+    auto left = std::chrono::ceil<Milliseconds>(deadline - std::chrono::steady_clock::now());
+    if (left.count() <= 0) throw CommandTimeout();
+    return left;
+}
+
+// What an engine says meanwhile: what it asks, and each line of its reply.
+struct Host {
+    std::function<Answer(AskKind, std::size_t, const Values&)> answer;
+    std::function<void(const std::string&)> hear;
+};
+
+// An engine, wherever it runs. It ends where this is destroyed.
+class Talk {
+  public:
+    virtual ~Talk() = default;
+
+    // Does a command, and says whether the engine is still there. An empty text is the engine's start.
+    virtual bool tell(const std::string& text, Milliseconds timeout, const Host& host) = 0;
+
+    // The number of the engine's process, and 0 where it is this one.
+    virtual pid_t pid() const { return 0; }
+};
+
+// The ask that a line `ask DRIVER KIND F OBJECT (V,V)` is, in which F is the entry's number.
+inline Answer answer(const std::string& ask, const Host& host) {
+    static const std::string kinds[] = {"make", "call", "read", "write"};
+    auto words = split(ask, ' ');
+    Values values;
+    if (words.at(4) != "-") values.push_back(value(words[4]));
+    for (auto& text : split(words.at(5).substr(1, words[5].size() - 2), ',')) values.push_back(value(text));
+    auto kind = static_cast<AskKind>(std::find(kinds, kinds + 3, words[2]) - kinds);
+    return host.answer(kind, std::stoul(words[3]), values);
+}
+
+// An engine's process, and the lines to and from it. It is killed where this is destroyed.
+class Process : public Talk {
+  public:
     explicit Process(Texts words) {
         int ends[2];
         if (socketpair(AF_UNIX, SOCK_STREAM | SOCK_CLOEXEC, 0, ends) != 0) throw EngineLost("no socket");
@@ -267,7 +412,7 @@ class Process {
         posix_spawn_file_actions_t actions;
         posix_spawn_file_actions_init(&actions);
         for (int file : {0, 1}) posix_spawn_file_actions_adddup2(&actions, ends[1], file);
-        int error = posix_spawnp(&pid, arguments[0], &actions, nullptr, arguments.data(), environ);
+        int error = posix_spawnp(&pid_, arguments[0], &actions, nullptr, arguments.data(), environ);
         posix_spawn_file_actions_destroy(&actions);
         close(ends[1]);
         stream_ = ends[0];
@@ -275,54 +420,184 @@ class Process {
         if (error != 0) throw EngineLost(words[0] + ": " + std::generic_category().message(error));
     }
 
-    ~Process() {
+    ~Process() override {
         close(stream_);
-        kill(pid, SIGKILL);
-        while (waitpid(pid, nullptr, 0) < 0 && errno == EINTR) {}
+        kill(pid_, SIGKILL);
+        while (waitpid(pid_, nullptr, 0) < 0 && errno == EINTR) {}
     }
 
     Process(const Process&) = delete;
     Process& operator=(const Process&) = delete;
 
-    void send(std::string_view text, Time deadline) const {
+    bool tell(const std::string& text, Milliseconds timeout, const Host& host) override {
+        deadline_ = deadline(timeout);
+        send(text);
+        for (auto line = this->line(); line != "done"; line = this->line()) {
+            if (!line) return false;
+            if (line->rfind("ask ", 0) != 0) {
+                host.hear(*line);
+                continue;
+            }
+            auto said = detail::text(answer(*line, host)) + "\n";
+            left(deadline_);
+            send(said);
+        }
+        return true;
+    }
+
+    pid_t pid() const override { return pid_; }
+
+  private:
+    void send(std::string_view text) const {
         while (!text.empty()) {
             ssize_t sent = ::send(stream_, text.data(), text.size(), MSG_NOSIGNAL | MSG_DONTWAIT);
             if (sent > 0) text.remove_prefix(static_cast<std::size_t>(sent));
-            else if (errno == EAGAIN) wait(POLLOUT, deadline);
+            else if (errno == EAGAIN) wait(POLLOUT);
             else if (errno != EINTR) return;  // what the engine said last is still to be read
         }
     }
 
     // The next line, or nothing where the stream ended.
-    std::optional<std::string> line(Time deadline) {
+    std::optional<std::string> line() {
         std::size_t end;
         while ((end = read_.find('\n', at_)) == std::string::npos) {
-            wait(POLLIN, deadline);
+            wait(POLLIN);
             char data[1 << 14];
             ssize_t size = recv(stream_, data, sizeof data, 0);
             if (size == 0) return std::nullopt;
             read_.erase(0, std::exchange(at_, 0));
             if (size > 0) read_.append(data, static_cast<std::size_t>(size));
         }
+        left(deadline_);
         auto line = read_.substr(at_, end - at_);
         at_ = end + 1;
         return line;
     }
 
-    pid_t pid = 0;
-
-  private:
-    void wait(short event, Time deadline) const {
-        using namespace std::chrono;
-        auto left = ceil<milliseconds>(deadline - steady_clock::now()).count();
+    void wait(short event) const {
+        auto most = std::min<Milliseconds::rep>(left(deadline_).count(), std::numeric_limits<int>::max());
         pollfd polled{stream_, event, 0};
-        if (left <= 0 || poll(&polled, 1, static_cast<int>(left)) == 0) throw CommandTimeout();
+        if (poll(&polled, 1, static_cast<int>(most)) == 0) throw CommandTimeout();
     }
 
+    pid_t pid_ = 0;
     int stream_;
+    Time deadline_;
     std::string read_;
     std::size_t at_ = 0;  // where in it the next line begins
 };
+
+// What stands in clients/c/bustlebrick.h.
+struct LibraryOptions {
+    const char* profile;
+    std::size_t profile_bytes;
+    std::uint32_t drivers;
+    std::uint64_t budget;
+    std::size_t stack_bytes, memory_bytes;
+    void (*host)(void*, const void*, void*);
+    void* data;
+};
+
+struct LibraryAsk {
+    AskKind kind;
+    std::uint32_t driver, function;
+    bool has_object;
+    std::uint64_t object;
+    std::size_t count;
+    const Value* values;
+};
+
+enum LibraryState { done, asks };
+
+// The functions of a library.
+struct Library {
+    const char* (*version)();
+    void* (*make)(const LibraryOptions*);
+    LibraryState (*begin)(void*, const char*, std::size_t);
+    const LibraryAsk* (*asked)(const void*);
+    LibraryState (*resume)(void*, const Answer*);
+    const char* (*reply)(const void*, std::size_t*);
+    LibraryState (*state)(const void*);
+    void (*set_timeout)(void*, std::uint64_t);
+    LibraryState (*free)(void*);
+};
+
+// The library at a path, or nothing where there is none that can be loaded.
+inline std::optional<Library> loaded(const std::string& path) {
+    void* there = path.empty() ? nullptr : dlopen(path.c_str(), RTLD_NOW | RTLD_LOCAL);
+    if (!there) return std::nullopt;
+    Library library{};
+    auto found = [&](const char* name, auto& function) {
+        function = reinterpret_cast<std::remove_reference_t<decltype(function)>>(dlsym(there, name));
+        if (!function) throw EngineLost(path + " has no " + name);
+    };
+    found("bb_version", library.version);
+    found("bb_new", library.make);
+    found("bb_begin", library.begin);
+    found("bb_asked", library.asked);
+    found("bb_resume", library.resume);
+    found("bb_reply", library.reply);
+    found("bb_state_of", library.state);
+    found("bb_set_timeout", library.set_timeout);
+    found("bb_free", library.free);
+    auto words = split(library.version(), ' ');
+    if (words.size() > 1 && words[1] == version) return library;
+    throw EngineLost(path + " is " + library.version() + ", and this client " + version);
+}
+
+// An engine in this process.
+class InProcess : public Talk {
+  public:
+    InProcess(const Library& library, const std::string& profile, std::size_t drivers, std::size_t memory)
+        : library_(library) {
+        LibraryOptions options{};
+        options.profile = profile.data();
+        options.profile_bytes = profile.size();
+        options.drivers = static_cast<std::uint32_t>(drivers);
+        options.memory_bytes = memory;
+        engine_ = library_.make(&options);
+        if (!engine_) throw EngineLost("no engine could be made: " + std::generic_category().message(errno));
+    }
+
+    ~InProcess() override { library_.free(engine_); }
+
+    InProcess(const InProcess&) = delete;
+    InProcess& operator=(const InProcess&) = delete;
+
+    bool tell(const std::string& text, Milliseconds timeout, const Host& host) override {
+        auto deadline = detail::deadline(timeout);
+        library_.set_timeout(engine_, static_cast<std::uint64_t>(std::max<Milliseconds::rep>(timeout.count(), 1)));
+        auto state = text.empty() ? library_.state(engine_) : library_.begin(engine_, text.data(), text.size());
+        while (state == asks) {
+            auto given = answer(*library_.asked(engine_), host);
+            left(deadline);
+            state = library_.resume(engine_, &given);
+        }
+        std::size_t size;
+        const char* reply = library_.reply(engine_, &size);
+        for (const char *at = reply, *end; at != reply + size; at = end + 1) {
+            end = std::find(at, reply + size, '\n');
+            host.hear(std::string(at, end));
+            left(deadline);
+        }
+        left(deadline);
+        return state == done;
+    }
+
+  private:
+    Answer answer(const LibraryAsk& ask, const Host& host) {
+        values_.clear();
+        if (ask.has_object) values_.push_back({key, ask.object});
+        values_.insert(values_.end(), ask.values, ask.values + ask.count);
+        return host.answer(ask.kind, ask.function, values_);
+    }
+
+    Library library_;
+    void* engine_;
+    Values values_;
+};
+
+constexpr std::size_t most_command = 16777216; // bytes
 
 inline Place place(const std::string& text) {
     Place place;
@@ -334,6 +609,34 @@ inline std::string mask(std::uint32_t mask) {
     char text[9];
     std::snprintf(text, sizeof text, "%08x", static_cast<unsigned>(mask));
     return text;
+}
+
+// The lines that follow a line, if that is `section NAME N`.
+inline std::optional<std::uint64_t> counted(const std::string& line) {
+    auto words = split(line, ' ');
+    if (words.size() != 3 || words[0] != "section" || words[1].empty() || line.back() == ' ') return std::nullopt;
+    bool is_number = words[2].find_first_not_of("0123456789") == std::string::npos;
+    if (!is_number || words[2].empty() || words[2].size() > 10) return std::nullopt;
+    return std::stoull(words[2]);
+}
+
+// Whether the first letters of a line are those of `section`: what follows it could be the text of a script.
+inline bool is_like_head(const std::string& line) {
+    auto is_letter = [](unsigned char c) { return 'a' <= (c | 0x20) && (c | 0x20) <= 'z'; };
+    auto letters = std::string(std::find_if(line.begin(), line.end(), is_letter), line.end());
+    return strncasecmp(letters.c_str(), "section", 7) == 0;
+}
+
+// The text with its last LF, if it is one command: what more it said would be taken for the next ones.
+inline std::string whole(const std::string& text) {
+    auto head = text.substr(0, text.find('\n'));
+    if (!head.empty() && head.back() == '\r') head.pop_back();
+    auto more = counted(head);
+    auto lines = 1 + more.value_or(0), count = static_cast<std::uint64_t>(std::count(text.begin(), text.end(), '\n'));
+    bool ends = count == lines && text.back() == '\n';
+    bool is_whole = (ends || count + 1 == lines) && text.size() + !ends <= most_command;
+    if (is_whole && (more || head.rfind("#", 0) == 0 || !is_like_head(head))) return ends ? text : text + "\n";
+    throw std::invalid_argument(head.substr(0, 80) + " is no command, or begins more than one");
 }
 
 // As a limit: none.
@@ -371,29 +674,29 @@ class Profile {
     // A function without objects, or with those of a type. An object that it gives is one that scripts hold.
     template <class F> void function(const std::string& declaration, F call, const std::string& type = "") {
         auto driver = type.empty() ? 0 : std::find(types_.begin(), types_.end(), type) - types_.begin() + 1;
-        add("function " + std::to_string(driver), declaration, {{"call", detail::asked(call)}});
+        add("function " + std::to_string(driver), declaration, detail::asked(call));
     }
 
     // A global property that scripts only read. It is declared `const`.
     template <class F> void constant(const std::string& declaration, F get) {
-        add("global 0", declaration, {{"read", detail::asked(get)}});
+        add("global 0", declaration, detail::asked(get));
     }
 
     // A global property.
     template <class F, class G> void global(const std::string& declaration, F get, G set) {
-        add("global 0", declaration, {{"read", detail::asked(get)}, {"write", detail::asked(set)}});
+        add("global 0", declaration, detail::asked(get), detail::asked(set));
     }
 
     // A type of host objects, each of which is a std::shared_ptr<T> of the same T.
     void type(const std::string& name) {
         types_.push_back(name);
         auto line = "type " + name + " " + std::to_string(types_.size());
-        entries_.push_back({mask, line, name, {}});
+        entries_.push_back({mask, line, name, {}, {}});
     }
 
     // An enumeration and its values, which callables see as int.
     void enumeration(const std::string& name, const std::vector<std::pair<std::string, std::int32_t>>& values) {
-        entries_.push_back({mask, "enum " + name, name, {}});
+        entries_.push_back({mask, "enum " + name, name, {}, {}});
         for (auto& [value, number] : values) this->value(name, value, number);
     }
 
@@ -402,32 +705,33 @@ class Profile {
         auto is_it = [&](const detail::Entry& entry) { return entry.line == "enum " + enumeration; };
         auto found = std::find_if(entries_.begin(), entries_.end(), is_it);
         auto own = found == entries_.end() ? mask : found->mask;
-        entries_.push_back({own, "value " + enumeration + " " + name + " " + std::to_string(number), name, {}});
+        entries_.push_back({own, "value " + enumeration + " " + name + " " + std::to_string(number), name, {}, {}});
     }
 
     // What makes a new object of a type, or gives null.
     template <class F> void factory(const std::string& type, const std::string& declaration, F make) {
-        add("factory " + type, declaration, {{"make", detail::asked(make)}});
+        add("factory " + type, declaration, detail::asked(make));
     }
 
     // A method of a type: of the class, or a callable that takes the object first.
     template <class F> void method(const std::string& type, const std::string& declaration, F call) {
-        add("method " + type, declaration, {{"call", detail::asked(call)}});
+        add("method " + type, declaration, detail::asked(call));
     }
 
     // A property of a type, which is a field of the class.
     template <class T, class V> void property(const std::string& type, const std::string& declaration, V T::*field) {
         auto get = [field](const T& it) { return it.*field; };
         auto set = [field](T& it, V value) { it.*field = value; };
-        add("property " + type, declaration, {{"read", detail::asked(get)}, {"write", detail::asked(set)}});
+        add("property " + type, declaration, detail::asked(get), detail::asked(set));
     }
 
   private:
     friend class Engine;
 
-    void add(const std::string& words, const std::string& declaration, std::map<std::string, detail::Asked> asked) {
+    void add(const std::string& words, const std::string& declaration, detail::Asked asked,
+             detail::Asked written = {}) {
         auto line = words + " " + std::to_string(entries_.size()) + " " + declaration;
-        entries_.push_back({mask, line, declaration, std::move(asked)});
+        entries_.push_back({mask, line, declaration, std::move(asked), std::move(written)});
     }
 
     // What the engine reads: two lines for each entry.
@@ -446,9 +750,13 @@ class Engine {
   public:
     class Module;
 
-    // Starts an engine; `program` is the path of asremote.
-    explicit Engine(Profile profile, std::string program = "asremote", const Limits& limits = {})
-        : profile_(std::move(profile)), program_(std::move(program)), limits_(limits) {
+    // Starts an engine. It is a process of `program`, the path of asremote; or, where `library` is the path of a
+    // libbustlebrick.so that is there, it is in this process. `memory` is the most bytes of memory that it may have, 0
+    // for no limit.
+    explicit Engine(Profile profile, std::string program = "asremote", const Limits& limits = {}, std::size_t memory = 0,
+                    const std::string& library = "")
+        : profile_(std::move(profile)), program_(std::move(program)), limits_(limits),
+          library_(detail::loaded(library)), memory_(memory) {
         detail::check(limits, 0);
         restart();
     }
@@ -458,11 +766,14 @@ class Engine {
     // What a command may take, with what callables take meanwhile. It does not end a callable.
     std::chrono::milliseconds timeout{10000};
 
-    // The number of the engine's process.
-    pid_t pid() const { return process_ ? process_->pid : 0; }
+    // The number of the engine's process; 0 where there is no engine, and where it is in this process.
+    pid_t pid() const { return talk_ ? talk_->pid() : 0; }
 
     // How many objects scripts hold.
-    std::size_t objects() const { return objects_.by_key.size(); }
+    std::size_t objects() const { return objects_.count(); }
+
+    // The events of the last command that gave no Reply, as a call: what scripts asked, and which objects ended.
+    const std::vector<std::string>& events() const { return events_; }
 
     // Sets the ticks that each later build and call may take.
     void budget(std::uint32_t ticks) {
@@ -484,11 +795,11 @@ class Engine {
     Used used() {
         std::map<std::string, std::string> told;
         Reply reply;
-        for (auto& line : say("used\n")) {
+        say("used\n", [&](const std::string& line) {
             auto words = detail::split(line, ' ');
             if (words.size() == 2) told[words[0]] = words[1];
             reply.outcome = line;
-        }
+        });
         value(reply);
         return {std::stoull(told.at("slots")), std::stoull(told.at("objects"))};
     }
@@ -499,37 +810,27 @@ class Engine {
     // Ends the engine, if there is one, and starts another one with the same profile, budget and limits. The modules are
     // gone: they have to be made, built and bound anew. All objects are given up.
     void restart() {
-        process_ = nullptr;
+        check_turn();
+        talk_ = nullptr;
         objects_ = {};
-        auto path = (std::filesystem::temp_directory_path() / "bustlebrick-XXXXXX").string();
-        if (close(mkstemp(path.data())) != 0) throw EngineLost("no file for the profile");
-        std::shared_ptr<void> removed(nullptr, [&](void*) { unlink(path.c_str()); });
+        events_.clear();
         auto text = profile_.text();
         for (auto& line : detail::lines(limits_)) text += line + "\n";
-        if (!(std::ofstream(path) << text << std::flush)) throw EngineLost("the profile is not written");
-        auto drivers = std::to_string(1 + profile_.types_.size());
-        process_ = std::make_unique<detail::Process>(detail::Texts{program_, "--profile", path, "--drivers", drivers});
-        say("");
+        std::string said;
+        auto hear = [&](const std::string& line) { said = line; };
+        if (library_) {
+            talk_ = std::make_unique<detail::InProcess>(*library_, text, drivers(), memory_);
+            say("", hear);
+        } else {
+            start(text, hear);
+        }
         if (ticks_) budget(*ticks_);
     }
 
-    // Does a command: a line of a session, and those of its section, without the last LF.
+    // Does a command: a line of a session, and those of its section. Another text is a std::invalid_argument.
     Reply command(const std::string& text) {
         Reply reply;
-        for (auto& line : say(text + "\n")) {
-            auto words = detail::split(line, ' ');
-            if (words[0] == "error") {
-                reply.errors.push_back({words.at(1), detail::place(words.at(2)), words.at(3)});
-            } else if (words[0] == "denied") {
-                auto& entry = profile_.entries_.at(std::stoul(words.at(2)));
-                auto mask = static_cast<std::uint32_t>(std::stoul(words.at(4), nullptr, 16));
-                reply.denials.push_back({detail::place(words.at(1)), entry.declaration, entry.mask, mask});
-            } else if (words[0] == "end") {
-                objects_.by_key.erase(std::stoull(words.at(2).substr(1)));
-            }
-            if (words[0] == "host" || words[0] == "end") reply.events.push_back(line);
-            reply.outcome = line;
-        }
+        say(detail::whole(text), [&](const std::string& line) { hear(line, reply); });
         reply.cause = std::exchange(cause_, nullptr);
         return reply;
     }
@@ -539,9 +840,10 @@ class Engine {
     std::string done(const std::string& line) {
         if (line.find('\n') != std::string::npos) throw std::invalid_argument("a line with a line's end: " + line);
         auto reply = command(line);
+        events_ = std::move(reply.events);
         if (reply.outcome != "fault Memory") return value(reply);
         auto used = this->used();
-        throw ScriptFault("Memory", reply.cause, Held{reply.events.size() + used.objects, used, limits_});
+        throw ScriptFault("Memory", reply.cause, Held{events_.size() + used.objects, used, limits_});
     }
 
     static std::string value(const Reply& reply) {
@@ -551,46 +853,93 @@ class Engine {
         return reply.outcome == "ok" ? "" : rest;
     }
 
-    // Sends lines, and answers what is asked meanwhile. Where that fails there is no engine any more.
-    detail::Texts say(const std::string& text) {
-        if (!process_) throw EngineLost("the engine has ended, or it is a callable of its own that uses it");
-        auto process = std::exchange(process_, nullptr);
-        auto deadline = std::chrono::steady_clock::now() + timeout;
-        process->send(text, deadline);
-        detail::Texts reply;
-        for (auto line = process->line(deadline); line != "done"; line = process->line(deadline)) {
-            if (!line && text.empty() && !reply.empty()) throw Refused(reply.back());
-            if (!line) throw EngineLost(reply.empty() ? "the engine ended" : reply.back());
-            if (line->rfind("ask ", 0) == 0) process->send(answer(*line) + "\n", deadline);
-            else reply.push_back(*line);
-        }
-        process_ = std::move(process);
-        return reply;
+    std::size_t drivers() const { return 1 + profile_.types_.size(); }
+
+    // Starts a process with a profile, which is in a file until it has been read.
+    void start(const std::string& profile, const std::function<void(const std::string&)>& hear) {
+        auto path = (std::filesystem::temp_directory_path() / "bustlebrick-XXXXXX").string();
+        if (close(mkstemp(path.data())) != 0) throw EngineLost("no file for the profile");
+        std::shared_ptr<void> removed(nullptr, [&](void*) { unlink(path.c_str()); });
+        if (!(std::ofstream(path) << profile << std::flush)) throw EngineLost("the profile is not written");
+        detail::Texts words{program_, "--profile", path, "--drivers", std::to_string(drivers())};
+        detail::Texts limited{"/bin/sh", "-c", "ulimit -v \"$0\" && exec \"$@\"", std::to_string(memory_ >> 10)};
+        if (memory_) words.insert(words.begin(), limited.begin(), limited.end());
+        talk_ = std::make_unique<detail::Process>(words);
+        say("", hear);
     }
 
-    // The answer to `ask DRIVER KIND F OBJECT (V,V)`, in which F is the entry's number.
-    std::string answer(const std::string& ask) {
+    // Takes a line of a reply.
+    void hear(const std::string& line, Reply& reply) {
+        reply.outcome = line;
+        auto word = line.substr(0, line.find(' '));
+        if (word == "host" || word == "end") reply.events.push_back(line);
+        if (word != "error" && word != "denied" && word != "end") return;
+        auto words = detail::split(line, ' ');
+        if (word == "error") {
+            auto name = word.size() + words.at(1).size() + words.at(2).size() + 3;  // it may have spaces
+            reply.errors.push_back({words[1], detail::place(words[2]), line.substr(name)});
+        } else if (word == "denied") {
+            auto& entry = profile_.entries_.at(std::stoul(words.at(2)));
+            auto mask = static_cast<std::uint32_t>(std::stoul(words.at(4), nullptr, 16));
+            reply.denials.push_back({detail::place(words.at(1)), entry.declaration, entry.mask, mask});
+        } else {
+            objects_.end(std::stoull(words.at(2).substr(1)));
+        }
+    }
+
+    void check_turn() const {
+        if (is_busy_) throw std::logic_error("a callable may not use the engine that asks it");
+    }
+
+    // Does a command, and answers what is asked meanwhile. Where that fails there is no engine any more.
+    void say(const std::string& text, const std::function<void(const std::string&)>& hear) {
+        check_turn();
+        if (!talk_) throw EngineLost("there is no engine any more");
+        std::string last;
+        detail::Host host;
+        host.answer = [this](auto kind, auto number, auto& values) { return answer(kind, number, values); };
+        host.hear = [&](const std::string& line) { hear(last = line); };
+        is_busy_ = true;
         try {
-            auto words = detail::split(ask, ' ');
-            auto texts = detail::split(words.at(5).substr(1, words[5].size() - 2), ',');
-            if (words[4] != "-") texts.insert(texts.begin(), words[4]);
-            objects_.is_making = words[2] == "make";
-            return profile_.entries_.at(std::stoul(words[3])).asked.at(words[2])(texts, objects_);
+            if (!talk_->tell(text, timeout, host)) lose(text, last);
+        } catch (...) {
+            is_busy_ = false;
+            talk_ = nullptr;
+            throw;
+        }
+        is_busy_ = false;
+    }
+
+    // Throws what an engine that has ended said last: at its start, why its profile is refused.
+    [[noreturn]] static void lose(const std::string& text, const std::string& last) {
+        if (text.empty() && !last.empty()) throw Refused(last);
+        throw EngineLost(last.empty() ? "the engine ended" : last);
+    }
+
+    detail::Answer answer(detail::AskKind kind, std::size_t number, const detail::Values& values) {
+        try {
+            auto& entry = profile_.entries_.at(number);
+            objects_.is_making = kind == detail::make_ask;
+            return (kind == detail::write_ask ? entry.written : entry.asked)(values, objects_);
         } catch (const Fault& fault) {
             cause_ = std::current_exception();
-            return fault.what();
+            return {detail::faulted, fault.number, {}};
         } catch (...) {
             cause_ = std::current_exception();
-            return Fault(unexpected).what();
+            return {detail::faulted, unexpected, {}};
         }
     }
 
     Profile profile_;
     std::string program_;
-    std::unique_ptr<detail::Process> process_;
+    Limits limits_;
+    std::optional<detail::Library> library_;
+    std::size_t memory_;
+    std::unique_ptr<detail::Talk> talk_;
+    bool is_busy_ = false;  // a command is done
+    std::vector<std::string> events_;
     detail::Objects objects_;
     std::optional<std::uint32_t> ticks_;
-    Limits limits_;
     std::exception_ptr cause_;
 };
 
@@ -604,7 +953,6 @@ class Engine::Module {
     void section(std::string text) {
         if (text.empty() || text.back() != '\n') text += '\n';
         auto lines = std::to_string(std::count(text.begin(), text.end(), '\n'));
-        text.pop_back();
         value(engine_->command("section " + name_ + " " + lines + "\n" + text));
     }
 
@@ -621,11 +969,10 @@ class Engine::Module {
 
     // Calls a function of the scripts by its declaration, and gives its result: `call<int>("int twice(int)", 21)`.
     template <class R = void, class... A> R call(const std::string& declaration, const A&... values) {
-        detail::Objects none;
         std::string texts;
-        ((texts += (texts.empty() ? "" : ",") + detail::write(values, none)), ...);
+        ((texts += (texts.empty() ? "" : ",") + detail::text(detail::plain_value(values))), ...);
         auto result = engine_->done("call " + name_ + " (" + texts + ") " + declaration);
-        if constexpr (!std::is_void_v<R>) return detail::read<R>(result, none);
+        if constexpr (!std::is_void_v<R>) return detail::plain<R>(detail::value(result));
     }
 
     // Ends the module.

@@ -1,13 +1,15 @@
 // A small game server: scripts of its admin and of players, one that runs away, one that is replaced, and an engine
 // that hangs.
 //
-//     g++ -std=c++17 game.cpp -o game && ./game [ASREMOTE]
+//     g++ -std=c++17 game.cpp -o game && ./game [ASREMOTE [LIBRARY]]
 //
+// The engine is in this process, where LIBRARY is the path of a libbustlebrick.so that is there, and else a process.
 // Prints what stands in ../game.expected.
 #include "bustlebrick.hpp"
 
 #include <iostream>
 #include <map>
+#include <thread>
 
 using bustlebrick::Engine;
 using bustlebrick::Module;
@@ -80,6 +82,12 @@ Handle stronger(Handle one, Handle other) { return one->left >= other->left ? on
 struct World {
     std::map<std::int64_t, std::int64_t> purses{{1, 100}};
     std::int64_t price = 5;
+    std::chrono::milliseconds delay{0};  // that a look into a purse takes
+
+    std::int64_t purse(std::int64_t player) const {
+        std::this_thread::sleep_for(delay);
+        return purses.at(player);
+    }
 };
 
 // What scripts may use: both sorts of them, and the staff's alone.
@@ -89,7 +97,7 @@ Profile offered(World& world) {
     profile.type("Monster");
     profile.method("Monster", "int health() const", &Monster::health);
     profile.function("void say(int64)", [](std::int64_t n) { std::cout << "say " << n << '\n'; });
-    profile.function("int64 purse(int64)", [&](std::int64_t player) { return world.purses.at(player); });
+    profile.function("int64 purse(int64)", [&](std::int64_t player) { return world.purse(player); });
     profile.function("uint8 roll(uint8)", [](std::uint8_t sides) -> std::uint8_t { return sides - 1; });
     profile.constant("const bool open", [] { return true; });
     profile.mask = staff;
@@ -143,7 +151,13 @@ Module built(Engine& engine, const std::string& name, std::uint32_t mask, const 
     return module;
 }
 
-void play(Engine& engine) {
+// Has the engine hang: its process is stopped, or, where it is in this one, a callable takes too long.
+void hang(const Engine& engine, World& world) {
+    if (engine.pid() == 0) world.delay = std::chrono::seconds(1);
+    else kill(engine.pid(), SIGSTOP);
+}
+
+void play(Engine& engine, World& world) {
     engine.budget(10000);
     auto admin = built(engine, "admin", players | staff, admin_script);
     auto player = built(engine, "player", players, player_script("n"));
@@ -182,13 +196,14 @@ void play(Engine& engine) {
 
     // An engine that hangs. The next one has no modules.
     engine.timeout = std::chrono::milliseconds(500);
-    kill(engine.pid(), SIGSTOP);
+    hang(engine, world);
     try {
-        admin.call<int>("int wound(int)", 1);
+        player.call<std::int64_t>("int64 gold()");
     } catch (const bustlebrick::CommandTimeout&) {
         std::cout << "the engine hung\n";
     }
     engine.timeout = std::chrono::seconds(10);
+    world.delay = std::chrono::milliseconds(0);
     engine.restart();
     tell<int>("wound with 1", admin, "int wound(int)", 1);
     admin = built(engine, "admin", players | staff, admin_script);
@@ -205,8 +220,8 @@ void play(Engine& engine) {
 int main(int count, char** words) {
     try {
         World world;
-        Engine engine(offered(world), count > 1 ? words[1] : "asremote");
-        play(engine);
+        Engine engine(offered(world), count > 1 ? words[1] : "asremote", {}, 0, count > 2 ? words[2] : "");
+        play(engine, world);
         return 0;
     } catch (const std::exception& error) {
         std::cerr << "game: " << error.what() << '\n';

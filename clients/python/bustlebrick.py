@@ -1,7 +1,7 @@
-"""Runs scripts in a Bustlebrick engine, which is a child process, and answers what they ask.
+"""Runs scripts in a Bustlebrick engine, a child process or a library in this one, and answers what they ask.
 
-A `Profile` says what scripts may use, and which callables answer. An `Engine` is the child with that profile, and a
-`Module` in it holds scripts, which see what the module's mask shows them::
+A `Profile` says what scripts may use, and which callables answer. An `Engine` runs with that profile, and a `Module` in
+it holds scripts, which see what the module's mask shows them::
 
     profile = Profile()
     profile.function("int64 sum(int64, int64)", lambda a, b: a + b)
@@ -15,19 +15,28 @@ An engine is for one thread at a time, and a callable may not use the engine tha
 
 from __future__ import annotations
 
+import ctypes
 import os
 import re
 import select
+import struct
 import subprocess
 import tempfile
 import time
 from contextlib import AbstractContextManager
+from functools import lru_cache
 from operator import attrgetter, index
-from typing import Any, Callable, Dict, List, NamedTuple, Optional, Sequence
+from typing import Any, Callable, Dict, Iterator, List, NamedTuple, Optional, Sequence, Tuple, Union
+
+__version__ = "0.1.0"
 
 Asked = Callable[..., Any]
 LINE, FIELD, MASK, NUMBER = "[^\n]+", "[^ \n]+", "[0-9a-f]{8}", "[0-9]{1,10}"
+HEAD = re.compile("section [^ ]+ ([0-9]{1,10})")
+LIKE_HEAD = re.compile("[^a-z]*section", re.ASCII | re.IGNORECASE)  # what follows such a line could be a script's text
+MOST_COMMAND = 16_777_216  # bytes
 UNEXPECTED = 1  # the number of a script's fault where a callable raised something else than `Fault`
+KEPT = 4_294_967_280  # from here on, numbers of faults are the engine's own
 MOST = 2**63 - 1  # as a limit: none
 UNCHANGED: Any = object()
 
@@ -36,7 +45,9 @@ class Fault(Exception):
     """Raised by a callable: the script that asked ends with the fault ``Host NUMBER``."""
 
     def __init__(self, number: int) -> None:
-        self.number = number
+        if not 0 <= index(number) < KEPT:
+            raise ValueError(f"a host's fault is a number from 0 to {KEPT - 1}, and not {number}")
+        self.number = int(number)
 
 
 class Refused(Exception):
@@ -130,6 +141,19 @@ class Reply(NamedTuple):
         return self.outcome.partition(" ")[0] == "ok"
 
 
+class Form(NamedTuple):
+    """The form of an answer, of which a number is the rest: its text, and what bustlebrick.h calls it and its value."""
+    text: str
+    kind: int
+    value: int = 0
+
+
+Answer = Tuple[Form, int]
+VOID, MADE, NOTHING, FAULT = Form("void", 0), Form("made #{}", 2), Form("nothing", 3), Form("fault {}", 4)
+INT, UINT, FALSE, TRUE = Form("{}", 1, 0), Form("{}u", 1, 1), Form("false", 1, 2), Form("true", 1, 2)
+KEY, NULL = Form("#{}", 1, 3), Form("null", 1, 4)
+
+
 class Conversation:
     """The lines to and from an engine's process. `answer` is given each line ``ask ..``, and gives its answer."""
 
@@ -137,34 +161,46 @@ class Conversation:
         self._answer = answer
         self._lines: List[bytes] = []  # read and not looked at, the last one first
         self._rest = b""
-        self._busy = False
+        self.busy = False
         self.process = subprocess.Popen(words, stdin=subprocess.PIPE, stdout=subprocess.PIPE, bufsize=0)
+        self.pid: Optional[int] = self.process.pid
         assert self.process.stdin and self.process.stdout
         self._input, self._output = self.process.stdin, self.process.stdout
         os.set_blocking(self._input.fileno(), False)
 
     def say(self, text: str, timeout: float) -> List[str]:
         """Sends a command, and gives the lines of its reply, without ``done``."""
-        if self._output.closed:
-            raise EngineLost("there is no engine any more")
-        if self._busy:
-            raise RuntimeError("a callable may not use the engine that asks it")
-        self._busy, self._deadline, data = True, time.monotonic() + timeout, text.encode()
         reply: List[str] = []
+        try:
+            self.tell(text, timeout, reply.append)
+        except EngineLost as lost:
+            lost.said = reply
+            raise
+        return reply
+
+    def tell(self, text: str, timeout: float, hear: Callable[[str], None]) -> None:
+        """Sends a command, and has each line of its reply heard, without ``done``."""
+        if self._output.closed:
+            raise EngineLost(GONE)
+        if self.busy:
+            raise RuntimeError(IN_CALLABLE)
+        self.busy, self._deadline, data = True, time.monotonic() + timeout, text.encode()
         try:
             self._send(data)
             while (line := self._line()) != "done":
                 if line is None:
-                    raise EngineLost(f"the engine ended with the status {self.close(timeout)}", reply)
+                    raise EngineLost(f"the engine ended with the status {self.close(timeout)}")
                 if line.startswith("ask "):
-                    self._send(self._answer(line).encode() + b"\n")
+                    answer = self._answer(line)
+                    _left(self._deadline)
+                    self._send(answer.encode() + b"\n")
                 else:
-                    reply.append(line)
+                    hear(line)
         except BaseException:
             self.close(0)  # half a command can't be gone on with
             raise
-        self._busy = False
-        return reply
+        finally:
+            self.busy = False
 
     def close(self, timeout: float) -> int:
         """Ends the input, so that the process ends, and kills it if it doesn't. Gives its status."""
@@ -184,6 +220,7 @@ class Conversation:
             if not data:
                 return None
             self._rest, *self._lines = (self._rest + data).split(b"\n")[::-1]
+        _left(self._deadline)
         return self._lines.pop().decode()
 
     def _send(self, data: bytes) -> None:
@@ -198,8 +235,157 @@ class Conversation:
     def _wait(self, file: int, event: int) -> None:
         poll = select.poll()
         poll.register(file, event)
-        if not poll.poll(max(0.0, self._deadline - time.monotonic()) * 1000):
-            raise CommandTimeout("a command took longer than the timeout")
+        if not poll.poll(_left(self._deadline) * 1000):
+            raise CommandTimeout(LATE)
+
+
+GONE, LATE = "there is no engine any more", "a command took longer than the timeout"
+IN_CALLABLE = "a callable may not use the engine that asks it"
+
+
+def _left(deadline: float) -> float:
+    """The seconds up to a deadline, if there are any."""
+    left = deadline - time.monotonic()
+    if left <= 0:
+        raise CommandTimeout(LATE)
+    return left
+
+
+class Options(ctypes.Structure):
+    """`bb_options` of bustlebrick.h."""
+    _fields_ = [
+        ("profile", ctypes.c_char_p),
+        ("profile_bytes", ctypes.c_size_t),
+        ("drivers", ctypes.c_uint32),
+        ("budget", ctypes.c_uint64),
+        ("stack_bytes", ctypes.c_size_t),
+        ("memory_bytes", ctypes.c_size_t),
+        ("host", ctypes.c_void_p),
+        ("data", ctypes.c_void_p),
+    ]
+
+
+DONE, ASKS, ENDED, BUSY, THREAD = range(5)  # bb_state
+ASK, ANSWER = struct.Struct("=II I?3xQQQ"), struct.Struct("=III4xQ")  # bb_ask, bb_answer
+KINDS = ("make", "call", "read", "write")
+
+
+@lru_cache(None)
+def _loaded(path: str) -> Any:
+    """The library at a path, or None where there is none that can be loaded."""
+    try:
+        library = ctypes.CDLL(path, use_errno=True)
+    except OSError:
+        return None
+    pointer, size = ctypes.c_void_p, ctypes.c_size_t
+    types: Dict[str, Tuple[Any, List[Any]]] = {
+        "bb_version": (ctypes.c_char_p, []),
+        "bb_new": (pointer, [ctypes.POINTER(Options)]),
+        "bb_begin": (ctypes.c_int, [pointer, ctypes.c_char_p, size]),
+        "bb_asked": (pointer, [pointer]),
+        "bb_resume": (ctypes.c_int, [pointer, pointer]),
+        "bb_reply": (pointer, [pointer, ctypes.POINTER(size)]),
+        "bb_state_of": (ctypes.c_int, [pointer]),
+        "bb_status": (ctypes.c_int, [pointer]),
+        "bb_set_timeout": (None, [pointer, ctypes.c_uint64]),
+        "bb_end": (ctypes.c_int, [pointer]),
+        "bb_free": (ctypes.c_int, [pointer]),
+    }
+    for name, (result, arguments) in types.items():
+        getattr(library, name).restype, getattr(library, name).argtypes = result, arguments
+    version = library.bb_version().decode()
+    if version.split(" ")[1] != __version__:
+        raise EngineLost(f"{path} is {version}, and this client {__version__}")
+    return library
+
+
+class InProcess:
+    """An engine of the library, in the place of a `Conversation`. `answer` is given the kind of an ask, its number, whether
+    an object is asked, its key, and where the values stand."""
+
+    pid = None
+
+    def __init__(self, library: Any, profile: str, drivers: int, memory: int, answer: Callable[..., Answer]) -> None:
+        self._library, self._answer, self.busy = library, answer, False
+        data = profile.encode()
+        self._engine = library.bb_new(Options(data, len(data), drivers, 0, 0, memory, None, None))
+        if not self._engine:
+            raise EngineLost(f"no engine could be made: {os.strerror(ctypes.get_errno())}")
+        self._seconds = 0.0  # that a command may take
+        self._given = ctypes.create_string_buffer(ANSWER.size)
+        self._ask: Any = None  # the bytes of asks, and of their values: all of them have one place
+        self._values: Any = None
+
+    def tell(self, text: str, timeout: float, hear: Callable[[str], None]) -> None:
+        """Does a command, and has each line of its reply heard. Where the text is empty it is the engine's start."""
+        if not self._engine:
+            raise EngineLost(GONE)
+        if self.busy:
+            raise RuntimeError(IN_CALLABLE)
+        deadline, data = time.monotonic() + timeout, text.encode()
+        if timeout != self._seconds:
+            self._library.bb_set_timeout(self._engine, max(1, int(min(timeout, 1e9) * 1000)))
+            self._seconds = timeout
+        self.busy = True
+        try:
+            self._do(data, deadline)
+            self._hear(hear, deadline)
+            if self._library.bb_state_of(self._engine) != DONE:
+                raise EngineLost(f"the engine ended with the status {self.close(timeout)}")
+        except BaseException:
+            self.close(timeout)
+            raise
+        finally:
+            self.busy = False
+
+    def close(self, timeout: float) -> int:
+        """Ends the engine. Gives the status that its process would have."""
+        if not self._engine:
+            return 0
+        engine, self._engine = self._engine, None
+        self._library.bb_end(engine)
+        status = int(self._library.bb_status(engine))
+        self._library.bb_free(engine)
+        return status
+
+    def __del__(self) -> None:
+        if getattr(self, "_engine", None):
+            self.close(0)
+
+    def _do(self, data: bytes, deadline: float) -> None:
+        library, engine, answer, given = self._library, self._engine, self._answer, self._given
+        resume, now, read, write = library.bb_resume, time.monotonic, ASK.unpack_from, ANSWER.pack_into
+        given_at = ctypes.addressof(given)
+        state = library.bb_begin(engine, data, len(data)) if data else library.bb_state_of(engine)
+        if state == ASKS and self._ask is None:
+            self._find_asks()
+        ask, values = self._ask, self._values
+        while state == ASKS:
+            kind, _, number, has_object, key, _, _ = read(ask)
+            form, number = answer(KINDS[kind], number, has_object, key, values)
+            if now() >= deadline:
+                raise CommandTimeout(LATE)
+            write(given, 0, form.kind, number if form is FAULT else 0, form.value, number & MASK_64)
+            state = resume(engine, given_at)
+        if state == THREAD:
+            raise RuntimeError("an engine is for the thread that made it")
+
+    def _find_asks(self) -> None:
+        at = self._library.bb_asked(self._engine)
+        self._ask = (ctypes.c_char * ASK.size).from_address(at)
+        self._values = (ctypes.c_char * (MOST_VALUES * VALUE_BYTES)).from_address(ASK.unpack_from(self._ask)[-1])
+
+    def _hear(self, hear: Callable[[str], None], deadline: float) -> None:
+        size = ctypes.c_size_t()
+        at = self._library.bb_reply(self._engine, size)
+        for line in ctypes.string_at(at, size.value).decode().split("\n")[:-1]:
+            _left(deadline)
+            hear(line)
+        _left(deadline)
+
+
+MOST_VALUES, VALUE_BYTES = 32, 16  # of an ask, and of a bb_value
+MASK_64 = 2**64 - 1
 
 
 class Entry(NamedTuple):
@@ -234,7 +420,7 @@ class Profile:
     def value(self, enum: str, name: str, number: int) -> None:
         """One value more of an enumeration. It has the enumeration's mask."""
         mask = next((it.mask for it in self.entries if it.line == f"enum {enum}"), self.mask)
-        line = f"value {_checked(enum)} {_checked(name)} {index(number)}"
+        line = f"value {_checked(enum)} {_checked(name)} {index(number):d}"
         self.entries.append(Entry(mask, line, name, "", {}))
 
     def function(self, declaration: str, call: Asked) -> None:
@@ -277,10 +463,12 @@ class Type(NamedTuple):
 
 
 class Engine(AbstractContextManager["Engine"]):
-    """An engine with a profile; `program` is the path of ``asremote``.
+    """An engine with a profile. It is a process of `program`, the path of ``asremote``; or, where `library` is the path of
+    a libbustlebrick.so that is there, it is in this process.
 
-    `timeout` is the seconds that a command may take, with those of the callables. It doesn't end a callable. The limits
-    on what there may be are those of `Limits`, where none are given; None is no limit.
+    `timeout` is the seconds that a command may take, with those of the callables. It doesn't end a callable. `memory` is
+    the most bytes of memory that the engine may have. The limits on what there may be are those of `Limits`, where none
+    are given; None is no limit.
     """
 
     def __init__(
@@ -291,46 +479,70 @@ class Engine(AbstractContextManager["Engine"]):
         events: Optional[int] = Limits().events,
         slots: Optional[int] = Limits().slots,
         objects: Optional[int] = Limits().objects,
+        memory: Optional[int] = None,
+        library: Optional[str] = None,
     ) -> None:
-        self.profile, self.program, self.timeout = profile, program, timeout
+        self.profile, self.program, self.timeout, self.memory = profile, program, timeout, memory
         self.ticks: Optional[int] = None
         self._limits = _fit(Limits(events, slots, objects), 0)
+        self._library = _loaded(library) if library else None
         self._start()
 
     def _start(self) -> None:
         self.objects: Dict[int, Any] = {}  # what scripts hold, by key
+        self.events: List[str] = []  # of the last command: what scripts asked, and which objects ended
+        self._keys: Dict[int, Dict[int, None]] = {}  # of each object that scripts hold, by its id
         self._made = 0
         self._cause: Optional[Exception] = None
         limits = [_limit(name, most) for name, most in self._limits._asdict().items()]
+        lines = [line for entry in self.profile.entries for line in (f"mask {entry.mask:08x}", entry.line)] + limits
+        said: List[str] = []
+        try:
+            self._talk = self._talking("".join(f"{line}\n" for line in lines), said)
+        except EngineLost as lost:
+            found = re.match(r"profile (\d+) (.*)", "".join(said))
+            if found:
+                declared = [it.declaration for it in self.profile.entries for _ in ("mask", "line")] + limits
+                raise Refused(f"{found[2]}: {declared[int(found[1]) - 1]}") from lost
+            raise
+
+    def _talking(self, profile: str, said: List[str]) -> Union[Conversation, InProcess]:
+        """An engine with the text of a profile, and what it says at its start."""
+        if self._library:
+            self._readers = {kind: [_reader(it, kind) for it in self.profile.entries] for kind in KINDS}
+            talk = InProcess(self._library, profile, self.profile.drivers, self.memory or 0, self._answer_values)
+            talk.tell("", self.timeout, said.append)
+            return talk
         with tempfile.NamedTemporaryFile("w") as file:
-            file.writelines(f"mask {entry.mask:08x}\n{entry.line}\n" for entry in self.profile.entries)
-            file.writelines(f"{line}\n" for line in limits)
+            file.write(profile)
             file.flush()
             words = [self.program, "--profile", file.name, "--drivers", str(self.profile.drivers)]
-            self._conversation = Conversation(words, self._answer)
-            self.pid = self._conversation.process.pid
-            try:
-                self._conversation.say("", self.timeout)
-            except EngineLost as lost:
-                found = re.match(r"profile (\d+) (.*)", "".join(lost.said))
-                if found:
-                    declared = [it.declaration for it in self.profile.entries for _ in ("mask", "line")] + limits
-                    raise Refused(f"{found[2]}: {declared[int(found[1]) - 1]}") from lost
-                raise
+            if self.memory is not None:
+                words = ["/bin/sh", "-c", 'ulimit -v "$0" && exec "$@"', str(self.memory >> 10), *words]
+            conversation = Conversation(words, self._answer_line)
+            conversation.tell("", self.timeout, said.append)
+            return conversation
+
+    @property
+    def pid(self) -> Optional[int]:
+        """The number of the engine's process, and None where it is in this one."""
+        return self._talk.pid
 
     def restart(self) -> None:
         """Ends the engine, and starts another one with the same profile, budget and limits.
 
         The modules are gone: they have to be made, built and bound anew. All objects are given up.
         """
-        self._conversation.close(0)
+        self.close()
         self._start()
         if self.ticks is not None:
             self.budget(self.ticks)
 
     def close(self, *_: object) -> None:
         """Ends the engine."""
-        self._conversation.close(self.timeout)
+        if self._talk.busy:
+            raise RuntimeError(IN_CALLABLE)
+        self._talk.close(self.timeout)
 
     __exit__ = close
 
@@ -354,10 +566,11 @@ class Engine(AbstractContextManager["Engine"]):
 
     def used(self) -> Used:
         """What scripts hold."""
-        *lines, outcome = self._conversation.say("used\n", self.timeout)
-        if outcome != "ok":
-            raise Refused(outcome.partition(" ")[2])
-        told = dict(line.split(" ", 1) for line in lines)
+        lines: List[str] = []
+        self._talk.tell("used\n", self.timeout, lines.append)
+        if lines[-1] != "ok":
+            raise Refused(lines[-1].partition(" ")[2])
+        told = dict(line.split(" ", 1) for line in lines[:-1])
         return Used(int(told["slots"]), int(told["objects"]))
 
     def module(self, name: str, mask: int) -> Module:
@@ -376,55 +589,92 @@ class Engine(AbstractContextManager["Engine"]):
         return rest
 
     def command(self, text: str) -> Reply:
-        """Does a command: a line of a session, with those of its section, without the last LF."""
-        self._cause = None
-        lines = self._conversation.say(text + "\n", self.timeout)
-        reply = Reply(lines[-1] if lines else "", [], [], [], self._cause)  # a comment has no outcome
-        for word, *words in (line.split(" ") for line in lines):
-            if word == "error":
-                reply.errors.append(BuildError(words[0], Place(*map(int, words[1].split(":"))), words[2]))
-            elif word == "denied":
-                entry, place = self.profile.entries[int(words[1])], Place(*map(int, words[0].split(":")))
-                reply.denials.append(Denial(place, entry, int(words[3], 16)))
+        """Does a command: a line of a session, with those of its section. Another text is a ValueError."""
+        text, self._cause = _command(text), None
+        outcome = ""  # a comment has none
+        self.events, errors, denials = [], [], []
+
+        def hear(line: str) -> None:
+            nonlocal outcome
+            outcome = line
+            word, _, rest = line.partition(" ")
+            if word == "host":
+                self.events.append(line)
             elif word == "end":
-                del self.objects[int(words[1][1:])]
-        reply.events.extend(line for line in lines if line.startswith(("host ", "end ")))
-        return reply
+                self.events.append(line)
+                self._ended(int(rest.partition("#")[2]))
+            elif word == "error":
+                kind, place, name = rest.split(" ", 2)
+                errors.append(BuildError(kind, _place(place), name))
+            elif word == "denied":
+                at, entry, _, mask = rest.split(" ")
+                denials.append(Denial(_place(at), self.profile.entries[int(entry)], int(mask, 16)))
+
+        self._talk.tell(text, self.timeout, hear)
+        return Reply(outcome, self.events, errors, denials, self._cause)
 
     def _held(self, reply: Reply) -> Held:
         used = self.used()
         return Held(len(reply.events) + used.objects, used, self._limits)
 
-    def _answer(self, line: str) -> str:
+    def _answer_line(self, line: str) -> str:
         _, _, kind, number, key, values = line.split(" ")
-        entry = self.profile.entries[int(number)]
         texts = [it for it in (key, *values[1:-1].split(",")) if it not in ("-", "")]
         given = [self.objects[int(it[1:])] if it[0] == "#" else _value(it) for it in texts]
+        form, rest = self._answer(kind, int(number), given)
+        return form.text.format(rest)
+
+    def _answer_values(self, kind: str, number: int, has_object: bool, key: int, values: Any) -> Answer:
+        read, has_handles = self._readers[kind][number]
+        given = read(values)
+        if has_handles:
+            given = tuple(self._with_objects(given))
+        return self._answer(kind, number, (self.objects[key], *given) if has_object else given)
+
+    def _with_objects(self, given: Sequence[Any]) -> Iterator[Any]:
+        """The values, of which a handle is an empty ``bytes``, its kind and its key."""
+        values = iter(given)
+        for it in values:
+            if isinstance(it, bytes):
+                kind, key = next(values), next(values)
+                yield self.objects[key] if kind == KEY.value else None
+            else:
+                yield it
+
+    def _answer(self, kind: str, number: int, given: Sequence[Any]) -> Answer:
+        entry = self.profile.entries[number]
         try:
             result = entry.asked[kind](*given)
             if kind == "make":
                 return self._made_key(result)
             if kind == "write" or entry.type == "void":
-                return "void"
+                return VOID, 0
             if "@" in entry.type:
-                return "null" if result is None else f"#{self._key(result)}"
-            return _written(result, entry.type)
+                return (NULL, 0) if result is None else (KEY, self._key(result))
+            return _formed(result, entry.type)
         except Exception as error:
             self._cause = error
-            return f"fault {error.number if isinstance(error, Fault) else UNEXPECTED}"
+            return FAULT, error.number if isinstance(error, Fault) else UNEXPECTED
 
     def _key(self, it: Any) -> int:
-        for key, held in self.objects.items():
-            if held is it:
-                return key
-        raise ValueError("a function gives objects that scripts hold")
+        keys = self._keys.get(id(it))
+        if not keys:
+            raise ValueError("a function gives objects that scripts hold")
+        return next(iter(keys))
 
-    def _made_key(self, it: Any) -> str:
+    def _made_key(self, it: Any) -> Answer:
         if it is None:
-            return "nothing"
+            return NOTHING, 0
         self._made += 1  # keys are not used again
         self.objects[self._made] = it
-        return f"made #{self._made}"
+        self._keys.setdefault(id(it), {})[self._made] = None
+        return MADE, self._made
+
+    def _ended(self, key: int) -> None:
+        it = id(self.objects.pop(key))
+        del self._keys[it][key]
+        if not self._keys[it]:
+            del self._keys[it]
 
 
 class Module(NamedTuple):
@@ -438,8 +688,8 @@ class Module(NamedTuple):
 
     def section(self, text: str) -> None:
         """Adds a section of script for the next build."""
-        text = text[:-1] if text.endswith("\n") else text
-        self.engine.done(f"section {self.name} {text.count(chr(10)) + 1}\n{text}")
+        text = text if text.endswith("\n") else f"{text}\n"
+        self.engine.done(f"section {self.name} {text.count(chr(10))}\n{text}")
 
     def build(self) -> Reply:
         """Builds the sections that wait. The reply says whether that was done, and the errors and denials if not."""
@@ -455,7 +705,7 @@ class Module(NamedTuple):
 
     def call(self, declaration: str, *values: int) -> Any:
         """Calls a function of the script, and gives its result: an int, a bool, or None of a void one."""
-        given = map(_written, values, _types(declaration)[1:] + [""] * len(values))
+        given = map(_written, values, _types(declaration)[1:] + ("",) * len(values))
         return _value(self.engine.done(f"call {self.name} ({','.join(given)}) {_checked(declaration)}"))
 
     def discard(self) -> None:
@@ -486,18 +736,63 @@ def _checked(text: str, pattern: str = LINE) -> str:
     return text
 
 
-def _types(declaration: str) -> List[str]:
+def _command(text: str) -> str:
+    """The text with its last LF, if it is one command: what more it said would be taken for the next ones."""
+    head, _, _ = text.partition("\n")
+    head = head[:-1] if head.endswith("\r") else head
+    found = HEAD.fullmatch(head)
+    lines = 1 + (int(found[1]) if found else 0)
+    if not found and not head.startswith("#") and LIKE_HEAD.match(head):
+        raise ValueError(f"{head[:80]!r} is no head of a section")
+    whole = text if text.endswith("\n") and text.count("\n") == lines else f"{text}\n"
+    if whole.count("\n") != lines or len(whole.encode()) > MOST_COMMAND:
+        raise ValueError(f"{text[:80]!r} is not one command of {MOST_COMMAND} bytes at most")
+    return whole
+
+
+@lru_cache(1024)
+def _place(text: str) -> Place:
+    return Place(*map(int, text.split(":")))
+
+
+@lru_cache(1024)
+def _types(declaration: str) -> Tuple[str, ...]:
     """The first word of the type that is declared, and of those of its parameters."""
-    parts = re.split(r"[(,]", declaration.split(")")[0])
-    return [re.sub(r"\bconst\b|\s+(?=@)", "", it).strip().split(" ")[0] for it in parts]
+    tokens = re.sub(r"/\*.*?\*/|//.*", " ", declaration)
+    parts = re.split(r"[(,]", tokens.split(")")[0])
+    return tuple((re.sub(r"\bconst\b|\s+(?=@)", "", it).split() or [""])[0] for it in parts)
+
+
+# The least and the most number of each type of integers. What is none of them is an enumeration, an `int`.
+INT_32, UINT_32, INT_64, UINT_64 = (-(2**31), 2**31 - 1), (0, 2**32 - 1), (-(2**63), 2**63 - 1), (0, 2**64 - 1)
+RANGES = {"int8": (-128, 127), "int16": (-(2**15), 2**15 - 1), "int64": INT_64}
+UNSIGNED = {"uint8": (0, 255), "uint16": (0, 2**16 - 1), "uint": UINT_32, "uint32": UINT_32, "uint64": UINT_64}
+RANGES.update(UNSIGNED)
+
+
+def _formed(value: Any, word: str) -> Answer:
+    """The answer with a value of the type of that word."""
+    if word == "bool":
+        return (TRUE, 1) if value else (FALSE, 0)
+    number, (least, most) = int(index(value)), RANGES.get(word, INT_32)
+    if not least <= number <= most:
+        raise OverflowError(f"{number} is no {word}")
+    return INT if least else UINT, number
+
+
+def _reader(entry: Entry, kind: str) -> Tuple[Callable[[Any], Tuple[Any, ...]], bool]:
+    """What reads the values of an ask of an entry, as they stand in a library, and whether there are handles."""
+    words = _types(entry.declaration)
+    words = () if kind == "read" else words[:1] if kind == "write" else words[1:]
+    words = tuple(it for it in words if it not in ("", "void"))
+    forms = ["0sI4xQ" if "@" in it else "8x?7x" if it == "bool" else "8xQ" if it in UNSIGNED else "8xq" for it in words]
+    return struct.Struct("=" + "".join(forms)).unpack_from, any("@" in it for it in words)
 
 
 def _written(value: Any, word: str) -> str:
-    if word == "bool":
-        return "true" if value else "false"
-    unsigned = word.startswith("uint")
-    index(value).to_bytes(8, "little", signed=not unsigned)  # else an OverflowError
-    return f"{index(value)}u" if unsigned else str(index(value))
+    """A value that a call is given. One of its sign in 64 bits that the type lacks is the engine's to refuse."""
+    form, number = _formed(value, word if word == "bool" else "uint64" if word in UNSIGNED else "int64")
+    return form.text.format(number)
 
 
 def _value(text: str) -> Any:

@@ -1,14 +1,16 @@
 """A small game server: scripts of its admin and of players, one that runs away, one that is replaced, and an engine
 that hangs.
 
-    python3 game.py [ASREMOTE]
+    python3 game.py [ASREMOTE [LIBRARY]]
 
+The engine is in this process, where LIBRARY is the path of a libbustlebrick.so that is there, and else a process.
 Prints what stands in ../game.expected.
 """
 
 import os
 import signal
 import sys
+import time
 from typing import Any, Callable, Dict
 
 from bustlebrick import CommandTimeout, Engine, Fault, Profile, Refused, Reply, ScriptFault
@@ -82,6 +84,11 @@ class World:
     def __init__(self) -> None:
         self.purses: Dict[int, int] = {1: 100}
         self.price = 5
+        self.seconds = 0.0  # that a look into a purse takes
+
+    def purse(self, player: int) -> int:
+        time.sleep(self.seconds)
+        return self.purses[player]
 
     def grant(self, player: int, gold: int) -> None:
         self.purses[player] += gold
@@ -97,7 +104,7 @@ def offered(world: World) -> Profile:
     monster = profile.type("Monster")
     monster.method("int health() const", Monster.health)
     profile.function("void say(int64)", lambda n: print(f"say {n}"))
-    profile.function("int64 purse(int64)", lambda player: world.purses[player])
+    profile.function("int64 purse(int64)", world.purse)
     profile.function("uint8 roll(uint8)", lambda sides: sides - 1)
     profile.global_property("const bool open", lambda: True)
     profile.mask = STAFF
@@ -131,9 +138,17 @@ def tell(what: str, call: Callable[[], Any]) -> None:
         print(f"{what}: refused {refusal}")
 
 
+def hang(engine: Engine, world: World) -> None:
+    """Has the engine hang: its process is stopped, or, where it is in this one, a callable takes too long."""
+    if engine.pid is None:
+        world.seconds = 1.0
+    else:
+        os.kill(engine.pid, signal.SIGSTOP)
+
+
 def main() -> None:
-    world = World()
-    with Engine(offered(world), *sys.argv[1:2]) as engine:
+    world, library = World(), sys.argv[2] if len(sys.argv) > 2 else None
+    with Engine(offered(world), *sys.argv[1:2], library=library) as engine:
         engine.budget(10000)
         admin = engine.module("admin", PLAYERS | STAFF)
         admin.section(ADMIN)
@@ -179,12 +194,12 @@ def main() -> None:
 
         # An engine that hangs. The next one has no modules.
         engine.timeout = 0.5
-        os.kill(engine.pid, signal.SIGSTOP)
+        hang(engine, world)
         try:
-            admin.call("int wound(int)", 1)
+            player.call("int64 gold()")
         except CommandTimeout:
             print("the engine hung")
-        engine.timeout = 10.0
+        engine.timeout, world.seconds = 10.0, 0.0
         engine.restart()
         tell("wound with 1", lambda: admin.call("int wound(int)", 1))
         admin = engine.module("admin", PLAYERS | STAFF)

@@ -1,6 +1,6 @@
 // A host in C++ that sets limits, between commands and when its engine is made, and is told what scripts hold.
 //
-//     limits ASREMOTE
+//     limits ASREMOTE [LIBRARY]
 //
 // Prints what stands in limits.expected.
 #include "bustlebrick.hpp"
@@ -154,9 +154,9 @@ void refused_before_its_start() {
     start("no engine with too many slots", {10000, too_many, 1000});
 }
 
-void run(const std::string& program) {
+void run(const std::string& program, const std::string& library) {
     refused_before_its_start();
-    Host host{Engine(offered(), program)};
+    Host host{Engine(offered(), program, {}, 0, library)};
     host.engine.timeout = std::chrono::seconds(100);
     std::cout << "without others: " << text(host.engine.limits()) << '\n';
     auto module = host.made("m", script), other = host.made("other", other_script);
@@ -183,9 +183,9 @@ void run(const std::string& program) {
 
 }  // namespace
 
-int main(int, char** words) {
+int main(int count, char** words) {
     try {
-        run(words[1]);
+        run(words[1], count > 2 ? words[2] : "");
         return 0;
     } catch (const std::exception& error) {
         std::cerr << "limits: " << error.what() << '\n';

@@ -1,6 +1,6 @@
 """A host in Python that sets limits, between commands and when its engine is made, and is told what scripts hold.
 
-    limits.py ASREMOTE
+    limits.py ASREMOTE [LIBRARY]
 
 Prints what stands in limits.expected.
 """
@@ -117,7 +117,8 @@ def events_and_objects(engine: Engine, module: Module) -> None:
 
 def main() -> None:
     refused_before_its_start()
-    with Engine(offered(), sys.argv[1], SECONDS) as engine:
+    library = sys.argv[2] if len(sys.argv) > 2 else None
+    with Engine(offered(), sys.argv[1], SECONDS, library=library) as engine:
         tell("without others", engine.limits)
         module, other = made(engine, "m", SCRIPT), made(engine, "other", OTHER)
         other.build()

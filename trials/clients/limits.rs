@@ -1,10 +1,10 @@
 //! A host in Rust that sets limits, between commands and when its engine is made, and is told what scripts hold.
 //!
-//!     limits ASREMOTE
+//!     limits ASREMOTE [LIBRARY]
 //!
 //! Prints what stands in limits.expected.
 
-use bustlebrick::{Engine, Error, Limits, Module, Profile, Used};
+use bustlebrick::{Engine, Error, Limits, Module, Options, Profile, Used};
 use std::rc::Rc;
 use std::time::Duration;
 
@@ -139,7 +139,8 @@ fn events_and_objects(engine: &mut Engine, module: &Module) {
 fn main() -> Result<(), Error> {
     let words: Vec<String> = std::env::args().collect();
     refused_before_its_start();
-    let engine = &mut Engine::start(&words[1], offered())?;
+    let options = Options { library: words.get(2).map(Into::into), ..Options::of(&words[1]) };
+    let engine = &mut Engine::with(options, offered())?;
     engine.timeout = Duration::from_secs(100);
     tell_limits("without others", engine.limits());
     let (module, other) = (made(engine, "m", SCRIPT)?, made(engine, "other", OTHER)?);

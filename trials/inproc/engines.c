@@ -1,4 +1,4 @@
-/* Trials of forms, threads, waits, many engines, cancels and limits of memory.
+/* Trials of forms, threads, waits, many engines, cancels, timeouts and limits of memory.
 
        engines PART ..
 
@@ -462,6 +462,51 @@ static void cancels(void)
     free(text);
 }
 
+/* ---- timeouts */
+
+static double milliseconds(void)
+{
+    struct timespec now;
+    clock_gettime(CLOCK_MONOTONIC, &now);
+    return (double)now.tv_sec * 1e3 + (double)now.tv_nsec / 1e6;
+}
+
+static void *set_short_timeout(void *engine)
+{
+    bb_set_timeout(engine, 1);
+    return NULL;
+}
+
+/* Runs that would take minutes end at their timeout, by asks or by events; what is quick, and what has none, does not. */
+static void timeouts(void)
+{
+    enum { TRIES = 10, TIMEOUT = 50 };
+    int64_t sum = 0;
+    bb_options it = options(add, &sum);
+    it.budget = 2147483647;
+    bb_engine *engine = started(&it);
+    double longest = 0;
+    for (int number = 0; number < TRIES; number++) {
+        bb_set_timeout(engine, TIMEOUT);
+        double begun = milliseconds();
+        is_right(is_answered(engine, "call m (1000000000) void run(int64)", "fault Memory"), "a timeout ends a run");
+        double taken = milliseconds() - begun;
+        is_right(taken >= TIMEOUT - 10, "a timeout comes not too early");
+        longest = taken > longest ? taken : longest;
+        is_right(is_well(engine), "the command after a timeout");
+    }
+    bb_set_timeout(engine, UINT64_MAX);
+    is_right(is_answered(engine, "call m (100000) void run(int64)", "ok"), "a long timeout ends nothing");
+    bb_set_timeout(engine, 0);
+    is_right(is_answered(engine, "call m (100000) void run(int64)", "ok"), "no timeout ends nothing");
+    pthread_t thread;
+    pthread_create(&thread, NULL, set_short_timeout, engine);
+    pthread_join(thread, NULL);
+    is_right(is_answered(engine, "call m (100000) void run(int64)", "ok"), "a timeout of another thread is not set");
+    printf("timeouts: %d runs ended after %d milliseconds, the last of them after %.0f\n", TRIES, TIMEOUT, longest);
+    bb_free(engine);
+}
+
 /* ---- memory: scripts that use their engine's memory up */
 
 /* A script whose `hold` has a global hold 200 objects that hold 250 ones of so many fields each. */
@@ -559,6 +604,8 @@ int main(int count, char **words)
             many_of(50, 10);
         else if (strcmp(part, "cancels") == 0)
             cancels();
+        else if (strcmp(part, "timeouts") == 0)
+            timeouts();
         else if (strcmp(part, "memory") == 0)
             memory();
         else

@@ -1,16 +1,18 @@
 //! A small game server: scripts of its admin and of players, one that runs away, one that is replaced, and an engine
 //! that hangs.
 //!
-//!     cargo run --example game [ASREMOTE]
+//!     cargo run --example game [ASREMOTE [LIBRARY]]
 //!
+//! The engine is in this process, where LIBRARY is the path of a libbustlebrick.so that is there, and else a process.
 //! Prints what stands in ../game.expected.
 
-use bustlebrick::{Engine, Error, Fault, Module, Profile, Reply};
+use bustlebrick::{Engine, Error, Fault, Module, Options, Profile, Reply};
 use std::cell::{Cell, RefCell};
 use std::collections::HashMap;
 use std::fmt::Display;
 use std::process::Command;
 use std::rc::Rc;
+use std::thread::sleep;
 use std::time::Duration;
 
 const PLAYERS: u32 = 1;
@@ -90,6 +92,15 @@ fn stronger(one: Rc<Monster>, other: Rc<Monster>) -> Rc<Monster> {
 struct World {
     purses: RefCell<HashMap<i64, i64>>,
     price: Cell<i64>,
+    /// How long a look into a purse takes.
+    delay: Cell<Duration>,
+}
+
+impl World {
+    fn purse(&self, player: i64) -> i64 {
+        sleep(self.delay.get());
+        self.purses.borrow().get(&player).copied().unwrap_or(0)
+    }
 }
 
 /// What scripts may use: both sorts of them, and the staff's alone.
@@ -100,7 +111,7 @@ fn offered(world: &Rc<World>) -> Profile {
     profile.method("Monster", "int health() const", Monster::health);
     profile.function("void say(int64)", |n: i64| println!("say {n}"));
     let it = world.clone();
-    profile.function("int64 purse(int64)", move |player: i64| it.purses.borrow().get(&player).copied().unwrap_or(0));
+    profile.function("int64 purse(int64)", move |player: i64| it.purse(player));
     profile.function("uint8 roll(uint8)", |sides: u8| sides - 1);
     profile.constant("const bool open", || true);
     profile.mask = STAFF;
@@ -150,11 +161,20 @@ fn built(engine: &mut Engine, name: &str, mask: u32, script: &str) -> Result<Mod
     Ok(module)
 }
 
+/// Has the engine hang: its process is stopped, or, where it is in this one, a closure takes too long.
+fn hang(engine: &Engine, world: &World) {
+    let Some(pid) = engine.pid() else { return world.delay.set(Duration::from_secs(1)) };
+    let stopped = Command::new("kill").args(["-STOP", &pid.to_string()]).status();
+    assert!(stopped.is_ok_and(|status| status.success()));
+}
+
 fn main() -> Result<(), Error> {
     let purses = RefCell::new(HashMap::from([(1, 100)]));
-    let world = Rc::new(World { purses, price: Cell::new(5) });
-    let program = std::env::args().nth(1).unwrap_or("asremote".to_owned());
-    let mut engine = Engine::start(program, offered(&world))?;
+    let world = Rc::new(World { purses, price: Cell::new(5), delay: Cell::default() });
+    let mut words = std::env::args().skip(1);
+    let options = Options::of(words.next().unwrap_or("asremote".to_owned()));
+    let options = Options { library: words.next().map(Into::into), ..options };
+    let mut engine = Engine::with(options, offered(&world))?;
     engine.budget(10000)?;
     let admin = built(&mut engine, "admin", PLAYERS | STAFF, ADMIN)?;
     let player = built(&mut engine, "player", PLAYERS, PLAYER)?;
@@ -195,13 +215,12 @@ fn main() -> Result<(), Error> {
 
     // An engine that hangs. The next one has no modules.
     engine.timeout = Duration::from_millis(500);
-    let pid = engine.pid().unwrap_or(0).to_string();
-    let stopped = Command::new("kill").args(["-STOP", &pid]).status();
-    assert!(stopped.is_ok_and(|status| status.success()));
-    if let Err(Error::TimedOut) = engine.call::<i32>(&admin, "int wound(int)", &[&1]) {
+    hang(&engine, &world);
+    if let Err(Error::TimedOut) = engine.call::<i64>(&player, "int64 gold()", &[]) {
         println!("the engine hung");
     }
     engine.timeout = Duration::from_secs(10);
+    world.delay.set(Duration::ZERO);
     engine.restart()?;
     tell("wound with 1", engine.call::<i32>(&admin, "int wound(int)", &[&1]))?;
     let admin = built(&mut engine, "admin", PLAYERS | STAFF, ADMIN)?;

@@ -1,24 +1,30 @@
-//! Runs scripts in a Bustlebrick engine, which is a child process, and answers what they ask.
+//! Runs scripts in a Bustlebrick engine, a child process or a library in this one, and answers what they ask.
 //!
-//! A [`Profile`] says what scripts may use, and which closures answer. An [`Engine`] is the child with that profile, and
-//! a [`Module`] in it holds scripts, which see what the module's mask shows them. README.md has an example.
+//! A [`Profile`] says what scripts may use, and which closures answer. An [`Engine`] runs with that profile, and a
+//! [`Module`] in it holds scripts, which see what the module's mask shows them. README.md has an example.
 
+mod library;
 mod limits;
 mod link;
 mod profile;
+mod talk;
 mod values;
 
 pub use limits::{Held, Limits, Used};
 pub use profile::Profile;
-pub use values::{Asked, Fault, Function, Objects, Plain, Typed};
+pub use values::{Answer, Asked, Fault, Function, Objects, Plain, Typed, Value};
 
+use library::{InProcess, Library};
 use link::Link;
 use std::fs::{remove_file, File};
 use std::io::{self, ErrorKind, Write};
-use std::panic::{catch_unwind, AssertUnwindSafe};
-use std::path::PathBuf;
+use std::path::{Path, PathBuf};
 use std::time::{Duration, Instant, SystemTime, UNIX_EPOCH};
 use std::{env, fmt, process};
+use talk::{Host, Said, Talk};
+
+/// The version of this package, which is that of the library that it takes.
+pub const VERSION: &str = env!("CARGO_PKG_VERSION");
 
 /// Why a command gave nothing.
 #[derive(Debug)]
@@ -115,12 +121,35 @@ impl Reply {
 #[derive(Clone, Debug)]
 pub struct Module(String);
 
+/// How an engine is run.
+#[derive(Clone, Debug)]
+pub struct Options {
+    /// The path of `asremote`: the engine is a process of it.
+    pub program: PathBuf,
+    /// The path of libbustlebrick.so: where it is there, the engine is in this process.
+    pub library: Option<PathBuf>,
+    /// The most bytes of memory that the engine may have.
+    pub memory: Option<u64>,
+    /// How much scripts may hold.
+    pub limits: Limits,
+}
+
+impl Options {
+    /// A process of this program, with the limits of `Limits::default`.
+    pub fn of(program: impl Into<PathBuf>) -> Options {
+        Options { program: program.into(), library: None, memory: None, limits: Limits::default() }
+    }
+}
+
 /// An engine with a profile. It ends where this is dropped.
 pub struct Engine {
     program: PathBuf,
+    library: Option<Library>,
+    memory: Option<u64>,
     profile: Profile,
-    link: Option<Link>,
+    talk: Option<Box<dyn Talk>>,
     objects: Objects,
+    events: Vec<String>,
     ticks: Option<u32>,
     limits: Limits,
     /// What a command may take, with what closures take meanwhile. It doesn't end a closure.
@@ -131,42 +160,65 @@ impl Engine {
     /// Starts an engine with the limits of `Limits::default`; `program` is the path of `asremote`. A command may take 10
     /// seconds.
     pub fn start(program: impl Into<PathBuf>, profile: Profile) -> Result<Engine, Error> {
-        Engine::start_with(program, profile, Limits::default())
+        Engine::with(Options::of(program), profile)
     }
 
     /// Starts an engine with these limits.
     pub fn start_with(program: impl Into<PathBuf>, profile: Profile, limits: Limits) -> Result<Engine, Error> {
+        Engine::with(Options { limits, ..Options::of(program) }, profile)
+    }
+
+    /// Starts an engine that is run so.
+    pub fn with(options: Options, profile: Profile) -> Result<Engine, Error> {
+        let Options { program, library, memory, limits } = options;
         limits.check(0)?;
-        let (program, objects, timeout) = (program.into(), Objects::default(), Duration::from_secs(10));
-        let mut engine = Engine { program, profile, link: None, objects, ticks: None, limits, timeout };
+        let library = library.map_or(Ok(None), |path| Library::at(&path))?;
+        let (objects, events, timeout) = (Objects::default(), Vec::new(), Duration::from_secs(10));
+        let (talk, ticks) = (None, None);
+        let mut engine = Engine { program, library, memory, profile, talk, objects, events, ticks, limits, timeout };
         engine.restart().map(|()| engine)
     }
 
     /// Ends the engine, if there is one, and starts another one with the same profile, budget and limits. The modules are
     /// gone: they have to be made, built and bound anew. All objects are given up.
     pub fn restart(&mut self) -> Result<(), Error> {
-        self.link = None;
+        self.talk = None;
         self.objects = Objects::default();
-        let now = SystemTime::now().duration_since(UNIX_EPOCH).unwrap_or_default().as_nanos();
-        let path = env::temp_dir().join(format!("bustlebrick-{}-{now}", process::id()));
+        self.events.clear();
         let text = format!("{}{}\n", self.profile.text(), self.limits.lines().join("\n"));
-        File::create_new(&path)?.write_all(text.as_bytes())?;
-        let started = Link::start(&self.program, &path, 1 + self.profile.types.len());
-        let started = started.map(|link| self.link = Some(link)).map_err(Error::from);
-        let said = started.and_then(|()| self.say(""));
-        remove_file(&path)?;
-        said?;
+        let drivers = 1 + self.profile.types.len();
+        if let Some(library) = self.library {
+            self.talk = Some(Box::new(InProcess::start(library, &text, drivers, self.memory)?));
+            self.say("", &mut |_, _, _| {})?;
+        } else {
+            let now = SystemTime::now().duration_since(UNIX_EPOCH).unwrap_or_default().as_nanos();
+            let path = env::temp_dir().join(format!("bustlebrick-{}-{now}", process::id()));
+            File::create_new(&path)?.write_all(text.as_bytes())?;
+            let started = self.start_process(&path, drivers);
+            remove_file(&path)?;
+            started?;
+        }
         self.ticks.map_or(Ok(()), |ticks| self.budget(ticks))
     }
 
-    /// The number of the engine's process.
+    fn start_process(&mut self, profile: &Path, drivers: usize) -> Result<(), Error> {
+        self.talk = Some(Box::new(Link::start(&self.program, self.memory, profile, drivers)?));
+        self.say("", &mut |_, _, _| {})
+    }
+
+    /// The number of the engine's process. There is none where it is in this process.
     pub fn pid(&self) -> Option<u32> {
-        self.link.as_ref().map(|link| link.child.id())
+        self.talk.as_ref().and_then(|talk| talk.pid())
     }
 
     /// How many objects scripts hold.
     pub fn objects(&self) -> usize {
-        self.objects.by_key.len()
+        self.objects.count()
+    }
+
+    /// The events of the last command that gave no [`Reply`], as a call: what scripts asked, and which objects ended.
+    pub fn events(&self) -> &[String] {
+        &self.events
     }
 
     /// Sets the ticks that each later build and call may take.
@@ -193,7 +245,8 @@ impl Engine {
 
     /// What scripts hold.
     pub fn used(&mut self) -> Result<Used, Error> {
-        let mut lines = self.say("used\n")?;
+        let mut lines = Vec::new();
+        self.say("used\n", &mut |line, _, _| lines.push(line))?;
         let reply = Reply { outcome: lines.pop().unwrap_or_default(), ..Reply::default() };
         reply.value()?;
         Used::told(&lines).ok_or(Error::Unfit(lines.join("\n")))
@@ -215,7 +268,7 @@ impl Engine {
     pub fn section(&mut self, module: &Module, text: &str) -> Result<(), Error> {
         let text = text.strip_suffix('\n').unwrap_or(text);
         let lines = text.split('\n').count();
-        self.command(&format!("section {} {lines}\n{text}", module.0))?.value().map(drop)
+        self.command(&format!("section {} {lines}\n{text}\n", module.0))?.value().map(drop)
     }
 
     /// Builds the sections that wait. The reply says whether that was done, and the errors and denials if not.
@@ -237,7 +290,8 @@ impl Engine {
     pub fn call<R: Typed>(&mut self, module: &Module, declaration: &str, values: &[&dyn Plain]) -> Result<R, Error> {
         let values: Vec<String> = values.iter().map(|value| value.text()).collect();
         let text = self.done(&format!("call {} ({}) {declaration}", module.0, values.join(",")))?;
-        R::read(&text, &self.objects).ok_or(Error::Unfit(text))
+        let value = if text.is_empty() { Some(None) } else { Value::of(&text).map(Some) };
+        value.and_then(|value| R::read(value, &self.objects)).ok_or(Error::Unfit(text))
     }
 
     /// Ends a module.
@@ -245,28 +299,31 @@ impl Engine {
         self.done(&format!("discard {}", module.0)).map(drop)
     }
 
-    /// Does a command: a line of a session, and those of its section, without the last LF.
+    /// Does a command: a line of a session, and those of its section. Another text is `Error::Unfit`.
     pub fn command(&mut self, text: &str) -> Result<Reply, Error> {
-        let mut lines = self.say(&format!("{text}\n"))?;
-        let mut reply = Reply { outcome: lines.pop().unwrap_or_default(), ..Reply::default() };
-        for line in lines {
-            match line.split(' ').collect::<Vec<_>>()[..] {
+        let text = whole(text).ok_or_else(|| Error::Unfit(text.to_owned()))?;
+        let mut reply = Reply::default();
+        self.say(&text, &mut |line, profile, objects| {
+            match line.splitn(4, ' ').collect::<Vec<_>>()[..] {
                 ["error", kind, at, name] => {
                     reply.errors.push(BuildError { kind: kind.to_owned(), place: place(at), name: name.to_owned() });
                 }
-                ["denied", at, entry, _, mask] => {
-                    let entry = &self.profile.entries[entry.parse::<usize>().unwrap_or(0)];
+                ["denied", at, entry, masks] => {
+                    let entry = &profile.entries[entry.parse::<usize>().unwrap_or(0)];
+                    let mask = masks.split(' ').nth(1).unwrap_or_default();
                     let (declaration, module_mask) = (entry.declaration.clone(), u32::from_str_radix(mask, 16));
                     let (entry_mask, module_mask) = (entry.mask, module_mask.unwrap_or(0));
                     reply.denials.push(Denial { place: place(at), declaration, entry_mask, module_mask });
                 }
-                ["end", _, key] => drop(self.objects.by_key.remove(&key[1..].parse().unwrap_or(0))),
+                ["end", _, key] => objects.end(key[1..].parse().unwrap_or(0)),
                 _ => {}
             }
             if line.starts_with("host ") || line.starts_with("end ") {
                 reply.events.push(line);
+            } else {
+                reply.outcome = line;
             }
-        }
+        })?;
         Ok(reply)
     }
 
@@ -276,47 +333,61 @@ impl Engine {
             return Err(Error::Unfit(line.to_owned()));
         }
         let reply = self.command(line)?;
+        let told = reply.value().map(str::to_owned);
+        self.events = reply.events;
         if reply.outcome == "fault Memory" {
             let used = self.used()?;
-            let events = reply.events.len() as u64 + used.objects;
+            let events = self.events.len() as u64 + used.objects;
             return Err(Error::Memory(Held { events, used, limits: self.limits }));
         }
-        reply.value().map(str::to_owned)
+        told
     }
 
-    /// Sends lines, and answers what is asked meanwhile. Where that fails there is no engine any more.
-    fn say(&mut self, text: &str) -> Result<Vec<String>, Error> {
-        let mut link = self.link.take().ok_or_else(|| Error::Lost("it is not there".to_owned()))?;
-        let deadline = Instant::now() + self.timeout;
-        let mut reply = Vec::new();
-        link.send(text, deadline)?;
-        loop {
-            let line = link.line(deadline)?;
-            match line.as_str() {
-                "done" => break,
-                "" if text.is_empty() && !reply.is_empty() => return Err(Error::Refused(reply.join("\n"))),
-                "" => return Err(Error::Lost(reply.join("\n"))),
-                ask if ask.starts_with("ask ") => link.send(&self.answer(ask), deadline)?,
-                _ => reply.push(line),
-            }
+    /// Does a command, and answers what is asked meanwhile. Where that fails there is no engine any more.
+    fn say(&mut self, text: &str, hear: &mut dyn FnMut(String, &Profile, &mut Objects)) -> Result<(), Error> {
+        let mut talk = self.talk.take().ok_or_else(|| Error::Lost("it is not there".to_owned()))?;
+        let far = Instant::now() + Duration::from_secs(1 << 32);
+        let deadline = Instant::now().checked_add(self.timeout).map_or(far, |deadline| deadline.min(far));
+        let mut last = String::new();
+        let mut heard = |line: String, profile: &Profile, objects: &mut Objects| {
+            last.clone_from(&line);
+            hear(line, profile, objects);
+        };
+        let mut host = Host { profile: &mut self.profile, objects: &mut self.objects, heard: &mut heard };
+        match talk.tell(text, deadline, &mut host)? {
+            Said::Done => self.talk = Some(talk),
+            Said::Ended if text.is_empty() && !last.is_empty() => return Err(Error::Refused(last)),
+            Said::Ended => return Err(Error::Lost(last)),
         }
-        self.link = Some(link);
-        Ok(reply)
+        Ok(())
     }
+}
 
-    /// The line that answers `ask DRIVER KIND F OBJECT (V,V)`, in which F is the entry's number.
-    fn answer(&mut self, ask: &str) -> String {
-        let answered = catch_unwind(AssertUnwindSafe(|| {
-            let [_, _, kind, entry, object, values] = ask.split(' ').collect::<Vec<_>>()[..] else { return None };
-            let texts = [object].into_iter().chain(values.trim_matches(['(', ')']).split(','));
-            let texts: Vec<&str> = texts.filter(|text| !matches!(*text, "-" | "")).collect();
-            let entry = self.profile.entries.get_mut(entry.parse::<usize>().ok()?)?;
-            self.objects.is_making = kind == "make";
-            let asked = if kind == "write" { &mut entry.write } else { &mut entry.asked };
-            asked.as_mut()?(&texts, &mut self.objects)
-        }));
-        answered.ok().flatten().unwrap_or_else(|| "fault 1".to_owned()) + "\n"
-    }
+/// The text with its last LF, if it is one command: what more it said would be taken for the next ones.
+fn whole(text: &str) -> Option<String> {
+    let head = text.split('\n').next()?;
+    let head = head.strip_suffix('\r').unwrap_or(head);
+    let lines = match head.split(' ').collect::<Vec<_>>()[..] {
+        ["section", name, count] if !name.is_empty() && is_count(count) => 1 + count.parse::<usize>().ok()?,
+        _ if !head.starts_with('#') && is_like_head(head) => return None,
+        _ => 1,
+    };
+    let count = text.bytes().filter(|byte| *byte == b'\n').count();
+    let ends = count == lines && text.ends_with('\n');
+    let whole = if ends { text.to_owned() } else { format!("{text}\n") };
+    ((ends || count + 1 == lines) && whole.len() <= MOST_COMMAND).then_some(whole)
+}
+
+const MOST_COMMAND: usize = 16_777_216; // bytes
+
+fn is_count(text: &str) -> bool {
+    (1..=10).contains(&text.len()) && text.bytes().all(|byte| byte.is_ascii_digit())
+}
+
+/// Whether the first letters of a line are those of `section`: what follows it could be the text of a script.
+fn is_like_head(line: &str) -> bool {
+    let letters = line.trim_start_matches(|it: char| !it.is_ascii_alphabetic());
+    letters.as_bytes().get(..7).is_some_and(|word| word.eq_ignore_ascii_case(b"section"))
 }
 
 fn place(text: &str) -> Place {

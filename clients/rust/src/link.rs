@@ -1,38 +1,71 @@
 //! The lines to and from an engine's process.
 
-use std::io::{self, BufRead, BufReader, ErrorKind, Write};
+use crate::talk::{left, Host, Said, Talk};
+use crate::values::{AskKind, Value};
+use std::io::{self, BufRead, BufReader, Write};
 use std::os::{fd::OwnedFd, unix::net::UnixStream};
 use std::path::Path;
 use std::process::{Child, Command};
-use std::time::{Duration, Instant};
+use std::time::Instant;
 
 /// An engine's process, which is killed where this is dropped.
 pub(crate) struct Link {
-    pub(crate) child: Child,
+    child: Child,
     stream: BufReader<UnixStream>,
 }
 
 impl Link {
-    pub(crate) fn start(program: &Path, profile: &Path, drivers: usize) -> io::Result<Link> {
+    /// Starts a process, which may have so many bytes of memory, if there is a limit.
+    pub(crate) fn start(program: &Path, memory: Option<u64>, profile: &Path, drivers: usize) -> io::Result<Link> {
         let (stream, theirs) = UnixStream::pair()?;
-        let mut command = Command::new(program);
+        let mut command = match memory {
+            None => Command::new(program),
+            Some(bytes) => {
+                let mut shell = Command::new("/bin/sh");
+                shell.args(["-c", "ulimit -v \"$0\" && exec \"$@\"", &(bytes >> 10).to_string()]).arg(program);
+                shell
+            }
+        };
         command.arg("--profile").arg(profile).arg("--drivers").arg(drivers.to_string());
         command.stdin(OwnedFd::from(theirs.try_clone()?)).stdout(OwnedFd::from(theirs));
         Ok(Link { child: command.spawn()?, stream: BufReader::new(stream) })
     }
 
-    pub(crate) fn send(&mut self, text: &str, deadline: Instant) -> io::Result<()> {
+    fn send(&mut self, text: &str, deadline: Instant) -> io::Result<()> {
         self.stream.get_ref().set_write_timeout(Some(left(deadline)?))?;
         self.stream.get_mut().write_all(text.as_bytes())
     }
 
     /// The next line, without its LF. It is empty where the stream ended.
-    pub(crate) fn line(&mut self, deadline: Instant) -> io::Result<String> {
+    fn line(&mut self, deadline: Instant) -> io::Result<String> {
         self.stream.get_ref().set_read_timeout(Some(left(deadline)?))?;
         let mut line = String::new();
         self.stream.read_line(&mut line)?;
+        left(deadline)?;
         line.truncate(line.trim_end_matches('\n').len());
         Ok(line)
+    }
+}
+
+impl Talk for Link {
+    fn tell(&mut self, text: &str, deadline: Instant, host: &mut Host) -> io::Result<Said> {
+        self.send(text, deadline)?;
+        loop {
+            let line = self.line(deadline)?;
+            match line.as_str() {
+                "done" => return Ok(Said::Done),
+                "" => return Ok(Said::Ended),
+                ask if ask.starts_with("ask ") => {
+                    let answer = answer(ask, host) + "\n";
+                    self.send(&answer, deadline)?;
+                }
+                _ => host.hear(line),
+            }
+        }
+    }
+
+    fn pid(&self) -> Option<u32> {
+        Some(self.child.id())
     }
 }
 
@@ -43,7 +76,15 @@ impl Drop for Link {
     }
 }
 
-fn left(deadline: Instant) -> io::Result<Duration> {
-    let left = deadline.checked_duration_since(Instant::now()).filter(|left| !left.is_zero());
-    left.ok_or_else(|| ErrorKind::TimedOut.into())
+/// The answer to `ask DRIVER KIND F OBJECT (V,V)`, in which F is the entry's number.
+fn answer(ask: &str, host: &mut Host) -> String {
+    let [_, _, kind, entry, object, values] = ask.split(' ').collect::<Vec<_>>()[..] else { return "?".to_owned() };
+    let kind = match kind {
+        "make" => AskKind::Make,
+        "write" => AskKind::Write,
+        _ => AskKind::Get,
+    };
+    let texts = [object].into_iter().chain(values.trim_matches(['(', ')']).split(','));
+    let values: Vec<Value> = texts.filter(|text| !matches!(*text, "-" | "")).filter_map(Value::of).collect();
+    host.answer(kind, entry.parse().unwrap_or(usize::MAX), &values).text()
 }
