@@ -17,7 +17,8 @@
 #     limits     a host of each client sets limits, and prints trials/clients/limits.expected
 #     bounds     300 random scripts under random limits: what asremote asks, lists and holds is what a model of limits says
 #     mended     a host of each client does what once went wrong, and prints trials/clients/mended.expected: texts that are
-#                more than a command, numbers of faults, timeouts that pass in a callable, a limit of memory
+#                more than a command, numbers of faults, timeouts that pass in a callable and very long ones, a limit of memory,
+#                objects that the engine has no memory to take (refusing.py stands in for it), and an engine that is killed
 #     strangers  scripts that take all the memory they can, with the limits that a client sets by itself: other modules go
 #                on, and the process stays below 64 MB; and how long a tick of theirs takes
 #

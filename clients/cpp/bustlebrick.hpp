@@ -255,6 +255,21 @@ class Objects {
         return {gave, 0, {key, *keys->second.begin()}};
     }
 
+    // The key of the object that was made last.
+    std::uint64_t made_last() const { return made_; }
+
+    // Lets those objects go that were made after that of a key and are in no event: the engine had no memory to take them.
+    void end_unlisted(std::uint64_t last, const Texts& events) {
+        const std::string before_key = " made #";
+        std::set<std::uint64_t> unlisted;
+        while (last < made_) unlisted.insert(++last);
+        for (auto event = events.begin(); !unlisted.empty() && event != events.end(); ++event) {
+            auto at = event->find(before_key);
+            if (at != std::string::npos) unlisted.erase(std::stoull(event->substr(at + before_key.size())));
+        }
+        for (auto key : unlisted) end(key);
+    }
+
     // Lets an object go that has ended.
     void end(std::uint64_t key) {
         auto held = by_key_.find(key);
@@ -361,7 +376,8 @@ using Time = std::chrono::steady_clock::time_point;
 // Until when a command may go on that begins now.
 inline Time deadline(Milliseconds timeout) {
     auto now = std::chrono::steady_clock::now();
-    return timeout < Time::max() - now ? now + timeout : Time::max();
+    auto most = std::chrono::duration_cast<Milliseconds>(Time::max() - now); // a comparison of the two would overflow
+    return now + std::clamp(timeout, Milliseconds(0), most);
 }
 
 // The milliseconds up to a deadline, which throws where there are none.
@@ -382,8 +398,9 @@ class Talk {
   public:
     virtual ~Talk() = default;
 
-    // Does a command, and says whether the engine is still there. An empty text is the engine's start.
-    virtual bool tell(const std::string& text, Milliseconds timeout, const Host& host) = 0;
+    // Does a command, and gives nothing; or, where the engine has ended, its status, or below 0 the signal that ended it. An
+    // empty text is the engine's start.
+    virtual std::optional<int> tell(const std::string& text, Milliseconds timeout, const Host& host) = 0;
 
     // The number of the engine's process, and 0 where it is this one.
     virtual pid_t pid() const { return 0; }
@@ -422,6 +439,7 @@ class Process : public Talk {
 
     ~Process() override {
         close(stream_);
+        if (has_ended_) return;
         kill(pid_, SIGKILL);
         while (waitpid(pid_, nullptr, 0) < 0 && errno == EINTR) {}
     }
@@ -429,11 +447,11 @@ class Process : public Talk {
     Process(const Process&) = delete;
     Process& operator=(const Process&) = delete;
 
-    bool tell(const std::string& text, Milliseconds timeout, const Host& host) override {
+    std::optional<int> tell(const std::string& text, Milliseconds timeout, const Host& host) override {
         deadline_ = deadline(timeout);
         send(text);
         for (auto line = this->line(); line != "done"; line = this->line()) {
-            if (!line) return false;
+            if (!line) return ended();
             if (line->rfind("ask ", 0) != 0) {
                 host.hear(*line);
                 continue;
@@ -442,7 +460,7 @@ class Process : public Talk {
             left(deadline_);
             send(said);
         }
-        return true;
+        return std::nullopt;
     }
 
     pid_t pid() const override { return pid_; }
@@ -475,12 +493,27 @@ class Process : public Talk {
     }
 
     void wait(short event) const {
-        auto most = std::min<Milliseconds::rep>(left(deadline_).count(), std::numeric_limits<int>::max());
+        constexpr Milliseconds most(std::numeric_limits<int>::max());  // of one wait
         pollfd polled{stream_, event, 0};
-        if (poll(&polled, 1, static_cast<int>(most)) == 0) throw CommandTimeout();
+        while (poll(&polled, 1, static_cast<int>(std::min(left(deadline_), most).count())) <= 0) {}
+    }
+
+    // The status of the process, which has ended its output. It is killed where it goes on.
+    int ended() {
+        int status = 0;
+        shutdown(stream_, SHUT_RDWR);
+        for (pid_t waited = 0; waited != pid_;) {
+            waited = waitpid(pid_, &status, WNOHANG);
+            if (waited < 0 && errno != EINTR) break;  // others waited for it
+            if (waited == 0 && std::chrono::steady_clock::now() >= deadline_) kill(pid_, SIGKILL);
+            if (waited == 0) poll(nullptr, 0, 1);
+        }
+        has_ended_ = true;
+        return WIFSIGNALED(status) ? -WTERMSIG(status) : WEXITSTATUS(status);
     }
 
     pid_t pid_ = 0;
+    bool has_ended_ = false;  // and was waited for, so that its number may be another one's
     int stream_;
     Time deadline_;
     std::string read_;
@@ -518,6 +551,7 @@ struct Library {
     LibraryState (*resume)(void*, const Answer*);
     const char* (*reply)(const void*, std::size_t*);
     LibraryState (*state)(const void*);
+    int (*status)(const void*);
     void (*set_timeout)(void*, std::uint64_t);
     LibraryState (*free)(void*);
 };
@@ -538,6 +572,7 @@ inline std::optional<Library> loaded(const std::string& path) {
     found("bb_resume", library.resume);
     found("bb_reply", library.reply);
     found("bb_state_of", library.state);
+    found("bb_status", library.status);
     found("bb_set_timeout", library.set_timeout);
     found("bb_free", library.free);
     auto words = split(library.version(), ' ');
@@ -564,7 +599,7 @@ class InProcess : public Talk {
     InProcess(const InProcess&) = delete;
     InProcess& operator=(const InProcess&) = delete;
 
-    bool tell(const std::string& text, Milliseconds timeout, const Host& host) override {
+    std::optional<int> tell(const std::string& text, Milliseconds timeout, const Host& host) override {
         auto deadline = detail::deadline(timeout);
         library_.set_timeout(engine_, static_cast<std::uint64_t>(std::max<Milliseconds::rep>(timeout.count(), 1)));
         auto state = text.empty() ? library_.state(engine_) : library_.begin(engine_, text.data(), text.size());
@@ -581,7 +616,7 @@ class InProcess : public Talk {
             left(deadline);
         }
         left(deadline);
-        return state == done;
+        return state == done ? std::nullopt : std::optional(library_.status(engine_));
     }
 
   private:
@@ -811,8 +846,7 @@ class Engine {
     // gone: they have to be made, built and bound anew. All objects are given up.
     void restart() {
         check_turn();
-        talk_ = nullptr;
-        objects_ = {};
+        end();
         events_.clear();
         auto text = profile_.text();
         for (auto& line : detail::lines(limits_)) text += line + "\n";
@@ -830,7 +864,9 @@ class Engine {
     // Does a command: a line of a session, and those of its section. Another text is a std::invalid_argument.
     Reply command(const std::string& text) {
         Reply reply;
+        auto last = objects_.made_last();
         say(detail::whole(text), [&](const std::string& line) { hear(line, reply); });
+        objects_.end_unlisted(last, reply.events);
         reply.cause = std::exchange(cause_, nullptr);
         return reply;
     }
@@ -887,6 +923,12 @@ class Engine {
         }
     }
 
+    // Ends the engine, if there is one, and gives all objects up.
+    void end() {
+        talk_ = nullptr;
+        auto given_up = std::exchange(objects_, {});
+    }
+
     void check_turn() const {
         if (is_busy_) throw std::logic_error("a callable may not use the engine that asks it");
     }
@@ -901,19 +943,20 @@ class Engine {
         host.hear = [&](const std::string& line) { hear(last = line); };
         is_busy_ = true;
         try {
-            if (!talk_->tell(text, timeout, host)) lose(text, last);
+            if (auto status = talk_->tell(text, timeout, host)) lose(text, *status, last);
         } catch (...) {
             is_busy_ = false;
-            talk_ = nullptr;
+            end();
             throw;
         }
         is_busy_ = false;
     }
 
-    // Throws what an engine that has ended said last: at its start, why its profile is refused.
-    [[noreturn]] static void lose(const std::string& text, const std::string& last) {
+    // Throws how an engine ended, and what it said last: at its start, why its profile is refused.
+    [[noreturn]] static void lose(const std::string& text, int status, const std::string& last) {
         if (text.empty() && !last.empty()) throw Refused(last);
-        throw EngineLost(last.empty() ? "the engine ended" : last);
+        auto said = last.empty() ? "" : ", and said \"" + last + "\" last";
+        throw EngineLost("the engine ended with the status " + std::to_string(status) + said);
     }
 
     detail::Answer answer(detail::AskKind kind, std::size_t number, const detail::Values& values) {

@@ -35,10 +35,12 @@ LINE, FIELD, MASK, NUMBER = "[^\n]+", "[^ \n]+", "[0-9a-f]{8}", "[0-9]{1,10}"
 HEAD = re.compile("section [^ ]+ ([0-9]{1,10})")
 LIKE_HEAD = re.compile("[^a-z]*section", re.ASCII | re.IGNORECASE)  # what follows such a line could be a script's text
 MOST_COMMAND = 16_777_216  # bytes
+MOST_WAIT = 2**31 - 1  # milliseconds, of one `poll`
 UNEXPECTED = 1  # the number of a script's fault where a callable raised something else than `Fault`
 KEPT = 4_294_967_280  # from here on, numbers of faults are the engine's own
 MOST = 2**63 - 1  # as a limit: none
 UNCHANGED: Any = object()
+MADE_KEY = " made #"  # before the key, in an event
 
 
 class Fault(Exception):
@@ -180,7 +182,7 @@ class Conversation:
 
     def tell(self, text: str, timeout: float, hear: Callable[[str], None]) -> None:
         """Sends a command, and has each line of its reply heard, without ``done``."""
-        if self._output.closed:
+        if self.is_closed:
             raise EngineLost(GONE)
         if self.busy:
             raise RuntimeError(IN_CALLABLE)
@@ -201,6 +203,11 @@ class Conversation:
             raise
         finally:
             self.busy = False
+
+    @property
+    def is_closed(self) -> bool:
+        """Whether the engine has ended."""
+        return self._output.closed
 
     def close(self, timeout: float) -> int:
         """Ends the input, so that the process ends, and kills it if it doesn't. Gives its status."""
@@ -235,8 +242,8 @@ class Conversation:
     def _wait(self, file: int, event: int) -> None:
         poll = select.poll()
         poll.register(file, event)
-        if not poll.poll(_left(self._deadline) * 1000):
-            raise CommandTimeout(LATE)
+        while not poll.poll(min(_left(self._deadline) * 1000, MOST_WAIT)):
+            pass  # either it is late, or there was more time than one wait can take
 
 
 GONE, LATE = "there is no engine any more", "a command took longer than the timeout"
@@ -318,7 +325,7 @@ class InProcess:
 
     def tell(self, text: str, timeout: float, hear: Callable[[str], None]) -> None:
         """Does a command, and has each line of its reply heard. Where the text is empty it is the engine's start."""
-        if not self._engine:
+        if self.is_closed:
             raise EngineLost(GONE)
         if self.busy:
             raise RuntimeError(IN_CALLABLE)
@@ -337,6 +344,11 @@ class InProcess:
             raise
         finally:
             self.busy = False
+
+    @property
+    def is_closed(self) -> bool:
+        """Whether the engine has ended."""
+        return not self._engine
 
     def close(self, timeout: float) -> int:
         """Ends the engine. Gives the status that its process would have."""
@@ -539,10 +551,11 @@ class Engine(AbstractContextManager["Engine"]):
             self.budget(self.ticks)
 
     def close(self, *_: object) -> None:
-        """Ends the engine."""
+        """Ends the engine. All objects are given up."""
         if self._talk.busy:
             raise RuntimeError(IN_CALLABLE)
         self._talk.close(self.timeout)
+        self._give_up()
 
     __exit__ = close
 
@@ -567,7 +580,7 @@ class Engine(AbstractContextManager["Engine"]):
     def used(self) -> Used:
         """What scripts hold."""
         lines: List[str] = []
-        self._talk.tell("used\n", self.timeout, lines.append)
+        self._tell("used\n", lines.append)
         if lines[-1] != "ok":
             raise Refused(lines[-1].partition(" ")[2])
         told = dict(line.split(" ", 1) for line in lines[:-1])
@@ -590,7 +603,7 @@ class Engine(AbstractContextManager["Engine"]):
 
     def command(self, text: str) -> Reply:
         """Does a command: a line of a session, with those of its section. Another text is a ValueError."""
-        text, self._cause = _command(text), None
+        text, self._cause, made = _command(text), None, self._made
         outcome = ""  # a comment has none
         self.events, errors, denials = [], [], []
 
@@ -610,8 +623,21 @@ class Engine(AbstractContextManager["Engine"]):
                 at, entry, _, mask = rest.split(" ")
                 denials.append(Denial(_place(at), self.profile.entries[int(entry)], int(mask, 16)))
 
-        self._talk.tell(text, self.timeout, hear)
+        self._tell(text, hear)
+        if self._made > made:
+            self._end_unlisted(made + 1)
         return Reply(outcome, self.events, errors, denials, self._cause)
+
+    def _tell(self, text: str, hear: Callable[[str], None]) -> None:
+        try:
+            self._talk.tell(text, self.timeout, hear)
+        finally:
+            if self._talk.is_closed:
+                self._give_up()
+
+    def _give_up(self) -> None:
+        """Gives up all objects, of an engine that has ended."""
+        self.objects, self._keys = {}, {}
 
     def _held(self, reply: Reply) -> Held:
         used = self.used()
@@ -669,6 +695,13 @@ class Engine(AbstractContextManager["Engine"]):
         self.objects[self._made] = it
         self._keys.setdefault(id(it), {})[self._made] = None
         return MADE, self._made
+
+    def _end_unlisted(self, first: int) -> None:
+        """Gives up what was made from that key on and is in no event: the engine had no memory to take it."""
+        listed = {line.rpartition(MADE_KEY)[2] for line in self.events if MADE_KEY in line}
+        for key in range(first, self._made + 1):
+            if str(key) not in listed:
+                self._ended(key)
 
     def _ended(self, key: int) -> None:
         it = id(self.objects.pop(key))

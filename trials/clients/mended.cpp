@@ -2,8 +2,8 @@
 //
 //     mended ASREMOTE [LIBRARY]
 //
-// Prints what stands in mended.expected; and besides, for what this client and the one in Python do, a line that says what
-// went wrong, and then the status is 1.
+// Is run in the repository's own folder, for trials/clients/refusing.py. Prints what stands in mended.expected; and besides,
+// for what this client and the one in Python do, a line that says what went wrong, and then the status is 1.
 #include "bustlebrick.hpp"
 
 #include <iostream>
@@ -28,6 +28,7 @@ void meddle(int n) { use(n); }
 
 constexpr int tries = 5;
 constexpr std::size_t most_memory = 64 << 20;
+constexpr const char* refusing = "trials/clients/refusing.py";
 constexpr auto long_time = std::chrono::seconds(60);
 
 struct Thing {};
@@ -104,6 +105,8 @@ template <class F> void tell(const std::string& what, F what_is_done) {
         std::cout << "the client refuses it\n";
     } catch (const bustlebrick::CommandTimeout&) {
         std::cout << "too slow\n";
+    } catch (const bustlebrick::EngineLost& lost) {
+        std::cout << lost.what() << '\n';
     }
 }
 
@@ -167,10 +170,54 @@ void timeouts(Engine& engine) {
         module.call("void spin()");
         return "done";
     });
+    std::cout << "objects: " << engine.objects() << '\n';
     engine.timeout = long_time;
     engine.restart();
     module = made(engine, script);
     tell_two(module);
+}
+
+void long_timeouts(const Where& where) {
+    for (auto timeout : {milliseconds::max(), milliseconds(2147484000), milliseconds(4294967297)}) {
+        Engine engine(offered(), where.program, {}, 0, where.library);
+        engine.timeout = timeout;
+        auto module = made(engine, script);
+        tell_two(module);
+    }
+}
+
+// What an engine has no memory to take is given up.
+void refusals() {
+    Engine engine(offered(), refusing);
+    engine.timeout = long_time;
+    auto module = engine.module("m", 1);
+    tell("refused", [&] {
+        module.call("void any()");
+        return "done";
+    });
+    std::cout << "objects: " << engine.objects() << '\n';
+    tell("limits", [&] {
+        Limits limits;
+        limits.events = 2, limits.objects = 1;
+        engine.set_limits(limits);
+        return "taken";
+    });
+}
+
+// An engine that others killed says how it ended, and its objects are given up.
+void kills(const std::string& program) {
+    Engine engine(offered(), program);
+    engine.timeout = long_time;
+    for (int n = 0; n < 2; n++) {
+        auto module = made(engine, script);
+        std::cout << "objects: " << engine.objects() << '\n';
+        kill(engine.pid(), SIGKILL);
+        std::this_thread::sleep_for(milliseconds(200));  // the process is gone by then, and so nothing can be written to it
+        tell("killed", [&] { return module.call<int>("int two()"); });
+        std::cout << "objects: " << engine.objects() << '\n';
+        tell_two(module);
+        engine.restart();
+    }
 }
 
 void memory(const Where& where) {
@@ -209,6 +256,9 @@ int main(int count, char** words) {
         texts(engine, module);
         faults(engine, module);
         timeouts(engine);
+        long_timeouts(where);
+        refusals();
+        kills(where.program);
         memory(where);
         engine.restart();
         meddling(engine);

@@ -6,14 +6,16 @@ Prints what stands in mended.expected; and besides, for what this client alone d
 then the status is 1.
 """
 
+import math
 import os
+import signal
 import sys
 import time
 from typing import Any, Callable, Dict, List
 
 sys.path.insert(0, os.path.join(os.path.dirname(os.path.abspath(__file__)), "..", "..", "clients", "python"))
 import bustlebrick  # noqa: E402
-from bustlebrick import CommandTimeout, Engine, Fault, Module, Profile, Refused, ScriptFault  # noqa: E402
+from bustlebrick import CommandTimeout, Engine, EngineLost, Fault, Module, Profile, Refused, ScriptFault  # noqa: E402
 
 SCRIPT = """\
 Thing@ kept = Thing();
@@ -26,6 +28,7 @@ void spin() { while (true) say(1); }
 """
 TEXTS = "module a 00000001\nmodule b 00000001", "section m 2\nx", "section m", " Section m 1\nx", "module c 00000001\n"
 TRIES, MEMORY = 5, 64 << 20
+REFUSING = os.path.join(os.path.dirname(os.path.abspath(__file__)), "refusing.py")
 found_wrong: List[str] = []
 
 
@@ -83,6 +86,8 @@ def tell(what: str, do: Callable[[], Any]) -> None:
         print(f"{what}: the client refuses it")
     except CommandTimeout:
         print(f"{what}: too slow")
+    except EngineLost as lost:
+        print(f"{what}: {lost}")
 
 
 def texts(engine: Engine, module: Module) -> None:
@@ -123,9 +128,39 @@ def timeouts(engine: Engine) -> None:
     module = made(engine, SCRIPT)
     engine.timeout = 0.3
     tell("spin", lambda: module.call("void spin()"))
+    print(f"objects: {len(engine.objects)}")
     engine.timeout = 60.0
     engine.restart()
     tell("two", lambda: made(engine, SCRIPT).call("int two()"))
+
+
+def long_timeouts(where: Dict[str, Any]) -> None:
+    for timeout in (math.inf, 2147484.0, 4294967.297):
+        with Engine(offered(), timeout=timeout, **where) as engine:
+            tell("two", lambda: made(engine, SCRIPT).call("int two()"))
+
+
+def refusals() -> None:
+    """What an engine has no memory to take is given up."""
+    with Engine(offered(), REFUSING, timeout=60.0) as engine:
+        module = engine.module("m", 1)
+        tell("refused", lambda: module.call("void any()"))
+        print(f"objects: {len(engine.objects)}")
+        tell("limits", lambda: engine.limits(events=2, objects=1) and "taken")
+
+
+def kills(program: str) -> None:
+    """An engine that others killed says how it ended, and its objects are given up."""
+    with Engine(offered(), program, timeout=60.0) as engine:
+        for _ in range(2):
+            module = made(engine, SCRIPT)
+            print(f"objects: {len(engine.objects)}")
+            os.kill(engine.pid or 0, signal.SIGKILL)
+            time.sleep(0.2)  # the process is gone by then, and so nothing can be written to it
+            tell("killed", lambda: module.call("int two()"))
+            print(f"objects: {len(engine.objects)}")
+            tell("two", lambda: module.call("int two()"))
+            engine.restart()
 
 
 def memory(where: Dict[str, Any]) -> None:
@@ -168,6 +203,14 @@ def meddling(where: Dict[str, Any]) -> None:
         reply = engine.command("call m () uint8 h()")
         wants(isinstance(reply.cause, OverflowError), f"a uint8 of 256 is told as {reply.outcome}, {reply.cause!r}")
         wants(module.call("int i(int)", True) == 2, "True is the int 1")
+
+
+def closing(where: Dict[str, Any]) -> None:
+    """The objects of an engine that is closed are given up."""
+    with Engine(offered(), timeout=60.0, **where) as engine:
+        made(engine, SCRIPT)
+        wants(len(engine.objects) == 1, "a script has an object")
+    wants(not engine.objects, "an engine that is closed has objects")
 
 
 class SlowEntries(List[Any]):
@@ -247,8 +290,12 @@ def main() -> None:
         texts(engine, module)
         faults(engine, module)
         timeouts(engine)
+    long_timeouts(where)
+    refusals()
+    kills(sys.argv[1])
     memory(where)
     meddling(where)
+    closing(where)
     slow_denials(where)
     late_answers(where)
     many_objects(where)

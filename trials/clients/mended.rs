@@ -2,10 +2,11 @@
 //!
 //!     mended ASREMOTE [LIBRARY]
 //!
-//! Prints what stands in mended.expected.
+//! Is run in the repository's own folder, for trials/clients/refusing.py. Prints what stands in mended.expected.
 
 use bustlebrick::{Engine, Error, Fault, Limits, Module, Options, Profile};
 use std::fmt::Display;
+use std::process::Command;
 use std::rc::Rc;
 use std::thread::sleep;
 use std::time::Duration;
@@ -21,6 +22,7 @@ void spin() { while (true) say(1); }
 ";
 const TRIES: u32 = 5;
 const MEMORY: u64 = 64 << 20;
+const REFUSING: &str = "trials/clients/refusing.py";
 const LONG: Duration = Duration::from_secs(60);
 const TEXTS: [&str; 5] =
     ["module a 00000001\nmodule b 00000001", "section m 2\nx", "section m", " Section m 1\nx", "module c 00000001\n"];
@@ -114,10 +116,51 @@ fn timeouts(engine: &mut Engine) -> Result<(), Error> {
     let module = made(engine, SCRIPT)?;
     engine.timeout = Duration::from_millis(300);
     tell("spin", engine.call::<()>(&module, "void spin()", &[]).map(|()| "done"));
+    println!("objects: {}", engine.objects());
     engine.timeout = LONG;
     engine.restart()?;
     let module = made(engine, SCRIPT)?;
     tell_two(engine, &module);
+    Ok(())
+}
+
+fn long_timeouts(options: &Options) -> Result<(), Error> {
+    for timeout in [Duration::MAX, Duration::from_millis(2147484000), Duration::from_millis(4294967297)] {
+        let engine = &mut Engine::with(options.clone(), offered())?;
+        engine.timeout = timeout;
+        let module = made(engine, SCRIPT)?;
+        tell_two(engine, &module);
+    }
+    Ok(())
+}
+
+/// What an engine has no memory to take is given up.
+fn refusals() -> Result<(), Error> {
+    let engine = &mut Engine::start(REFUSING, offered())?;
+    engine.timeout = LONG;
+    let module = engine.module("m", 1)?;
+    tell("refused", engine.call::<()>(&module, "void any()", &[]).map(|()| "done"));
+    println!("objects: {}", engine.objects());
+    let limits = Limits { events: Some(2), objects: Some(1), ..Limits::default() };
+    tell("limits", engine.set_limits(limits).map(|()| "taken"));
+    Ok(())
+}
+
+/// An engine that others killed says how it ended, and its objects are given up.
+fn kills(options: &Options) -> Result<(), Error> {
+    let engine = &mut Engine::start(&options.program, offered())?;
+    engine.timeout = LONG;
+    for _ in 0..2 {
+        let module = made(engine, SCRIPT)?;
+        println!("objects: {}", engine.objects());
+        let pid = engine.pid().expect("a process").to_string();
+        assert!(Command::new("kill").args(["-9", &pid]).status().expect("kill").success());
+        sleep(Duration::from_millis(200)); // the process is gone by then, and so nothing can be written to it
+        tell("killed", engine.call::<i32>(&module, "int two()", &[]));
+        println!("objects: {}", engine.objects());
+        tell_two(engine, &module);
+        engine.restart()?;
+    }
     Ok(())
 }
 
@@ -142,5 +185,8 @@ fn main() -> Result<(), Error> {
     texts(engine, &module)?;
     faults(engine, &module)?;
     timeouts(engine)?;
+    long_timeouts(&options)?;
+    refusals()?;
+    kills(&options)?;
     memory(&options)
 }

@@ -20,7 +20,7 @@ use std::fs::{remove_file, File};
 use std::io::{self, ErrorKind, Write};
 use std::path::{Path, PathBuf};
 use std::time::{Duration, Instant, SystemTime, UNIX_EPOCH};
-use std::{env, fmt, process};
+use std::{env, fmt, mem, process};
 use talk::{Host, Said, Talk};
 
 /// The version of this package, which is that of the library that it takes.
@@ -51,7 +51,7 @@ impl fmt::Display for Error {
             Error::Refused(why) => write!(f, "refused {why}"),
             Error::Fault(fault) => write!(f, "fault {fault}"),
             Error::Memory(held) => write!(f, "fault Memory: {held}"),
-            Error::Lost(said) => write!(f, "the engine ended: {said}"),
+            Error::Lost(why) => write!(f, "{why}"),
             Error::TimedOut => write!(f, "a command took longer than the timeout"),
             Error::Unfit(text) => write!(f, "{text:?} does not fit"),
             Error::Limits(why) => write!(f, "{why}"),
@@ -65,7 +65,7 @@ impl From<io::Error> for Error {
     fn from(error: io::Error) -> Error {
         match error.kind() {
             ErrorKind::TimedOut | ErrorKind::WouldBlock => Error::TimedOut,
-            _ => Error::Lost(error.to_string()),
+            _ => Error::Lost(format!("the engine can't be used: {error}")),
         }
     }
 }
@@ -182,8 +182,7 @@ impl Engine {
     /// Ends the engine, if there is one, and starts another one with the same profile, budget and limits. The modules are
     /// gone: they have to be made, built and bound anew. All objects are given up.
     pub fn restart(&mut self) -> Result<(), Error> {
-        self.talk = None;
-        self.objects = Objects::default();
+        (self.talk, self.objects) = (None, Objects::default());
         self.events.clear();
         let text = format!("{}{}\n", self.profile.text(), self.limits.lines().join("\n"));
         let drivers = 1 + self.profile.types.len();
@@ -303,6 +302,7 @@ impl Engine {
     pub fn command(&mut self, text: &str) -> Result<Reply, Error> {
         let text = whole(text).ok_or_else(|| Error::Unfit(text.to_owned()))?;
         let mut reply = Reply::default();
+        let last = self.objects.made_last();
         self.say(&text, &mut |line, profile, objects| {
             match line.splitn(4, ' ').collect::<Vec<_>>()[..] {
                 ["error", kind, at, name] => {
@@ -324,6 +324,7 @@ impl Engine {
                 reply.outcome = line;
             }
         })?;
+        self.objects.end_unlisted(last, &reply.events);
         Ok(reply)
     }
 
@@ -343,9 +344,10 @@ impl Engine {
         told
     }
 
-    /// Does a command, and answers what is asked meanwhile. Where that fails there is no engine any more.
+    /// Does a command, and answers what is asked meanwhile. Where that fails there is no engine any more, and no object.
     fn say(&mut self, text: &str, hear: &mut dyn FnMut(String, &Profile, &mut Objects)) -> Result<(), Error> {
-        let mut talk = self.talk.take().ok_or_else(|| Error::Lost("it is not there".to_owned()))?;
+        let mut objects = mem::take(&mut self.objects);
+        let mut talk = self.talk.take().ok_or_else(|| Error::Lost("there is no engine any more".to_owned()))?;
         let far = Instant::now() + Duration::from_secs(1 << 32);
         let deadline = Instant::now().checked_add(self.timeout).map_or(far, |deadline| deadline.min(far));
         let mut last = String::new();
@@ -353,14 +355,20 @@ impl Engine {
             last.clone_from(&line);
             hear(line, profile, objects);
         };
-        let mut host = Host { profile: &mut self.profile, objects: &mut self.objects, heard: &mut heard };
+        let mut host = Host { profile: &mut self.profile, objects: &mut objects, heard: &mut heard };
         match talk.tell(text, deadline, &mut host)? {
-            Said::Done => self.talk = Some(talk),
-            Said::Ended if text.is_empty() && !last.is_empty() => return Err(Error::Refused(last)),
-            Said::Ended => return Err(Error::Lost(last)),
+            Said::Done => (self.talk, self.objects) = (Some(talk), objects),
+            Said::Ended(_) if text.is_empty() && !last.is_empty() => return Err(Error::Refused(last)),
+            Said::Ended(status) => return Err(Error::Lost(ending(status, &last))),
         }
         Ok(())
     }
+}
+
+/// How an engine ended, and what it said last.
+fn ending(status: i32, last: &str) -> String {
+    let said = if last.is_empty() { String::new() } else { format!(", and said {last:?} last") };
+    format!("the engine ended with the status {status}{said}")
 }
 
 /// The text with its last LF, if it is one command: what more it said would be taken for the next ones.

@@ -55,6 +55,7 @@ pub(crate) struct Library {
     resume: unsafe extern "C" fn(Raw, *const Answer) -> c_int,
     reply: unsafe extern "C" fn(Raw, *mut usize) -> *const u8,
     state: unsafe extern "C" fn(Raw) -> c_int,
+    status: unsafe extern "C" fn(Raw) -> c_int,
     set_timeout: unsafe extern "C" fn(Raw, u64),
     free: unsafe extern "C" fn(Raw) -> c_int,
 }
@@ -89,6 +90,7 @@ impl Library {
                 resume: mem::transmute::<Raw, _>(found(c"bb_resume")?),
                 reply: mem::transmute::<Raw, _>(found(c"bb_reply")?),
                 state: mem::transmute::<Raw, _>(found(c"bb_state_of")?),
+                status: mem::transmute::<Raw, _>(found(c"bb_status")?),
                 set_timeout: mem::transmute::<Raw, _>(found(c"bb_set_timeout")?),
                 free: mem::transmute::<Raw, _>(found(c"bb_free")?),
             }))
@@ -175,7 +177,8 @@ impl Talk for InProcess {
             state = self.answer(deadline, host)?;
         }
         self.hear(deadline, host)?;
-        Ok(if state == DONE { Said::Done } else { Said::Ended })
+        // SAFETY: the engine is there.
+        Ok(if state == DONE { Said::Done } else { Said::Ended(unsafe { (self.library.status)(self.engine) }) })
     }
 
     fn pid(&self) -> Option<u32> {

@@ -2,11 +2,13 @@
 
 use crate::talk::{left, Host, Said, Talk};
 use crate::values::{AskKind, Value};
-use std::io::{self, BufRead, BufReader, Write};
-use std::os::{fd::OwnedFd, unix::net::UnixStream};
+use std::io::{self, BufRead, BufReader, ErrorKind, Write};
+use std::net::Shutdown;
+use std::os::{fd::OwnedFd, unix::net::UnixStream, unix::process::ExitStatusExt};
 use std::path::Path;
 use std::process::{Child, Command};
-use std::time::Instant;
+use std::thread::sleep;
+use std::time::{Duration, Instant};
 
 /// An engine's process, which is killed where this is dropped.
 pub(crate) struct Link {
@@ -33,17 +35,38 @@ impl Link {
 
     fn send(&mut self, text: &str, deadline: Instant) -> io::Result<()> {
         self.stream.get_ref().set_write_timeout(Some(left(deadline)?))?;
-        self.stream.get_mut().write_all(text.as_bytes())
+        match self.stream.get_mut().write_all(text.as_bytes()) {
+            // what the engine said last is still to be read
+            Err(error) if matches!(error.kind(), ErrorKind::BrokenPipe | ErrorKind::ConnectionReset) => Ok(()),
+            written => written,
+        }
     }
 
     /// The next line, without its LF. It is empty where the stream ended.
     fn line(&mut self, deadline: Instant) -> io::Result<String> {
         self.stream.get_ref().set_read_timeout(Some(left(deadline)?))?;
         let mut line = String::new();
-        self.stream.read_line(&mut line)?;
+        match self.stream.read_line(&mut line) {
+            Err(error) if error.kind() == ErrorKind::ConnectionReset => line.clear(), // it ended, and read not all
+            read => drop(read?),
+        }
         left(deadline)?;
         line.truncate(line.trim_end_matches('\n').len());
         Ok(line)
+    }
+
+    /// The status of the process, which has ended its output. It is killed where it goes on.
+    fn ended(&mut self, deadline: Instant) -> io::Result<i32> {
+        let _ = self.stream.get_ref().shutdown(Shutdown::Both);
+        let status = loop {
+            match self.child.try_wait()? {
+                Some(status) => break status,
+                None if left(deadline).is_err() => self.child.kill()?,
+                None => {}
+            }
+            sleep(Duration::from_millis(1));
+        };
+        Ok(status.code().or_else(|| status.signal().map(|signal| -signal)).unwrap_or(0))
     }
 }
 
@@ -54,7 +77,7 @@ impl Talk for Link {
             let line = self.line(deadline)?;
             match line.as_str() {
                 "done" => return Ok(Said::Done),
-                "" => return Ok(Said::Ended),
+                "" => return self.ended(deadline).map(Said::Ended),
                 ask if ask.starts_with("ask ") => {
                     let answer = answer(ask, host) + "\n";
                     self.send(&answer, deadline)?;

@@ -14,10 +14,10 @@ pub(crate) trait Talk {
     fn pid(&self) -> Option<u32>;
 }
 
-/// Whether a command was done, or the engine has ended.
+/// Whether a command was done, or the engine has ended: with which status, or, below 0, by which signal.
 pub(crate) enum Said {
     Done,
-    Ended,
+    Ended(i32),
 }
 
 /// The host's side, while a command is done.

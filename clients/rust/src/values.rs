@@ -133,6 +133,22 @@ impl Objects {
         Some(Answer::new(MADE, Value::key(self.made)))
     }
 
+    /// The key of the object that was made last.
+    pub(crate) fn made_last(&self) -> u64 {
+        self.made
+    }
+
+    /// Lets those objects go that were made after that of a key and are in no event: the engine had no memory to take them.
+    pub(crate) fn end_unlisted(&mut self, last: u64, events: &[String]) {
+        let mut unlisted: BTreeSet<u64> = (last + 1..=self.made).collect();
+        if !unlisted.is_empty() {
+            for (_, key) in events.iter().filter_map(|event| event.split_once(" made #")) {
+                unlisted.remove(&key.parse().unwrap_or(0));
+            }
+        }
+        unlisted.into_iter().for_each(|key| self.end(key));
+    }
+
     /// Lets an object go that has ended.
     pub(crate) fn end(&mut self, key: u64) {
         let Some(object) = self.by_key.remove(&key) else { return };
