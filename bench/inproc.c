@@ -15,14 +15,19 @@
 #include <time.h>
 #include <unistd.h>
 
-static const char profile[] = "mask 00000001\nfunction 0 0 void put(int64)\nfunction 0 1 int64 sum(int64, int64)\n";
+static const char profile[] =
+    "mask 00000001\n"
+    "function 0 0 void put(int64)\n"
+    "function 0 1 int64 sum(int64, int64)\n"
+    "posted 0 2 void drop(int64)\n";
 
 static const char script[] =
-    "section m 4\n"
+    "section m 5\n"
     "void run(int64 n) { for (int64 i = 0; i < n; i++) put(i); }\n"
     "int64 sums(int64 n) { int64 s = 0; for (int64 i = 0; i < n; i++) s = sum(s, i); return s; }\n"
     "int64 idle(int64 n) { int64 s = 0; for (int64 i = 0; i < n; i++) s += i; return s; }\n"
-    "void nothing() {}\n";
+    "void nothing() {}\n"
+    "void posts(int64 n) { for (int64 i = 0; i < n; i++) drop(i); }\n";
 
 static int64_t total;
 static uint64_t asked;
@@ -46,7 +51,7 @@ static void host(void *data, const bb_ask *ask, bb_answer *answer)
 {
     (void)data;
     asked++;
-    if (ask->function == 0) {
+    if (ask->function != 1) {
         total += ask->values[0].as.i64;
         return;
     }
@@ -146,32 +151,43 @@ static void answer(const char *ask)
     }
 }
 
+/* `post 0 call F - (V)` */
+static void take(const char *post)
+{
+    asked++;
+    total += strtoll(strchr(post, '(') + 1, NULL, 10);
+}
+
 static void there(const char *text)
 {
     put(text, strlen(text));
     for (const char *next = line(); memcmp(next, "done\n", 5) != 0; next = line())
         if (memcmp(next, "ask ", 4) == 0)
             answer(next);
+        else if (memcmp(next, "post ", 5) == 0)
+            take(next);
         else if (memcmp(next, "refused", 7) == 0 || memcmp(next, "fault", 5) == 0)
             fail(text);
 }
 
 /* ---- Rows */
 
-enum { CALLBACK, STEPS, CALLBACK_SUM, COMMAND, TURN, REMOTE, REMOTE_SUM, REMOTE_COMMAND, REMOTE_TURN, ROWS };
+enum { CALLBACK, STEPS, CALLBACK_SUM, POST, COMMAND, TURN, REMOTE, REMOTE_SUM, REMOTE_POST, REMOTE_COMMAND, REMOTE_TURN, ROWS };
 
 static const char *const names[ROWS] = {
     "in process, `void put(int64)` by a callback", "in process, the same by steps",
-    "in process, `int64 sum(int64, int64)`",       "in process, a command",
-    "in process, a turn of an empty loop",         "asremote, `void put(int64)`",
-    "asremote, `int64 sum(int64, int64)`",         "asremote, a command",
+    "in process, `int64 sum(int64, int64)`",       "in process, `void put(int64)` posted",
+    "in process, a command",                       "in process, a turn of an empty loop",
+    "asremote, `void put(int64)`",                 "asremote, `int64 sum(int64, int64)`",
+    "asremote, `void put(int64)` posted",          "asremote, a command",
     "asremote, a turn of an empty loop",
 };
 
 static void do_row(int row, bb_engine *engine, long calls)
 {
     static const char nothing[] = "call m () void nothing()\n";
-    char run[64], sums[64], idle[64];
+    char run[64], sums[64], idle[64], posts[64];
+    snprintf(posts, sizeof posts, "call m (%ld) void posts(int64)\n", calls);
     snprintf(run, sizeof run, "call m (%ld) void run(int64)\n", calls);
     snprintf(sums, sizeof sums, "call m (%ld) int64 sums(int64)\n", calls);
     snprintf(idle, sizeof idle, "call m (%ld) int64 idle(int64)\n", calls);
@@ -185,6 +201,9 @@ static void do_row(int row, bb_engine *engine, long calls)
     case CALLBACK_SUM:
         here(engine, sums);
         break;
+    case POST:
+        here(engine, posts);
+        break;
     case COMMAND:
         for (long at = 0; at < calls; at++)
             here(engine, nothing);
@@ -197,6 +216,9 @@ static void do_row(int row, bb_engine *engine, long calls)
         break;
     case REMOTE_SUM:
         there(sums);
+        break;
+    case REMOTE_POST:
+        there(posts);
         break;
     case REMOTE_COMMAND:
         for (long at = 0; at < calls; at++)
@@ -247,7 +269,7 @@ int main(int count, char **words)
             do_row(row, engine, calls);
             times[row][round] = (now_us() - before) / (double)calls;
         }
-    if (asked != (uint64_t)(5 * calls * rounds))
+    if (asked != (uint64_t)(7 * calls * rounds))
         fail("asks are missing");
     printf("%ld calls in each of %ld rounds, in microseconds, with a host in C (%s)\n\n", calls, rounds, bb_version());
     printf("| | median | lower tenth |\n|---|---|---|\n");

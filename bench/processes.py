@@ -1,7 +1,11 @@
 """Runs processes and measures them, for the other programs of this folder."""
 
 import os
+import resource
 import subprocess
+
+GNU_TIME = "/usr/bin/time"
+SECONDS = 120  # of processor time, after which a process that is measured is ended
 
 
 def processor_seconds(words, output):
@@ -11,6 +15,23 @@ def processor_seconds(words, output):
         _, status, used = os.wait4(child.pid, 0)
         child.returncode = os.waitstatus_to_exitcode(status)
     return used.ru_utime + used.ru_stime
+
+
+def measured(words, output):
+    """The processor time of a command, as above, the bytes that are resident at most, and its status, which is above 128 after a signal.
+    GNU time starts it, since a child's figure has that of its parent in it."""
+
+    def limit():
+        resource.setrlimit(resource.RLIMIT_CPU, (SECONDS, SECONDS))
+
+    said = f"{output}.resident"
+    with open(output, "wb") as out:
+        child = subprocess.Popen(
+            [GNU_TIME, "-q", "-f", "%M", "-o", said, *words], stdout=out, stderr=subprocess.STDOUT, preexec_fn=limit
+        )
+        _, status, used = os.wait4(child.pid, 0)
+        child.returncode = os.waitstatus_to_exitcode(status)
+    return used.ru_utime + used.ru_stime, 1024 * int(lines_of(said)[-1]), child.returncode
 
 
 def run_session(asrun, folder, session="session"):

@@ -7,6 +7,9 @@ A script asks the host N times (100,000, if left out). A call is the time from o
 goes on, and the next ask is read. It is measured twice: by the lines alone, and by a callable of a profile (clients/python). The empty
 round trip is a line to `cat` and back, as often. The median of each is printed, with the lower and the upper tenth.
 
+Then the same calls are posted, and their lines come many at a time: what counts is the whole command, over the number of calls, beside
+that of the same command with calls that are asked.
+
 With --library, of a folder that `make -C clients/c` made (clients/c/out/proved), the callable is measured with the engine in this
 process too; and the same script and an empty command with a host in C: with the engine in its process, and with asremote over pipes
 (bench/inproc.c, which cc compiles).
@@ -31,6 +34,7 @@ from bustlebrick import Conversation, Engine, Profile  # noqa: E402
 SECONDS = 600  # that a command may take
 SCRIPT = "void run(int64 n) { for (int64 i = 0; i < n; i++) put(i); }\n"
 PROFILE = "mask 00000001\nfunction 0 0 void put(int64)\n"
+POSTED = "mask 00000001\nposted 0 0 void put(int64)\n"
 
 
 def tenths(name, times):
@@ -68,9 +72,10 @@ def calls_by_lines(asremote, profile, count):
     return times, outcome
 
 
-def calls_by_profile(asremote, count, library=None):
+def calls_by_profile(asremote, count, library=None, posted=False):
     times, profile = [], Profile()
-    profile.function("void put(int64)", lambda n: times.append(time.perf_counter_ns()))
+    register = profile.posted if posted else profile.function
+    register("void put(int64)", lambda n: times.append(time.perf_counter_ns()))
     with Engine(profile, asremote, SECONDS, events=None, library=library) as engine:
         if library and engine.pid:
             sys.exit(f"there is no {library}")
@@ -80,6 +85,21 @@ def calls_by_profile(asremote, count, library=None):
         outcome = module.build().outcome
         module.call("void run(int64)", count)
     return times, [outcome]
+
+
+def posts(words, library, profile, rows):
+    """Measures posted calls beside the asked ones of these rows, from the first of a command to the last."""
+    with open(profile, "w") as file:
+        file.write(POSTED)
+    posted = [calls_by_lines(words.asremote, profile, words.calls), calls_by_profile(words.asremote, words.calls, posted=True)]
+    if library:
+        posted.append(calls_by_profile(words.asremote, words.calls, library, posted=True))
+    print("\n| of a whole command, each call | asked | posted | posted by asked |\n|---|---|---|---|")
+    for (name, (asked, _)), (times, outcome) in zip(rows, posted):
+        if outcome != ["ok"] or len(times) != words.calls:
+            sys.exit(f"asremote answered {outcome} after {len(times)} posts")
+        one, other = ((it[-1] - it[0]) / 1000 / len(it) for it in (asked, times))
+        print(f"| {name} | {one:.2f} | {other:.2f} | {other / one:.2f} |", flush=True)
 
 
 def in_process(library, asremote, profile, room):
@@ -130,13 +150,14 @@ def main():
             ("a host call, by its lines", calls_by_lines(words.asremote, profile, words.calls)),
             ("a host call, by a callable of a profile", calls_by_profile(words.asremote, words.calls)),
         ]
-        if words.library:
-            library = os.path.join(words.library, "lib", "libbustlebrick.so")
+        library = os.path.join(words.library, "lib", "libbustlebrick.so") if words.library else None
+        if library:
             rows.append(("the same, with the engine in process", calls_by_profile(words.asremote, words.calls, library)))
         for name, (times, outcome) in rows:
             if outcome != ["ok"] or len(times) != words.calls:
                 sys.exit(f"asremote answered {outcome} after {len(times)} calls")
             tenths(name, times)
+        posts(words, library, profile, rows)
         if words.library:
             in_process(words.library, words.asremote, os.path.join(room, "inproc.profile"), room)
         subprocess.run([sys.executable, os.path.join(HERE, "sections.py"), room], check=True, stdout=subprocess.DEVNULL)

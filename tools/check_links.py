@@ -8,9 +8,10 @@ It reads each .md file below the top, and prints a line `FILE:LINE: what is wron
 - a relative link `[text](path#anchor)` leads to a file or folder, and its anchor to a heading there, as GitHub names them;
 - `docs/NAME.md, "Title"` names a page with that heading (or with a paragraph that begins with it in bold), and so does `("Title")`
   the page where it stands;
+- no page for users names a crate of the engine (`ang_..`);
 - a path that begins with a folder of the top or with the name of a crate is there. A `*` stands for any text, a component in
   capitals (`crates/NAME`) for any name, and what a build makes (`out`) is not looked for;
-- docs/ARCHITECTURE.md has one row for each crate of crates.txt, and docs/PROVED.md one description, each under its name in bold.
+- docs/ARCHITECTURE.md has one row for each crate of crates.txt, and docs/CLAIMS.md says of each what is proved, once, under its name in bold.
 
 It ends with the status 1 where something is wrong, and else with 0.
 """
@@ -30,6 +31,8 @@ REFERENCE = re.compile(r'([\w/]+\.md)(?:, | \(|: )((?:"[^"]+"(?:, | and )?)+)')
 OWN_REFERENCE = re.compile(r'(?<!\.md )\((?:above, |below, )?("[A-Z][^"]*")\)')
 PATH = re.compile(r"[\w.*-]+(?:/[\w.*-]+)+/?")
 CRATE = re.compile(r"^(\w+)\b.*:")
+INNER_CRATE = re.compile(r"\bang_\w+")
+FOR_USERS = {"README.md", *(f"docs/{name}.md" for name in "START HOST LANGUAGE FORMATS COMING_FROM SECURITY CHANGES".split())}
 
 
 def read(path):
@@ -74,8 +77,12 @@ def anchors_of(path):
             yield f"{anchor}-{count}" if count else anchor
 
 
+def without_code(line):
+    return re.sub(r"`[^`]*`", "", line)
+
+
 def link_faults(page, line):
-    for target in LINK.findall(re.sub(r"`[^`]*`", "", line)):
+    for target in LINK.findall(without_code(line)):
         if re.match(r"[a-z]+:", target):
             continue
         path, _, anchor = target.partition("#")
@@ -88,7 +95,7 @@ def link_faults(page, line):
 
 def reference_faults(page, line):
     named = [(os.path.join(TOP, path), titles) for path, titles in REFERENCE.findall(line)]
-    for place, titles in named + [(page, title) for title in OWN_REFERENCE.findall(line)]:
+    for place, titles in named + [(page, title) for title in OWN_REFERENCE.findall(without_code(line))]:
         known = titles_of(place) if os.path.isfile(place) else set()
         missing = (title for title in re.findall(r'"[^"]+"', titles) if title[1:-1] not in known)
         yield from (f"no heading {title} in {os.path.relpath(place, TOP)}" for title in missing)
@@ -112,11 +119,17 @@ def path_faults(page, line, crates):
             yield f"no path {path}"
 
 
+def name_faults(page, line):
+    """Where a page for users names a crate of the engine."""
+    if os.path.relpath(page, TOP) in FOR_USERS:
+        yield from (f"{name} stands in a page for users" for name in INNER_CRATE.findall(line))
+
+
 def crate_faults(crates):
     """Where a crate is not described just once."""
     rows = [it.group(1) for it in re.finditer(r"^\| `(\w+)` \|", read(f"{TOP}/docs/ARCHITECTURE.md"), re.M)]
-    heads = re.findall(r"\*\*`(\w+)`\*\*", read(f"{TOP}/docs/PROVED.md"))
-    for page, names in (("docs/ARCHITECTURE.md", rows), ("docs/PROVED.md", heads)):
+    heads = [name for name in re.findall(r"\*\*`(\w+)`\*\*", read(f"{TOP}/docs/CLAIMS.md")) if name in crates]
+    for page, names in (("docs/ARCHITECTURE.md", rows), ("docs/CLAIMS.md", heads)):
         for crate in sorted(crates | set(names)):
             if names.count(crate) != (crate in crates):
                 yield f"{page}:1: `{crate}` stands there {names.count(crate)} times"
@@ -127,7 +140,8 @@ def main():
     faults = list(crate_faults(crates))
     for page in pages():
         for number, line in lines_of(page):
-            found = [*link_faults(page, line), *reference_faults(page, line), *path_faults(page, line, crates)]
+            found = [*link_faults(page, line), *reference_faults(page, line), *name_faults(page, line)]
+            found += path_faults(page, line, crates)
             faults += [f"{os.path.relpath(page, TOP)}:{number}: {fault}" for fault in found]
     print("\n".join(faults) if faults else "all that is referred to is there")
     return 1 if faults else 0

@@ -5,13 +5,14 @@
 #
 # ASREMOTE and ASRUN are the programs: those that `rt ci`, or `rt run` in their crates, leave at crates/asremote/out/asremote
 # and crates/asrun/out/asrun, if none are named. FOLDER is what `make -C clients/c` makes: clients/c/out/proved, if it is there
-# and no other one is named. With it the hosts of the parts game, limits and mended run in both ways. The parts, all of them if
-# none is named:
+# and no other one is named. With it the hosts of the parts game, posts, limits and mended run in both ways. The parts, all of
+# them if none is named:
 #
-#     versions   all clients, the library's header and docs/CHANGES.md name one version
-#     game       the example of each client prints clients/game.expected
+#     versions   all clients, the library's header, both programs and docs/CHANGES.md name one version
+#     game       the example of each client prints clients/game.expected, and the lists of the Python client clients/lists.expected
 #     sessions   each session of crates/examples and crates/asrun, and 1,000 generated ones, over modules, masks, imports,
 #                numbers and objects: with the drivers of asrun written in Python, asremote prints what asrun prints
+#     posts      a host of each client with functions that are posted prints trials/clients/posts.expected
 #     lines      some 160 lines, most of wrong forms: what asremote says to each, and that nothing behind the head of a section runs
 #     kills      100 engines of each client are killed at random moments: the host goes on, and the next engine works
 #     limits     a host of each client sets limits, and prints trials/clients/limits.expected
@@ -38,11 +39,12 @@ programs "$asremote" "$asrun"
 built() {
     [ ! -d "$folder/release" ] || return 0
     (cd clients/rust && CARGO_TARGET_DIR="$folder" cargo build -q --offline --release --lib --examples)
-    for name in kills limits mended; do
+    for name in kills limits mended posts; do
         rustc --edition 2021 -O -L "$folder/release/deps" --extern bustlebrick="$folder/release/libbustlebrick.rlib" \
             "trials/clients/$name.rs" -o "$folder/release/examples/$name"
     done
-    for source in clients/cpp/game.cpp trials/clients/kills.cpp trials/clients/limits.cpp trials/clients/mended.cpp; do
+    for source in clients/cpp/game.cpp trials/clients/kills.cpp trials/clients/limits.cpp trials/clients/mended.cpp \
+        trials/clients/posts.cpp; do
         "${CXX:-c++}" -std=c++17 -O1 -Wall -Wextra -Iclients/cpp "$source" -o "$folder/$(basename "$source" .cpp)" -ldl
     done
 }
@@ -69,6 +71,8 @@ hosts() {
 
 game() {
     hosts "the example" clients/python/game clients/game.expected
+    prints "lists in Python" clients/lists.expected python3 clients/python/lists.py "$asremote"
+    [ ! -f "$library" ] || prints "lists in Python, over the library" clients/lists.expected python3 clients/python/lists.py "$asremote" "$library"
 }
 
 limits() {
@@ -77,6 +81,10 @@ limits() {
 
 mended() {
     hosts "the host of what was mended" trials/clients/mended trials/clients/mended.expected
+}
+
+posts() {
+    hosts "the host that is posted" trials/clients/posts trials/clients/posts.expected
 }
 
 strangers() {
@@ -109,11 +117,12 @@ named_versions() {
     sed -n 's/^version = "\(.*\)"/\1/p' clients/rust/Cargo.toml
     sed -n 's/^constexpr const char\* version = "\(.*\)";/\1/p' clients/cpp/bustlebrick.hpp
     sed -n 's/^#define BUSTLEBRICK_VERSION "\(.*\)"/\1/p' clients/c/bustlebrick.h
+    sed -n 's/^const VERSION: &str = "\(.*\)";/\1/p' crates/asrun/src/command.rt crates/asremote/src/command.rt
     sed -n '/^## /{s/^## \([0-9.]*\).*/\1/p;q;}' docs/CHANGES.md
 }
 
 versions() {
-    if [ "$(named_versions | wc -l)" = 5 ] && [ "$(named_versions | sort -u | wc -l)" = 1 ]; then
+    if [ "$(named_versions | wc -l)" = 7 ] && [ "$(named_versions | sort -u | wc -l)" = 1 ]; then
         echo "all name the version $(named_versions | head -n 1)"
     else
         echo "WRONG: the versions are $(named_versions | tr '\n' ' ')"
@@ -121,4 +130,4 @@ versions() {
     fi
 }
 
-try_parts "versions game sessions lines kills limits bounds mended strangers" "$@"
+try_parts "versions game sessions posts lines kills limits bounds mended strangers" "$@"

@@ -13,6 +13,7 @@
 #     engines    texts that are no command, options and calls out of turn; wrong threads, and 8 threads with an engine each;
 #                engines in one another's callbacks, while a script waits; 10,000 engines with a script that waits; 400 cancels
 #                at random moments; timeouts; scripts that use up the memory of their engine; exceptions out of callbacks
+#     posts      functions that are posted, by the callback and by steps: in their order, and before what is asked after them
 #     growths    each growth of the heap is refused in turn, in each command of the examples
 #     deep       the deepest sections of trials/hostile.sh, on the least stack that the library takes
 #     checked    the hosts and the engines, with fewer of each, under valgrind, and with the library's C under gcc's address and
@@ -42,6 +43,7 @@ built() {
     gcc -std=gnu11 $flags $in/session.c $in/drivers.c $in/commands.c "$library" -o "$to/session"
     gcc -std=gnu11 $flags $in/engines.c "$library" -o "$to/engines" -lpthread
     g++ -std=c++17 $flags $in/throws.cpp "$library" -o "$to/throws"
+    gcc -std=gnu11 $flags $in/posts.c "$library" -o "$to/posts"
     case $2 in *-DBB_TRIAL*) gcc -std=gnu11 $flags $in/growths.c $in/drivers.c $in/commands.c "$library" -o "$to/growths" ;; esac
 }
 
@@ -68,6 +70,11 @@ engines() {
     built plain -O2
     "$folder/plain/engines" forms threads waits many cancels timeouts memory || bad=1
     "$folder/plain/throws" || bad=1
+}
+
+posts() {
+    built plain -O2
+    "$folder/plain/posts" || bad=1
 }
 
 # A session of long lines, and of a long section.
@@ -104,9 +111,11 @@ checked() {
     prints "game.cpp under valgrind" clients/game.expected $valgrind "$folder/watched/game_cpp"
     "$folder/sanitized/engines" forms threads waits some cancels timeouts memory || bad=1
     "$folder/sanitized/throws" || bad=1
+    "$folder/sanitized/posts" || bad=1
     "$folder/sanitized/growths" crates/examples/data/objects.profile crates/examples/data/objects.session || bad=1
     $valgrind "$folder/watched/engines" forms threads waits some || bad=1
     $valgrind "$folder/watched/throws" || bad=1
+    $valgrind "$folder/watched/posts" || bad=1
 }
 
-try_parts "game sessions engines growths deep checked" "$@"
+try_parts "game sessions engines posts growths deep checked" "$@"

@@ -145,9 +145,9 @@ bb_state bb_resume(bb_engine *engine, const bb_answer *answer)
     bb_state state = turn(engine, BB_ASKS);
     if (state != BB_ASKS)
         return state;
-    engine->input[0] = (struct piece){engine->answer, bb_write_answer(engine->answer, answer)};
-    engine->input_at = 0;
-    engine->input_count = 1;
+    engine->input_at = engine->input_count = 0;
+    if (!engine->ask.posted)
+        engine->input[engine->input_count++] = (struct piece){engine->answer, bb_write_answer(engine->answer, answer)};
     bb_run(engine);
     return engine->state;
 }
@@ -217,19 +217,25 @@ const bb_ask *bb_asked(const bb_engine *engine)
     return engine->state == BB_ASKS ? &engine->ask : NULL;
 }
 
+/* The bytes of the reply: at an ask, or where something is posted, there is none yet. */
+static size_t reply_bytes(const bb_engine *engine)
+{
+    return engine->state == BB_ASKS ? 0 : engine->output_bytes;
+}
+
 const char *bb_reply(const bb_engine *engine, size_t *bytes)
 {
-    *bytes = engine->output_bytes;
-    return engine->output ? engine->output : "";
+    *bytes = reply_bytes(engine);
+    return *bytes ? engine->output : "";
 }
 
 const char *bb_outcome(const bb_engine *engine, size_t *bytes)
 {
-    size_t end = engine->output_bytes, begin = end ? end - 1 : 0;
+    size_t end = reply_bytes(engine), begin = end ? end - 1 : 0;
     while (begin && engine->output[begin - 1] != '\n')
         begin--;
     *bytes = end ? end - 1 - begin : 0;
-    return engine->output ? engine->output + begin : "";
+    return end ? engine->output + begin : "";
 }
 
 bb_state bb_state_of(const bb_engine *engine)

@@ -59,12 +59,14 @@ typedef struct bb_value {
 /* What is asked: a factory for an object, a function or a method, a property for its value, a property to change it. */
 typedef enum bb_ask_kind { BB_MAKE, BB_CALL, BB_READ, BB_WRITE } bb_ask_kind;
 
-/* What a script asks. It is the library's, and holds until it is answered. */
+/* What a script asks, or has posted. It is the library's, and holds until it is answered. What is posted comes before
+   what the script asks next, and before the end of the command, in the order of the script's calls. */
 typedef struct bb_ask {
     bb_ask_kind kind;
     uint32_t driver;   /* the number of the driver, below bb_options.drivers */
     uint32_t function; /* the number that the profile gives the entry (its `F`) */
     bool has_object;   /* whether an object is asked: a method's, or a property's */
+    bool posted;       /* whether the profile has the function `posted`: the script went on, and the answer is dropped */
     uint64_t object;   /* its key, which is live; 0 where there is none */
     size_t count;      /* how many values there are: 0 to 32; 1 of BB_WRITE, the new value; none of BB_READ */
     const bb_value *values;
@@ -152,7 +154,7 @@ bb_state bb_begin(bb_engine *engine, const char *text, size_t bytes);
 const bb_ask *bb_asked(const bb_engine *engine);
 
 /* Answers the ask, and goes on to the next one (BB_ASKS) or to the end of the command (BB_DONE). BB_BUSY where none
-   waits. */
+   waits. To what is posted nothing is answered, and `answer` may be NULL. */
 bb_state bb_resume(bb_engine *engine, const bb_answer *answer);
 
 /* The lines of the reply to the last command that was done, each with its LF: events, errors, denials, and one line for

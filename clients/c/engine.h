@@ -41,7 +41,8 @@ void bb_arrived(struct bb_stack *stack);
 
 /* ---- Lines (lines.c) */
 
-/* The ask that a line spells, with its LF; the values are put where `values` is. False where it spells none. */
+/* The ask or the post that a line spells, with its LF; the values are put where `values` is. False where it spells
+   none. */
 bool bb_read_ask(const char *line, size_t bytes, bb_ask *ask, bb_value values[MOST_ARGUMENTS]);
 
 /* Writes the line of an answer, with its LF, and gives its bytes. */
@@ -76,7 +77,7 @@ struct bb_engine {
     size_t input_at, input_count;
     bool input_ended;
 
-    char *output; /* what the program wrote since the command began, but for asks that were read, and a 0 after it */
+    char *output; /* what the program wrote since the command began, but for what was read of it, and a 0 after it */
     size_t output_bytes, output_room;
     int error; /* the program's errno */
 

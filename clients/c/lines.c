@@ -109,11 +109,12 @@ static bool take_object(struct reader *reader, bb_ask *ask)
     return ask->has_object ? take_number(reader, &ask->object) : take(reader, "-");
 }
 
-/* `ask DRIVER KIND F OBJECT (V,V)` */
+/* `ask DRIVER KIND F OBJECT (V,V)`, or the same with `post` */
 bool bb_read_ask(const char *line, size_t bytes, bb_ask *ask, bb_value values[MOST_ARGUMENTS])
 {
     struct reader reader = {line, line + bytes};
-    return take(&reader, "ask ") && take_small_number(&reader, &ask->driver) && take_ask_kind(&reader, &ask->kind) &&
+    ask->posted = take(&reader, "post ");
+    return (ask->posted || take(&reader, "ask ")) && take_small_number(&reader, &ask->driver) && take_ask_kind(&reader, &ask->kind) &&
            take_small_number(&reader, &ask->function) && take(&reader, " ") && take_object(&reader, ask) &&
            take(&reader, " ") && take_values(&reader, ask, values) && take(&reader, "\n") && reader.at == reader.end;
 }

@@ -20,6 +20,9 @@ enum { INPUT = 0, OUTPUT = 1, ERRORS = 2, PROFILE = 3 };
    lives on. trials/inproc.sh refuses each growth of many commands in turn, and prints how many the program needs. */
 enum { READING = 128 };
 
+/* The bytes of posts that are kept for the host: with as many it is given them before the program goes on. */
+enum { MOST_POSTS = 64 << 10 };
+
 int bb_program_main(void);
 
 /* The engine whose program runs in this thread. */
@@ -42,11 +45,36 @@ static void wait_for_host(bb_engine *engine, bb_state state)
     bb_to_host(&engine->stack);
 }
 
+/* The bytes of the line that a text begins with, if it is a post, which is read then; else 0. */
+static size_t read_post(bb_engine *engine, const char *text, size_t bytes)
+{
+    const char *end = bytes > 5 && memcmp(text, "post ", 5) == 0 ? memchr(text, '\n', bytes) : NULL;
+    size_t line = end ? (size_t)(end + 1 - text) : 0;
+    return line && bb_read_ask(text, line, &engine->ask, engine->values) ? line : 0;
+}
+
+/* Gives the host what was posted since it last answered, one after the other, and takes it out of the output, in which
+   it stands first. Once the input has ended the host is told nothing more. */
+static void give_posts(bb_engine *engine)
+{
+    size_t at = 0, line;
+    while ((line = read_post(engine, engine->output + at, engine->output_bytes - at)) != 0) {
+        at += line;
+        if (!engine->input_ended)
+            wait_for_host(engine, BB_ASKS);
+    }
+    if (!at)
+        return;
+    engine->output_bytes -= at;
+    memmove(engine->output, engine->output + at, engine->output_bytes + 1);
+}
+
 void bb_begin_program(void)
 {
     bb_engine *engine = now;
     bb_arrived(&engine->stack);
     engine->status = bb_program_main();
+    give_posts(engine);
     (void)bb_take_last_line(engine);
     for (;;)
         wait_for_host(engine, BB_ENDED);
@@ -165,6 +193,8 @@ ssize_t bb_write(int stream, const void *bytes, size_t count)
         memcpy(engine->output + engine->output_bytes, bytes, count);
     engine->output_bytes += count;
     engine->output[engine->output_bytes] = 0;
+    if (engine->output_bytes >= MOST_POSTS)
+        give_posts(engine);
     return (ssize_t)count;
 }
 
@@ -185,7 +215,7 @@ bb_state bb_take_last_line(bb_engine *engine)
     bb_state state = BB_ENDED;
     if (bytes == 5 && memcmp(line, "done\n", 5) == 0)
         state = BB_DONE;
-    else if (bb_read_ask(line, bytes, &engine->ask, engine->values))
+    else if (bb_read_ask(line, bytes, &engine->ask, engine->values) && !engine->ask.posted)
         state = BB_ASKS;
     if (state != BB_ENDED) {
         engine->output_bytes -= bytes;
@@ -220,6 +250,7 @@ static size_t given_of_input(bb_engine *engine, void *bytes, size_t count)
    ever. */
 static void hear_host(bb_engine *engine)
 {
+    give_posts(engine);
     bb_state state = bb_take_last_line(engine);
     if (state == BB_ENDED)
         engine->input_ended = true;

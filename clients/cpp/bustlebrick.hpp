@@ -406,7 +406,7 @@ class Talk {
     virtual pid_t pid() const { return 0; }
 };
 
-// The ask that a line `ask DRIVER KIND F OBJECT (V,V)` is, in which F is the entry's number.
+// The ask that a line `ask DRIVER KIND F OBJECT (V,V)` is, or one with `post`, in which F is the entry's number.
 inline Answer answer(const std::string& ask, const Host& host) {
     static const std::string kinds[] = {"make", "call", "read", "write"};
     auto words = split(ask, ' ');
@@ -452,13 +452,14 @@ class Process : public Talk {
         send(text);
         for (auto line = this->line(); line != "done"; line = this->line()) {
             if (!line) return ended();
-            if (line->rfind("ask ", 0) != 0) {
+            bool is_ask = line->rfind("ask ", 0) == 0;
+            if (!is_ask && line->rfind("post ", 0) != 0) {
                 host.hear(*line);
                 continue;
             }
             auto said = detail::text(answer(*line, host)) + "\n";
             left(deadline_);
-            send(said);
+            if (is_ask) send(said);
         }
         return std::nullopt;
     }
@@ -708,8 +709,13 @@ class Profile {
 
     // A function without objects, or with those of a type. An object that it gives is one that scripts hold.
     template <class F> void function(const std::string& declaration, F call, const std::string& type = "") {
-        auto driver = type.empty() ? 0 : std::find(types_.begin(), types_.end(), type) - types_.begin() + 1;
-        add("function " + std::to_string(driver), declaration, detail::asked(call));
+        add("function " + driver(type), declaration, detail::asked(call));
+    }
+
+    // A `void` function that is posted: the script goes on at once, before the callable has run. What that throws is the
+    // reply's cause, and no fault of the script.
+    template <class F> void posted(const std::string& declaration, F call, const std::string& type = "") {
+        add("posted " + driver(type), declaration, detail::asked(call));
     }
 
     // A global property that scripts only read. It is declared `const`.
@@ -762,6 +768,10 @@ class Profile {
 
   private:
     friend class Engine;
+
+    std::string driver(const std::string& type) const {
+        return std::to_string(type.empty() ? 0 : std::find(types_.begin(), types_.end(), type) - types_.begin() + 1);
+    }
 
     void add(const std::string& words, const std::string& declaration, detail::Asked asked,
              detail::Asked written = {}) {

@@ -152,12 +152,14 @@ class Form(NamedTuple):
 
 Answer = Tuple[Form, int]
 VOID, MADE, NOTHING, FAULT = Form("void", 0), Form("made #{}", 2), Form("nothing", 3), Form("fault {}", 4)
+MEMORY = Form("memory", 5)
 INT, UINT, FALSE, TRUE = Form("{}", 1, 0), Form("{}u", 1, 1), Form("false", 1, 2), Form("true", 1, 2)
 KEY, NULL = Form("#{}", 1, 3), Form("null", 1, 4)
 
 
 class Conversation:
-    """The lines to and from an engine's process. `answer` is given each line ``ask ..``, and gives its answer."""
+    """The lines to and from an engine's process. `answer` is given each line ``ask ..``, and gives its answer; and each line
+    ``post ..``, to which nothing is said."""
 
     def __init__(self, words: Sequence[str], answer: Callable[[str], str]) -> None:
         self._answer = answer
@@ -196,6 +198,9 @@ class Conversation:
                     answer = self._answer(line)
                     _left(self._deadline)
                     self._send(answer.encode() + b"\n")
+                elif line.startswith("post "):
+                    self._answer(line)
+                    _left(self._deadline)
                 else:
                     hear(line)
         except BaseException:
@@ -439,6 +444,11 @@ class Profile:
         """A function without objects: ``function("int64 sum(int64, int64)", operator.add)``."""
         self.add("function 0", declaration, call=call)
 
+    def posted(self, declaration: str, call: Asked) -> None:
+        """A ``void`` function without objects that is posted: the script goes on at once, before `call` has run. What that
+        raises is the reply's cause, and no fault of the script."""
+        self.add("posted 0", declaration, call=call)
+
     def global_property(self, declaration: str, get: Asked, set: Optional[Asked] = None) -> None:
         """A global property. Without `set` it is to be declared ``const``."""
         self.add("global 0", declaration, read=get, **({"write": set} if set else {}))
@@ -472,6 +482,10 @@ class Type(NamedTuple):
     def function(self, declaration: str, call: Asked) -> None:
         """A function with objects of this type. One that it gives is one that scripts hold."""
         self.profile.add(f"function {self.driver}", declaration, call=call)
+
+    def posted(self, declaration: str, call: Asked) -> None:
+        """A ``void`` function with objects of this type that is posted, as `Profile.posted`."""
+        self.profile.add(f"posted {self.driver}", declaration, call=call)
 
 
 class Engine(AbstractContextManager["Engine"]):
@@ -678,6 +692,9 @@ class Engine(AbstractContextManager["Engine"]):
             if "@" in entry.type:
                 return (NULL, 0) if result is None else (KEY, self._key(result))
             return _formed(result, entry.type)
+        except MemoryError as error:
+            self._cause = error
+            return MEMORY, 0
         except Exception as error:
             self._cause = error
             return FAULT, error.number if isinstance(error, Fault) else UNEXPECTED

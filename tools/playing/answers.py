@@ -124,7 +124,7 @@ class Host:
         if registered.word == "property" and hasattr(values[0], registered.name):
             return True, _attribute(values[0], registered.name, values[1:])
         name = registered.owner if kind == "make" else registered.name
-        if registered.word in ("function", "factory") and name in self.names:
+        if registered.word in ("function", "posted", "factory") and name in self.names:
             return True, self.names[name](*values)
         if registered.word == "global" and name in self.names:
             return True, _global(self.names, name, values)

@@ -12,6 +12,7 @@ FORMS = {
     "method": r"([^ ]+) ([0-9]{1,10}) (.+)",
     "property": r"([^ ]+) ([0-9]{1,10}) (.+)",
     "function": r"([0-9]{1,10}) ([0-9]{1,10}) (.+)",
+    "posted": r"([0-9]{1,10}) ([0-9]{1,10}) (.+)",
     "global": r"([0-9]{1,10}) ([0-9]{1,10}) (.+)",
     "enum": r"([^ ]+)",
     "value": r"([^ ]+) ([^ ]+) (-?[0-9]{1,10})",
@@ -25,13 +26,21 @@ WANTED = {
     "method": "method TYPE F DECLARATION",
     "property": "property TYPE F DECLARATION",
     "function": "function DRIVER F DECLARATION",
+    "posted": "posted DRIVER F DECLARATION, of a function without a result",
     "global": "global DRIVER F DECLARATION",
     "enum": "enum NAME",
     "value": "value ENUM NAME NUMBER",
     "blank": "blank",
     "limit": "limit events, slots or objects, and a number",
 }
-ASKED = {"factory": ["make"], "method": ["call"], "function": ["call"], "property": ["read", "write"], "global": ["read", "write"]}
+ASKED = {
+    "factory": ["make"],
+    "method": ["call"],
+    "function": ["call"],
+    "posted": ["call"],
+    "property": ["read", "write"],
+    "global": ["read", "write"],
+}
 
 
 class BadProfile(Exception):

@@ -86,6 +86,7 @@ REFUSALS = {
     "UnknownType": "a type that the line names is not registered before it",
     "WrongDriver": "the driver's number is above 63, has a type already, or the declaration names a type of another driver",
     "Duplicate": "the name is taken",
+    "NotVoid": "a function that is posted has no result",
 }
 
 

@@ -1,5 +1,5 @@
 #!/usr/bin/env python3
-"""Random scripts under random limits: what asremote says is what docs/EMBEDDING.md, "Limits", makes of them.
+"""Random scripts under random limits: what asremote says is what docs/HOST.md, "Limits", makes of them.
 
     trials/clients/bounds.py ASREMOTE [NUMBER [FIRST]]
 

@@ -1,8 +1,9 @@
 """What the trials of sessions share (sessions.py here, and trials/inproc/sessions.py): the sessions, and what is done with them.
 
 The sessions are those of crates/examples and crates/asrun, with the rows of files but for those in which a driver fails, a
-line stands that conversations alone have, or a section lacks lines; and COUNT generated ones (1000, if left out). Of each
-the text of all replies, and the exit status, have to be those of asrun.
+line stands that conversations alone have, or a section lacks lines; and COUNT generated ones (1000, if left out), and a
+tenth of these again over a profile that has functions posted. Of each the text of all replies, and the exit status, have to
+be those of asrun.
 """
 
 import os
@@ -120,13 +121,20 @@ class Trial:
                 self.compare(name, profile, session)
             self.tell("sessions of the examples")
             self.begin()
+            write(profile, generated.POSTED)
+            self._compare_generated(profile, session, range(0, count, 10), seed)
+            self.tell("generated sessions with functions that are posted")
+            self.begin()
             write(profile, generated.PROFILE)
-            for at in range(count):
-                write(session, generated.Session(seed * 1_000_000 + at).text())
-                self.compare(f"generated session {at} of seed {seed}", profile, session)
+            self._compare_generated(profile, session, range(count), seed)
             self.tell("generated sessions")
         for word, number in self.words.most_common():
             print(f"    {number:7} {word}")
+
+    def _compare_generated(self, profile, session, numbers, seed):
+        for at in numbers:
+            write(session, generated.Session(seed * 1_000_000 + at).text())
+            self.compare(f"generated session {at} of seed {seed}", profile, session)
 
 
 def first_difference(way, found, wanted):

@@ -35,6 +35,9 @@ function 0 1 uint bad(int64, int64)
 global 0 0 const int64 limit
 """
 
+# The same, of which the functions that note values are posted.
+POSTED = PROFILE.replace("function 0 0 void", "posted 0 0 void")
+
 MODULES = ["a", "b", "c"]
 
 

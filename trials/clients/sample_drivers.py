@@ -1,4 +1,4 @@
-"""The drivers of asrun, `Console`, `Counter` and `Cell`, as a host of asremote has them (docs/EMBEDDING.md, "Console").
+"""The drivers of asrun, `Console`, `Counter` and `Cell`, as a host of asremote has them (docs/RATTLE_HOST.md, "Console").
 
 Each has a method `asked(kind, f, object, values)`, which gives the text of the answer. Values stay texts, since the
 drivers tell a signed value from an unsigned one. A counter can't tell how many references were added (its function 2):
@@ -127,7 +127,7 @@ class Drivers:
         self.asks = 0
 
     def answer(self, line):
-        """The answer to a line `ask DRIVER KIND F OBJECT (V,V)`."""
+        """The answer to a line `ask DRIVER KIND F OBJECT (V,V)`, or to one with `post`, to which nothing is said."""
         _, driver, kind, f, object, values = line.split(" ")
         self.asks += 1
         key = None if object == "-" else int(object[1:])

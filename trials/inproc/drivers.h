@@ -1,4 +1,4 @@
-/* The drivers of asrun, `Console` (0), `Counter` (1) and `Cell` (2), for hosts in C (docs/EMBEDDING.md, "Console"). */
+/* The drivers of asrun, `Console` (0), `Counter` (1) and `Cell` (2), for hosts in C (docs/RATTLE_HOST.md, "Console"). */
 #ifndef DRIVERS_H
 #define DRIVERS_H
 

@@ -1,7 +1,7 @@
 """Random scripts of classes, handles and host objects, of what AngelScript and this engine mean alike.
 
 Of the operands, arguments and the receiver of an operation one at most calls something, and the others are then literals
-and locals; or it is the difference of two calls. Kept out is what docs/COMING_FROM_ANGELSCRIPT.md has as different.
+and locals; or it is the difference of two calls. Kept out is what docs/COMING_FROM.md has as different.
 """
 import re
 

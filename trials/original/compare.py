@@ -1,5 +1,5 @@
 #!/usr/bin/env python3
-"""Runs scripts with the AngelScript library, and compares with what docs/COMING_FROM_ANGELSCRIPT.md says of them, or with what
+"""Runs scripts with the AngelScript library, and compares with what docs/COMING_FROM.md says of them, or with what
 the session crates/examples/data/same.session gives, whose scripts are to end there as they do here.
 
     trials/original/compare.py
@@ -10,7 +10,7 @@ that ends there, and where its table is of what is left out. Prints each script 
 import os, re, subprocess, sys, tempfile
 
 HERE = os.path.dirname(os.path.abspath(__file__))
-DOC = os.path.join(HERE, "../../docs/COMING_FROM_ANGELSCRIPT.md")
+DOC = os.path.join(HERE, "../../docs/COMING_FROM.md")
 SAME = os.path.join(HERE, "../../crates/examples/data/same")
 
 

@@ -1,6 +1,6 @@
 // Builds the script on standard input with the AngelScript library, calls its function m, and prints how that ended:
 // "ok V", "exception TEXT" or "refused", after what the script asked the host. What the library says of a build goes to
-// standard error. The masks are those of docs/COMING_FROM_ANGELSCRIPT.md.
+// standard error. The masks are those of docs/COMING_FROM.md.
 #define AS_USE_NAMESPACE
 #include <angelscript.h>
 #include <angelscript/scriptarray.h>

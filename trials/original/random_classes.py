@@ -7,7 +7,7 @@ Needs g++ and Debian's angelscript-dev. ASRUN is the executable of crates/asrun.
 the call, each call of the host with its object, arguments and answer, and the ends of the host's objects, in order. Prints
 each script that goes otherwise, how many ended how, and in how many what was made happened.
 
-The scripts (class_scripts.py) keep to what both languages mean alike (docs/COMING_FROM_ANGELSCRIPT.md, "Different"). The
+The scripts (class_scripts.py) keep to what both languages mean alike (docs/COMING_FROM.md, "Different"). The
 library gives up an object's fields, parameters, globals and what a fault leaves in another order, and collects objects of a
 class with a handle to what others may derive from ("Ends of objects" there). So a script is of one of three kinds:
 ordered    there is one handle at most among the fields of an object, the parameters of a function and the globals, and

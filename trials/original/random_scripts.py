@@ -6,7 +6,7 @@
 Needs g++ and Debian's angelscript-dev. ASRUN is the executable of crates/asrun. Prints each script that ends otherwise,
 and how many ended how.
 
-The scripts keep to what both languages mean alike (docs/COMING_FROM_ANGELSCRIPT.md, "Different"): no operation mixes
+The scripts keep to what both languages mean alike (docs/COMING_FROM.md, "Different"): no operation mixes
 signed and unsigned numbers, ~ is taken of unsigned ones and >>> of signed ones, none has constants alone (the library
 works these out otherwise than it runs them), no operand or argument changes what another reads, an &out parameter is
 given a value before it is read, a global reads those in front of it, and every loop ends. They ask the host's function

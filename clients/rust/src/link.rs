@@ -82,6 +82,7 @@ impl Talk for Link {
                     let answer = answer(ask, host) + "\n";
                     self.send(&answer, deadline)?;
                 }
+                post if post.starts_with("post ") => drop(answer(post, host)),
                 _ => host.hear(line),
             }
         }
@@ -99,7 +100,8 @@ impl Drop for Link {
     }
 }
 
-/// The answer to `ask DRIVER KIND F OBJECT (V,V)`, in which F is the entry's number.
+/// The answer to `ask DRIVER KIND F OBJECT (V,V)`, in which F is the entry's number; and to the same with `post`, to which
+/// nothing is said.
 fn answer(ask: &str, host: &mut Host) -> String {
     let [_, _, kind, entry, object, values] = ask.split(' ').collect::<Vec<_>>()[..] else { return "?".to_owned() };
     let kind = match kind {

@@ -49,9 +49,13 @@ impl Profile {
 
     /// A function. Where it has objects it is the driver's of their type, and one that it gives is one that scripts hold.
     pub fn function<V>(&mut self, declaration: &str, call: impl Function<V>) {
-        let mut words = declaration.split(|c: char| !c.is_alphanumeric() && c != '_');
-        let driver = words.find_map(|word| self.types.iter().position(|name| name == word)).map_or(0, |at| at + 1);
-        self.add(&format!("function {driver}"), declaration, call.asked(), None);
+        self.add(&format!("function {}", self.driver_of(declaration)), declaration, call.asked(), None);
+    }
+
+    /// A `void` function that is posted: the script goes on at once, before the closure has run. A fault that it gives, or a
+    /// panic, is not told to the script.
+    pub fn posted<V>(&mut self, declaration: &str, call: impl Function<V>) {
+        self.add(&format!("posted {}", self.driver_of(declaration)), declaration, call.asked(), None);
     }
 
     /// A global property that scripts only read. It is declared `const`.
@@ -77,6 +81,12 @@ impl Profile {
     /// A property of a type.
     pub fn property<V, W>(&mut self, of: &str, declaration: &str, get: impl Function<V>, set: impl Function<W>) {
         self.add(&format!("property {of}"), declaration, get.asked(), Some(set.asked()));
+    }
+
+    /// The driver of the first type that a declaration names.
+    fn driver_of(&self, declaration: &str) -> usize {
+        let mut words = declaration.split(|c: char| !c.is_alphanumeric() && c != '_');
+        words.find_map(|word| self.types.iter().position(|name| name == word)).map_or(0, |at| at + 1)
     }
 
     /// What is declared by its name alone.

@@ -1,4 +1,4 @@
--- That hidden registrations do not matter: what a module's mask hides is not felt (docs/MEANING.md,
+-- That hidden registrations do not matter: what a module's mask hides is not felt (docs/CLAIMS.md,
 -- "What hidden registrations change").
 use Rattle.std.specs.Prelude.{◌≡◌, ◌≤◌, ℕ, true, List, [], ◌∷◌, length, Some, map as list_map}
 use Rattle.ang_host.specs.declared.answer.HostReply.{HostReply}

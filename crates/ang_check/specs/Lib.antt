@@ -1,5 +1,5 @@
-pub mod Positions
 pub mod Typing
+pub mod Positions
 pub mod View
 pub mod Bodies
 pub mod Judging

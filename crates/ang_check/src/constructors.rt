@@ -1,5 +1,5 @@
 //! Bodies of constructors, and the call of the base class's with which each begins.
-ghost use Rattle.std.specs.Prelude.{◌≡◌, ◌<◌, ◌∷◌, [], Some, option_map, IfOk, map as list_map};
+ghost use Rattle.std.specs.Prelude.{◌≡◌, ◌<◌, ◌∷◌, [], Some, option_map, IfOk, Ok, map as list_map};
 ghost use Rattle.ang_tree.specs.View as trees;
 ghost use Rattle.ang_typed.specs.Typed as tree;
 ghost use Rattle.ang_typed.specs.declared.expression.TypedCallee.TheVariants as callee;
@@ -430,6 +430,10 @@ pub fn constructor_typing<'a>(
         function.now written.now.name base_name.now base
         (option_map trees.view_super written.now.super_call)
         (trees.view_stmts written.now.statements.items)) }
+    ensures positions { IfOk result (λ f. Ok f.positions ≡ places.typed_positions
+        context.entry within function.now written.now.name base_name.now base
+        (option_map trees.view_super written.now.super_call)
+        (trees.view_stmts written.now.statements.items) written.now.close) }
 {
     let mut locals = member_locals(alloc, within, function)?;
     let first = base_typing(

@@ -1,6 +1,6 @@
 //! The denials of a build that was refused.
-ghost use Rattle.std.specs.Prelude.{◌≡◌, [], IfOk, option_copied, map as list_map};
-ghost use Rattle.std.specs.List.{flat_map};
+ghost use Rattle.std.specs.Prelude.{◌≡◌, [], IfOk, is_some, option_copied, map as list_map};
+ghost use Rattle.std.specs.List.{flat_map, list_any};
 ghost use Rattle.ang_view.specs.Registration.{seen};
 ghost use Rattle.ang_names_listed.specs.Declarations.{declarations_of};
 ghost use Rattle.ang_names_known.specs.Spaces.{AreFamilies};
@@ -92,12 +92,25 @@ fn rows_of_bodies(
     rows_over(alloc, masked, view, names, judged.refused.as_slice())
 }
 
+/// Whether something is hidden: `hidden` is what a mask hides of a list.
+fn hides_any(hidden: &View) -> bool
+    ensures exact { result ≡ list_any is_some hidden.now }
+{
+    hidden.entries().iter().any(|entry| entry.is_some())
+}
+
+fn no_rows(alloc: Global) -> Vec<Denial>
+    ensures none { result.items ≡ [] }
+{
+    Vec::new(alloc)
+}
+
 /// The denials of a build of these scripts for a module of this mask: for each refused use the hidden entries by which it
 /// would have been resolved, and the types that come with them, in the order of the errors, and of each in the order of
 /// entries (docs/LANGUAGE.md, "Denials").
 ///
 /// `names` are those that `declare` gave, if it did; the errors are those of `declare`, or else those of `check`, over what
-/// the mask shows. The only error is want of memory.
+/// the mask shows. Where the mask hides nothing, nothing is judged again. The only error is want of memory.
 #[tactic(auto, unfolding(crate::specs::Denials::denials_of), using(crate::proofs::Asking::phases_refuse, crate::proofs::Asking::bodies_refuse))]
 pub fn denials(
     alloc: Global,
@@ -115,8 +128,11 @@ pub fn denials(
     if errors.is_empty() {
         return Ok(Vec::new(alloc));
     }
-    let view = registry.seen(alloc, mask)?;
     let hidden = registry.hidden(alloc, mask)?;
+    if !hides_any(&hidden) {
+        return Ok(no_rows(alloc));
+    }
+    let view = registry.seen(alloc, mask)?;
     let whole = registry.whole(alloc)?;
     let masked = Masked::new(&whole, &hidden, mask);
     match names {

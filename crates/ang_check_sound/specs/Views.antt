@@ -1,4 +1,4 @@
--- What a module of a mask may ask the host for (docs/EMBEDDING.md, "Masks").
+-- What a module of a mask may ask the host for (docs/HOST.md, "Masks").
 use Rattle.std.specs.Prelude.{◌≡◌, ℕ, true, Some}
 use Rattle.ang_view.specs.declared.entry.Entry.{Entry}
 use Rattle.ang_view.specs.Registration.{RegistrationList, entry_at, is_seen}

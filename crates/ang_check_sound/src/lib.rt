@@ -1,4 +1,4 @@
-//! What the checker promises of the tree that it gives (docs/MEANING.md, "What a script means"): `laws` has it,
+//! What the checker promises of the tree that it gives (docs/CLAIMS.md, "What a script means"): `laws` has it,
 //! and `specs/` what it is said of.
 #![tactic(auto)]
 

@@ -18,7 +18,7 @@ fn first_token(expression: &Expression) -> Token
         Expression::Call { name, .. } => *name,
         Expression::ScopedCall { class, .. } => *class,
         Expression::ScopedName { enumeration, .. } => *enumeration,
-        Expression::Cast { word, .. } => *word,
+        Expression::Cast { tokens, .. } => tokens.word,
         Expression::Convert { primitive, .. } => *primitive,
         Expression::Parenthesized { open, .. } => *open,
         Expression::Postfix { operand, .. } => first_token(operand),

@@ -140,7 +140,7 @@ fn arguments_in(
     ensures exact { Gives (λ v. list_map view_arg v.items) result
         (spec.arguments_for lineage.now params.now (view_operands operands.items)) }
 {
-    let mut arguments = Vec::new(alloc);
+    let mut arguments = Vec::with_capacity(alloc, operands.len())?;
     let mut rest = operands.into_iter();
     for param in params {
         let Some(operand) = rest.next() else {

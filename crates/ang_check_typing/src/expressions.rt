@@ -144,15 +144,10 @@ fn typing_over_object(
         (spec.typing_of context.now locals.now (trees.view_expr expression.now)) }
 {
     match expression {
-        Expression::Cast {
-            word,
-            target,
-            operand,
-            ..
-        } => {
-            let ty = cast_type(context, locals, target)?;
+        Expression::Cast { tokens, operand } => {
+            let ty = cast_type(context, locals, &tokens.target)?;
             let written = typing(alloc, context, locals, operand)?;
-            cast(alloc, word, ty, written)
+            cast(alloc, &tokens.word, ty, written)
         }
         Expression::Member { object, name, .. } => {
             let object = typing(alloc, context, locals, object)?;

@@ -1,5 +1,5 @@
 //! Instructions of the stack machine. In `specs/` stands what each of them does: the code's own meaning
-//! (docs/MEANING.md, "Code").
+//! (docs/CLAIMS.md, "Code").
 #![tactic(auto)]
 
 mod instruction;

@@ -1,5 +1,5 @@
 -- What a body of the core tree does, by cases on the tree: the value or the fault, the ticks that are left, and the world
--- (docs/MEANING.md, "What a body does"; the AngelScript manual, "Expressions", "Statements" and "Functions").
+-- (docs/CLAIMS.md, "What a body does"; the AngelScript manual, "Expressions", "Statements" and "Functions").
 use Rattle.std.specs.Prelude.{ℕ, List, [], ◌∷◌, length, None}
 use Rattle.ang_kinds.specs.declared.fault.Fault.TheVariants.{Null, Budget}
 use Rattle.ang_meaning.specs.declared.slot.Slot.{Slot}

@@ -1,5 +1,5 @@
 //! The core tree: a script's bodies in a few forms, with every name a number and every conversion written
-//! out. In `specs/` stands what such a body does, by cases on the tree (docs/MEANING.md, "What a body does").
+//! out. In `specs/` stands what such a body does, by cases on the tree (docs/CLAIMS.md, "What a body does").
 #![tactic(auto)]
 
 mod tree;

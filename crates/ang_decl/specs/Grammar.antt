@@ -1,4 +1,4 @@
--- Host declarations as they are written, and the tokens that spell them. (docs/EMBEDDING.md, "Declarations": types, parameters
+-- Host declarations as they are written, and the tokens that spell them. (docs/HOST.md, "Declarations": types, parameters
 -- and names are those of docs/LANGUAGE.md, "Grammar", with `@+` beside `@`; `@+` is two tokens.)
 use Rattle.std.specs.Prelude.{◌≡◌, Bool, true, false, ◌&&◌, is_none, List, [], ◌∷◌, Option, Some, None}
 use Rattle.ang_lex.specs.declared.token.Token.{Token}

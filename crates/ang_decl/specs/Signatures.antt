@@ -1,4 +1,4 @@
--- Which declarations hosts can use, and what they declare (docs/EMBEDDING.md, "Declarations"; the AngelScript manual,
+-- Which declarations hosts can use, and what they declare (docs/HOST.md, "Declarations"; the AngelScript manual,
 -- "Registering a function" and "Object handles to the application").
 use Rattle.std.specs.Prelude.{ℕ, Bool, false, not, ◌&&◌, ◌||◌, is_some, is_none, if◌then◌else◌, List, [], map, Option, Some, None}
 use Rattle.std.specs.List.{list_all}

@@ -8,7 +8,7 @@ use ang_parse_read::ReadError;
 use std::alloc::{AllocError, AllocFailed};
 use thiserror::Error;
 
-/// Why a text is no host declaration (docs/EMBEDDING.md, "Declarations").
+/// Why a text is no host declaration (docs/HOST.md, "Declarations").
 #[derive(Clone, Copy, PartialEq, Eq, Debug, Error)]
 pub enum DeclError {
     /// The text has no tokens, or they are no declaration of the form that the call takes.

@@ -1,5 +1,5 @@
 //! Declarations of a host: the texts by which functions, methods, factories and properties are
-//! registered (docs/EMBEDDING.md, "Declarations").
+//! registered (docs/HOST.md, "Declarations").
 //!
 //! `specs/Grammar.antt` has the grammar as a relation between declarations and lists of tokens,
 //! `specs/Signatures.antt` which of them are taken, and what signature each declares. The five parsers

@@ -38,7 +38,7 @@ from_plain fits s a (Fault n) t p h = h
 from_plain fits s a Memory t p h = h
 from_plain fits s a Full t p h = absurd p
 
-live_plain : (s : State) (x : Answer) → IsPlain x → IsLiveAnswer s x
+pub live_plain : (s : State) (x : Answer) → IsPlain x → IsLiveAnswer s x
 live_plain s Void p = tt
 live_plain s (Gave (Int z)) p = tt
 live_plain s (Gave (Uint n)) p = tt

@@ -1,8 +1,8 @@
 -- Tables of one core are the same table.
-use Rattle.std.specs.Prelude.{ℕ, ℤ, ◌≡◌, cond, nat_eq, List, [], ◌∷◌, ◌++◌}
+use Rattle.std.specs.Prelude.{ℕ, ℤ, ◌≡◌, cond, nat_eq, List, [], ◌∷◌, ◌++◌, length, map as list_map}
 use Rattle.std.specs.FinMap as map
 use Rattle.std.specs.FinMap.{same_entries_map}
-use Rattle.std.proofs.Common.{refl, sym, ◌∙◌, ap}
+use Rattle.std.proofs.Common.{refl, sym, ◌∙◌, ap, arith}
 use Rattle.ang_kinds.specs.declared.value.Value.TheVariants.{Int}
 use Rattle.ang_drivers.specs.declared.counter.Count.{Count}
 use Rattle.ang_drivers.specs.declared.faulty.Failing.{Failing}
@@ -13,6 +13,8 @@ use Rattle.ang_drivers.specs.Tables.{numbers_of, core_of}
 use Rattle.ang_drivers.specs.Counter.{count_code}
 use Rattle.ang_drivers.specs.Faulty.{failing_code, faulty_core}
 use Rattle.ang_drivers.specs.Cell.{value_code}
+use Rattle.ang_drivers.specs.IntList.{list_code}
+use Rattle.ang_drivers.specs.IntMap.{Pairs, codes_of, map_code}
 use Rattle.ang_drivers.proofs.Codes.{code_of-injective}
 
 -- the numbers of a value can be told from those that follow
@@ -72,3 +74,52 @@ faulty_differ m n g h x y e =
     let how : failing_code g ≡ failing_code h = cc in
     let rest : core_of count_code x ≡ core_of count_code y = cc in
     (left, sym (read_back g) ∙ ap failing_of how ∙ read_back h, cores_differ count_code count-readable x y rest)
+
+-- lists of one length can be told from what follows
+numbers_told : (v w : List ℤ) (xs ys : List ℕ) → length v ≡ length w → list_map (λ z. code_of (Int z)) v ++ xs ≡ list_map (λ z. code_of (Int z)) w ++ ys → (v ≡ w) × (xs ≡ ys)
+numbers_told [] [] xs ys n h = (refl, h)
+numbers_told [] (b ∷ w) xs ys n h = absurd (omega (arith, n))
+numbers_told (a ∷ v) [] xs ys n h = absurd (omega (arith, n))
+numbers_told (a ∷ v) (b ∷ w) xs ys n h =
+    let first : code_of (Int a) ≡ code_of (Int b) = cc in
+    let others : list_map (λ z. code_of (Int z)) v ++ xs ≡ list_map (λ z. code_of (Int z)) w ++ ys = cc in
+    let r = numbers_told v w xs ys (omega (arith, n)) others in
+    let same = int_differ a b first in (λ i. same i ∷ r.0 i, r.1)
+
+list-readable : IsReadable list_code
+list-readable v w xs ys h =
+    let n : length v ≡ length w = cc in
+    let t : list_map (λ z. code_of (Int z)) v ++ xs ≡ list_map (λ z. code_of (Int z)) w ++ ys = cc in
+    numbers_told v w xs ys n t
+
+pub list_cores : (m n : ℕ) (x y : Table (List ℤ)) → m ∷ core_of list_code x ≡ n ∷ core_of list_code y → (m ≡ n) × (x ≡ y)
+list_cores m n x y h =
+    let bound : m ≡ n = cc in
+    let rest : core_of list_code x ≡ core_of list_code y = cc in
+    (bound, cores_differ list_code list-readable x y rest)
+
+-- pairs of one number can be told from what follows
+pairs_told : (v w : Pairs) (xs ys : List ℕ) → length v ≡ length w → codes_of v ++ xs ≡ codes_of w ++ ys → (v ≡ w) × (xs ≡ ys)
+pairs_told [] [] xs ys n h = (refl, h)
+pairs_told [] (g ∷ w) xs ys n h = absurd (omega (arith, n))
+pairs_told (e ∷ v) [] xs ys n h = absurd (omega (arith, n))
+pairs_told (e ∷ v) (g ∷ w) xs ys n h =
+    let key : code_of (Int e.0) ≡ code_of (Int g.0) = cc in
+    let number : code_of (Int e.1) ≡ code_of (Int g.1) = cc in
+    let others : codes_of v ++ xs ≡ codes_of w ++ ys = cc in
+    let r = pairs_told v w xs ys (omega (arith, n)) others in
+    let k = int_differ e.0 g.0 key in
+    let z = int_differ e.1 g.1 number in
+    let first : e ≡ g = λ i. (k i, z i) in (λ i. first i ∷ r.0 i, r.1)
+
+map-readable : IsReadable map_code
+map-readable v w xs ys h =
+    let n : length v ≡ length w = cc in
+    let t : codes_of v ++ xs ≡ codes_of w ++ ys = cc in
+    pairs_told v w xs ys n t
+
+pub map_cores : (m n : ℕ) (x y : Table Pairs) → m ∷ core_of map_code x ≡ n ∷ core_of map_code y → (m ≡ n) × (x ≡ y)
+map_cores m n x y h =
+    let bound : m ≡ n = cc in
+    let rest : core_of map_code x ≡ core_of map_code y = cc in
+    (bound, cores_differ map_code map-readable x y rest)

@@ -34,6 +34,14 @@ pub insert_same : {X : Type 0} (m : map.FinMap nat_cmp X) (k : ℕ) (x : X) → 
 insert_same m k x h = same_map nat_cmp_total nat_cmp-IsAntisymmetric _ _
     (λ q. get-insert nat_cmp_total m k x q ∙ ap (λ b. cond b (Some x) (map.get m q)) (same_test q k) ∙ at_same m k q x h (nat_eq k q) refl)
 
+-- what is written over a value is what stands there
+pub insert_again : {X : Type 0} (m : map.FinMap nat_cmp X) (k : ℕ) (x y : X) → map.insert (map.insert m k x) k y ≡ map.insert m k y
+insert_again m k x y = same_map nat_cmp_total nat_cmp-IsAntisymmetric _ _
+    (λ q. get-insert nat_cmp_total (map.insert m k x) k y q
+    ∙ ap (λ o. cond (eq_by_cmp nat_cmp q k) (Some y) o) (get-insert nat_cmp_total m k x q)
+    ∙ shadow (eq_by_cmp nat_cmp q k) (Some y) (Some x) (map.get m q)
+    ∙ sym (get-insert nat_cmp_total m k y q))
+
 insert_removed : {X : Type 0} (m : map.FinMap nat_cmp X) (k : ℕ) (x : X) → map.insert (map.remove m k) k x ≡ map.insert m k x
 insert_removed m k x = same_map nat_cmp_total nat_cmp-IsAntisymmetric _ _
     (λ q. get-insert nat_cmp_total (map.remove m k) k x q

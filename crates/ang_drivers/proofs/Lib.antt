@@ -8,3 +8,9 @@ pub mod Cores
 pub mod Trials
 pub mod Limiting
 pub mod Spent
+pub mod Listing
+pub mod Bounding
+pub mod ListLaws
+pub mod Pairing
+pub mod MapLaws
+pub mod Rising

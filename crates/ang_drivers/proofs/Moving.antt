@@ -14,6 +14,7 @@ use Rattle.ang_drivers.specs.declared.objects.Objects.{Objects}
 use Rattle.ang_drivers.specs.Objects.{Ledger, Table, IsHeld, IsRevalued, Asks, Inserts, MakesOne, ReleasesOne, with_value, without}
 use Rattle.ang_drivers.specs.ObjectsLedger.{ledger}
 use Rattle.ang_drivers.specs.Tables.{core_of, state_of, Moves, CoreFits, MakesValue}
+use Rattle.ang_drivers.proofs.Ledgers.{insert_again}
 
 -- an answer that is not for want of a tally
 abbrev pub IsNotFull : Answer → Type 0
@@ -48,6 +49,15 @@ revalued t u k v e = record { counts = ap (λ x. x.counts) e; tally = ap (λ x. 
 
 pub revalued_table : {T : Type 0} (t u : Ledger T) (k : ℕ) (v w : T) → IsRevalued t k v u → v ≡ w → u.table ≡ with_value t.table k w
 revalued_table t u k v w e h = ap (λ x. x.table) e ∙ ap (λ x. with_value t.table k x) h
+
+-- a value that is put there for a while
+pub revalued_twice : {T : Type 0} (s t u : Ledger T) (k : ℕ) (v w : T) → IsRevalued s k v t → IsRevalued t k w u → IsRevalued s k w u
+revalued_twice {T} s t u k v w e f =
+    f ∙ ap (λ (x : Ledger T). record { counts = x.counts; table = with_value x.table k w; tally = x.tally }) e
+    ∙ ap (λ m. record { counts = s.counts; table = record { next = s.table.next; values = m }; tally = s.tally }) (insert_again s.table.values k v w)
+
+pub held_revalued : {T : Type 0} (s t : Ledger T) (k : ℕ) (v : T) → IsRevalued s k v t → IsHeld s k → IsHeld t k
+held_revalued s t k v e h = (h.0, ap (λ x. map.get x.counts k) e ∙ h.1)
 
 module _ {T : Type 0} (code : T → List ℕ) where
   pub sound_of : (o : Objects T) → IsSound (state_of code (ledger o))

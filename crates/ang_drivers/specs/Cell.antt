@@ -1,4 +1,4 @@
--- What the cell answers (docs/EMBEDDING.md).
+-- What the cell answers (docs/RATTLE_HOST.md).
 use Rattle.std.specs.Prelude.{ℕ, ℤ, ◌+ℤ◌, ◌≡◌, cond, nat_eq, List, [], ◌∷◌, Option, Some, None}
 use Rattle.std.specs.Int.{w32, int_wrap}
 use Rattle.std.specs.FinMap as map

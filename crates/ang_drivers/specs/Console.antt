@@ -1,4 +1,4 @@
--- What the console answers (docs/EMBEDDING.md). Its core is the register's code and then the codes of what it noted.
+-- What the console answers (docs/RATTLE_HOST.md). Its core is the register's code and then the codes of what it noted.
 use Rattle.std.specs.Prelude.{ℕ, ℤ, pos, negsuc, ◌+ℤ◌, FitsSigned, ◌+◌, ◌*◌, ◌^◌, ◌≡◌, ◌<◌, ◌≤◌, ◌⊎◌, Bool, true, false, cond, nat_eq, List, [], ◌∷◌, ◌++◌, Some, None, map as list_map}
 use Rattle.std.specs.Int.{w64}
 use Rattle.std.specs.FinMap as map

@@ -1,4 +1,4 @@
--- What the counter answers (docs/EMBEDDING.md).
+-- What the counter answers (docs/RATTLE_HOST.md).
 use Rattle.std.specs.Prelude.{ℕ, ℤ, pos, ◌+ℤ◌, ◌≡◌, cond, nat_eq, List, [], ◌∷◌, Option, Some, None}
 use Rattle.std.specs.Option.{option_map}
 use Rattle.std.specs.Int.{w32, int_wrap}

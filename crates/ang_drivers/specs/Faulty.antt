@@ -1,4 +1,4 @@
--- What the faulty driver answers (docs/EMBEDDING.md): what a counter does, but for one asking, which fails.
+-- What the faulty driver answers (docs/RATTLE_HOST.md): what a counter does, but for one asking, which fails.
 use Rattle.std.specs.Prelude.{ℕ, ◌-◌, ◌≡◌, ◌≢◌, ◌^◌, ◌⊎◌, List, ◌∷◌}
 use Rattle.ang_host.specs.declared.answer.Made.{Made}
 use Rattle.ang_host.specs.declared.answer.Made.TheVariants.{Nothing as MadeNothing, Fault as MadeFault, Memory as MadeMemory, Full as MadeFull}

@@ -12,3 +12,9 @@ pub mod Limited
 pub mod LimitedEvents
 pub mod Cell
 pub mod CellState
+pub mod Bounded
+pub mod IntList
+pub mod IntListState
+pub mod IntMap
+pub mod IntMapState
+pub mod Places

@@ -1,4 +1,4 @@
--- What a limited driver answers (docs/EMBEDDING.md): what the driver inside does, while host calls are left, and then a fault.
+-- What a limited driver answers (docs/RATTLE_HOST.md): what the driver inside does, while host calls are left, and then a fault.
 use Rattle.std.specs.Prelude.{ℕ, ◌-◌, ◌^◌, ◌≡◌, ◌≢◌, ◌<◌, ◌≤◌, ◌⊎◌, Bool, true, false, not, cond, nat_eq, List, ◌∷◌}
 use Rattle.ang_host.specs.declared.answer.Made.TheVariants.{Fault as MadeFault}
 use Rattle.ang_host.specs.declared.answer.Answer.TheVariants.{Void, Fault}

@@ -1,4 +1,4 @@
--- Objects with counts, as a driver keeps them (the AngelScript manual, "Registering reference types"; docs/EMBEDDING.md).
+-- Objects with counts, as a driver keeps them (the AngelScript manual, "Registering reference types"; docs/RATTLE_HOST.md).
 use Rattle.std.specs.Prelude.{ℕ, ◌+◌, ◌-◌, ◌≡◌, cond, Bool, true, false, List, Some, None, map as list_map}
 use Rattle.std.specs.Ordering.{nat_cmp}
 use Rattle.std.specs.FinMap as map

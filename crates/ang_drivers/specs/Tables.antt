@@ -1,6 +1,6 @@
 -- How the core of a driver with objects tells what it keeps, and what the drivers with objects have in common
--- (docs/EMBEDDING.md).
-use Rattle.std.specs.Prelude.{ℕ, ℤ, pos, negsuc, ◌≡◌, ◌^◌, ◌⊎◌, Bool, cond, nat_eq, nat_lt, List, [], ◌∷◌, ◌++◌, Option, Some, None}
+-- (docs/RATTLE_HOST.md).
+use Rattle.std.specs.Prelude.{ℕ, ℤ, pos, negsuc, ◌≡◌, ◌^◌, ◌⊎◌, Bool, false, cond, nat_eq, nat_lt, List, [], ◌∷◌, ◌++◌, Option, Some, None}
 use Rattle.std.specs.FinMap as map
 use Rattle.ang_kinds.specs.declared.value.Value.{Value}
 use Rattle.ang_kinds.specs.declared.value.Value.TheVariants.{Int, Uint, Bool as Truth, Key as KeyValue}
@@ -63,3 +63,8 @@ one_int_32 (v ∷ w ∷ vs) = None
 -- the object whose property is meant, where only the property 0 is known
 abbrev pub property_0 : ℕ → Option ℕ → Option ℕ
 property_0 f o = cond (nat_eq f 0) o None
+
+-- whether the factory 0 is asked, which takes nothing
+abbrev pub is_bare_making : ℕ → List Value → Bool
+is_bare_making f [] = nat_eq f 0
+is_bare_making f (v ∷ vs) = false

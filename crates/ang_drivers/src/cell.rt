@@ -33,7 +33,7 @@ enum CellCall {
     Unknown,
 }
 
-/// A driver whose objects hold a number in 32 bits (docs/EMBEDDING.md).
+/// A driver whose objects hold a number in 32 bits (docs/RATTLE_HOST.md).
 ///
 /// - `make` 0 takes one `Int` in 32 bits, the value of the new object. `make` 1 takes a key and an `Int`; the
 ///   new object's value is that of the key's object plus the `Int`, wrapped to 32 bits.

@@ -11,7 +11,7 @@ use std::alloc::{AllocError, Global};
 /// The answer where a sum does not fit into 64 bits.
 const OVERFLOW: u32 = 2;
 
-/// A driver without objects (docs/EMBEDDING.md).
+/// A driver without objects (docs/RATTLE_HOST.md).
 ///
 /// - `call` 0 notes its arguments, whatever they are, and answers `Void`, or notes none and answers `Memory`.
 /// - `call` 1 takes two `Int` and answers their sum, or `Fault(2)` where it does not fit into 64 bits.

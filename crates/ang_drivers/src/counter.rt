@@ -28,7 +28,7 @@ enum CounterCall {
     Unknown,
 }
 
-/// A driver whose objects have a value that goes up by steps (docs/EMBEDDING.md).
+/// A driver whose objects have a value that goes up by steps (docs/RATTLE_HOST.md).
 ///
 /// - `make` 0 takes nothing and makes an object of the value 0; `make` 1 takes one `Int` in 32 bits,
 ///   the value. The step is 1.

@@ -74,7 +74,7 @@ impl Failing {
     }
 }
 
-/// A counter of which one asking fails, for trials (docs/EMBEDDING.md). Each `make`, `call`, `read` and `write`
+/// A counter of which one asking fails, for trials (docs/RATTLE_HOST.md). Each `make`, `call`, `read` and `write`
 /// is an asking.
 ///
 /// It does and answers what `Counter` does, but for the asking that fails: that one changes no object and is

@@ -1,5 +1,5 @@
 //! Laws of the definitions, each the contract of a function that does nothing. No program calls them.
-ghost use Rattle.std.specs.Prelude.{ℕ, ℤ, ◌+◌, ◌≡◌, ◌≤◌, true, List, Option};
+ghost use Rattle.std.specs.Prelude.{ℕ, ℤ, ◌+◌, ◌≡◌, ◌≤◌, ◌∷◌, T, true, List, Option};
 ghost use Rattle.ang_kinds.specs.declared.value.Value.{Value};
 ghost use Rattle.ang_drivers.specs.declared.counter.Count.{Count};
 ghost use Rattle.ang_drivers.specs.declared.faulty.Failing.{Failing};
@@ -9,6 +9,12 @@ ghost use Rattle.ang_drivers.specs.Tables.{core_of};
 ghost use Rattle.ang_drivers.specs.Counter.{count_code};
 ghost use Rattle.ang_drivers.specs.Faulty.{faulty_core};
 ghost use Rattle.ang_drivers.specs.Cell.{value_code};
+ghost use Rattle.ang_drivers.specs.IntList.{list_code};
+ghost use Rattle.ang_drivers.specs.IntMap.{Pairs, MapDoes, map_code};
+ghost use Rattle.ang_drivers.specs.declared.pairs.MapCall.{MapCall};
+ghost use Rattle.std.specs.Ordering.{int_cmp};
+ghost use Rattle.std.specs.FinMap.{is_sorted};
+ghost use Rattle.ang_host.specs.declared.answer.Answer.{Answer};
 ghost use Rattle.ang_host.specs.declared.answer.Answer.TheVariants.{Void};
 ghost use Rattle.ang_host.specs.declared.answer.HostReply.{HostReply};
 ghost use Rattle.ang_host.specs.declared.answer.HostReply.TheVariants.{Asking};
@@ -46,6 +52,27 @@ pub fn faulty_cores_differ()
 /// each live object, its key and value.
 pub fn cell_cores_differ()
     ensures apart { (x y : Table ℤ) → core_of value_code x ≡ core_of value_code y → x ≡ y }
+{}
+
+/// Two drivers of lists of one core are the same but for references and tallies: the core tells the bound, the
+/// next key and, of each live object, its key and its numbers in order.
+pub fn list_cores_differ()
+    ensures apart { (m n : ℕ) (x y : Table (List ℤ))
+        → m ∷ core_of list_code x ≡ n ∷ core_of list_code y → (m ≡ n) × (x ≡ y) }
+{}
+
+/// Two drivers of maps of one core are the same but for references and tallies: the core tells the bound, the
+/// next key and, of each live object, its key and its pairs in order.
+pub fn map_cores_differ()
+    ensures apart { (m n : ℕ) (x y : Table Pairs)
+        → m ∷ core_of map_code x ≡ n ∷ core_of map_code y → (m ≡ n) × (x ≡ y) }
+{}
+
+/// Keys that rise still rise after a call of the map. Those of an empty map do, so the keys that are told by index
+/// ascend.
+pub fn keys_rise()
+    ensures rise { (bound : ℕ) (es ns : Pairs) (m : MapCall) (a : Answer)
+        → T (is_sorted int_cmp es) → MapDoes bound es m a ns → T (is_sorted int_cmp ns) }
 {}
 
 /// What a `Limited` around a driver of the type `D` does with a host call, where its core tells how many are

@@ -10,9 +10,10 @@ use crate::values::LIMIT;
 use ang_host::Made;
 use std::alloc::{AllocError, Global};
 use std::collections::BTreeMap;
+use std::mem;
 
 /// An object: the references that are held to it, at least 1, and its value.
-#[derive(Clone, Copy)]
+#[derive(Drop)]
 struct Counted<T> {
     count: u64,
     value: T,
@@ -37,7 +38,7 @@ pub struct Objects<T> {
     ghost few_added: { added < 2 ^ 63 },
 }
 
-impl<T: Copy> Objects<T> {
+impl<T: Drop> Objects<T> {
     ghost use Rattle.ang_drivers.specs.ObjectsLedger.{ledger};
 
     /// No objects, and nothing was asked.
@@ -119,20 +120,21 @@ impl<T: Copy> Objects<T> {
         Ok(key)
     }
 
-    /// The value of a live object.
-    pub fn value(&self, key: u64) -> T
-        requires held { IsHeld (ledger self.now) key }
-        ensures exact { map.get (ledger self.now).table.values key ≡ Some result }
-    {
-        object_at(&self.live, key).value
-    }
-
     /// Gives a live object another value.
     pub fn set_value(&mut self, key: u64, value: T)
         requires held { IsHeld (ledger self.old) key }
         ensures revalued { IsRevalued (ledger self.old) key value (ledger self.new) }
     {
         revalue(&mut self.live, key, value);
+    }
+
+    /// Gives a live object another value, and answers the one that it had.
+    pub fn replace_value(&mut self, key: u64, value: T) -> T
+        requires held { IsHeld (ledger self.old) key }
+        ensures exact { map.get (ledger self.old).table.values key ≡ Some result }
+        ensures revalued { IsRevalued (ledger self.old) key value (ledger self.new) }
+    {
+        exchange(&mut self.live, key, value)
     }
 
     /// Adds a reference to a live object. False, with nothing done, where 2^63 - 1 were added.
@@ -163,19 +165,31 @@ impl<T: Copy> Objects<T> {
     }
 }
 
+impl<T: Copy> Objects<T> {
+    ghost use Rattle.ang_drivers.specs.ObjectsLedger.{ledger};
+
+    /// The value of a live object.
+    pub fn value(&self, key: u64) -> T
+        requires held { IsHeld (ledger self.now) key }
+        ensures exact { map.get (ledger self.now).table.values key ≡ Some result }
+    {
+        object_at(&self.live, key).value
+    }
+}
+
 // The object of a live key. A look-up takes time as the logarithm of the number of objects.
-fn object_at<T: Copy>(live: &BTreeMap<u64, Counted<T>>, key: u64) -> Counted<T>
+fn object_at<T>(live: &BTreeMap<u64, Counted<T>>, key: u64) -> &Counted<T>
     requires held { IsSome (get nat_cmp live.now key) }
-    ensures exact { get nat_cmp live.now key ≡ Some result }
+    ensures exact { get nat_cmp live.now key ≡ Some result.now }
 {
     match live.get(&key) {
-        Some(object) => *object,
+        Some(object) => object,
         None => unreachable!(),
     }
 }
 
 // Gives the object of a live key another value, with one look-up.
-fn revalue<T: Copy>(live: &mut BTreeMap<u64, Counted<T>>, key: u64, value: T)
+fn revalue<T: Drop>(live: &mut BTreeMap<u64, Counted<T>>, key: u64, value: T)
     requires held { IsSome (get nat_cmp live.old key) }
     ensures counts { by_key (λ c. c.count) live.new.entries
         ≡ by_key (λ c. c.count) live.old.entries }
@@ -188,8 +202,23 @@ fn revalue<T: Copy>(live: &mut BTreeMap<u64, Counted<T>>, key: u64, value: T)
     }
 }
 
+// Gives the object of a live key another value, with one look-up, and answers the one that it had.
+fn exchange<T>(live: &mut BTreeMap<u64, Counted<T>>, key: u64, value: T) -> T
+    requires held { IsSome (get nat_cmp live.old key) }
+    ensures exact { map.get (by_key (λ c. c.value) live.old.entries) key ≡ Some result }
+    ensures counts { by_key (λ c. c.count) live.new.entries
+        ≡ by_key (λ c. c.count) live.old.entries }
+    ensures values { by_key (λ c. c.value) live.new.entries
+        ≡ map.insert (by_key (λ c. c.value) live.old.entries) key value }
+{
+    match live.get_mut(&key) {
+        Some(object) => mem::replace(&mut object.value, value),
+        None => unreachable!(),
+    }
+}
+
 // Adds a reference to the object of a live key, with one look-up.
-fn count_up<T: Copy>(live: &mut BTreeMap<u64, Counted<T>>, key: u64)
+fn count_up<T>(live: &mut BTreeMap<u64, Counted<T>>, key: u64)
     requires held { IsSome (get nat_cmp live.old key) }
     requires room { count_at (by_key (λ c. c.count) live.old.entries) key + 1 < 2 ^ 64 }
     ensures counts { by_key (λ c. c.count) live.new.entries
@@ -205,7 +234,7 @@ fn count_up<T: Copy>(live: &mut BTreeMap<u64, Counted<T>>, key: u64)
 
 // Releases a reference to the object of a live key, with one look-up. False, with nothing done,
 // where it is the last.
-fn count_down<T: Copy>(live: &mut BTreeMap<u64, Counted<T>>, key: u64) -> bool
+fn count_down<T>(live: &mut BTreeMap<u64, Counted<T>>, key: u64) -> bool
     requires held { IsSome (get nat_cmp live.old key) }
     ensures exact { result ≡ nat_lt 1 (count_at (by_key (λ c. c.count) live.old.entries) key) }
     ensures counts { by_key (λ c. c.count) live.new.entries
@@ -228,7 +257,7 @@ fn count_down<T: Copy>(live: &mut BTreeMap<u64, Counted<T>>, key: u64) -> bool
 // Takes the object of a key out. It stands apart, so that what releases another reference than the last
 // stays small.
 #[inline(never)]
-fn take_out<T: Copy>(live: &mut BTreeMap<u64, Counted<T>>, key: u64)
+fn take_out<T: Drop>(live: &mut BTreeMap<u64, Counted<T>>, key: u64)
     ensures counts { by_key (λ c. c.count) live.new.entries
         ≡ map.remove (by_key (λ c. c.count) live.old.entries) key }
     ensures values { by_key (λ c. c.value) live.new.entries

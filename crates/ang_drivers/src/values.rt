@@ -1,6 +1,6 @@
 //! What drivers read from what they are asked.
 ghost use Rattle.std.specs.Prelude.{◌≡◌};
-ghost use Rattle.ang_drivers.specs.Tables.{int_32, one_int_32, property_0};
+ghost use Rattle.ang_drivers.specs.Tables.{int_32, is_bare_making, one_int_32, property_0};
 
 use ang_kinds::Value;
 
@@ -9,6 +9,12 @@ pub const LIMIT: u64 = 9_223_372_036_854_775_807;
 
 /// The answer where the function number is unknown, or the arguments are of another form.
 pub const UNKNOWN: u32 = 1;
+
+/// The answer where a list or a map has fewer elements than an index asks for.
+pub const NO_SUCH_INDEX: u32 = 2;
+
+/// The answer where a map has no number under a key.
+pub const NO_SUCH_KEY: u32 = 3;
 
 /// An `Int` that fits into 32 bits.
 pub fn read_int_32(value: Value) -> Option<i32>
@@ -35,4 +41,11 @@ pub fn read_property_0(f: u32, object: Option<u64>) -> Option<u64>
     ensures exact { result ≡ property_0 f object }
 {
     if f == 0 { object } else { None }
+}
+
+/// Whether the factory 0 is asked, which takes nothing.
+pub fn is_bare_making(f: u32, args: &[Value]) -> bool
+    ensures exact { result ≡ is_bare_making f args.now }
+{
+    f == 0 && args.is_empty()
 }

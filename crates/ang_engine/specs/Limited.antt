@@ -1,4 +1,4 @@
--- What a host's limits mean (docs/EMBEDDING.md, "Limits").
+-- What a host's limits mean (docs/HOST.md, "Limits").
 use Rattle.std.specs.Prelude.{ℕ, ◌≡◌, ◌≤◌, ◌-◌, ◌^◌, max, All, List, [], ◌∷◌, length}
 use Rattle.ang_host.specs.declared.event.HostEvent.{HostEvent}
 use Rattle.ang_host.specs.Boxes.{members}

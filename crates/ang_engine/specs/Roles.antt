@@ -1,4 +1,4 @@
--- What asking each entry means to its driver (docs/EMBEDDING.md, "Drivers").
+-- What asking each entry means to its driver (docs/HOST.md, "Drivers").
 use Rattle.std.specs.Prelude.{ℕ, ◌^◌, List, map, Option, Some, None}
 use Rattle.ang_host.specs.declared.event.Role.{Role}
 use Rattle.ang_host.specs.declared.event.Role.TheVariants.{Making, Calling, Property as Reading}

@@ -1,4 +1,4 @@
--- What one command does: the reply, and the world after it (docs/MEANING.md, "A command").
+-- What one command does: the reply, and the world after it (docs/CLAIMS.md, "A command").
 use Rattle.std.specs.Prelude.{ℕ, ◌≡◌, ◌⊎◌, Bool, true, false, ◌&&◌, nat_le, if◌then◌else◌, List, [], ◌∷◌, ◌++◌, slice_get, slice_set, Option, Some, None, IsSome, Result, Ok, Err, map as list_map}
 use Rattle.ang_kinds.specs.declared.error.Denial.{Denial}
 use Rattle.ang_kinds.specs.declared.error.Error.{Error}

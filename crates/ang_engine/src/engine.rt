@@ -41,7 +41,7 @@ use ang_vm::Machine;
 use std::alloc::{AllocError, Global};
 
 /// Modules of scripts over one registration list and the drivers that answer for it
-/// (docs/EMBEDDING.md).
+/// (docs/HOST.md).
 ///
 /// The compiler refuses a program that lets an engine go out of scope: `discard` ends it, and gives the
 /// drivers back.
@@ -179,7 +179,7 @@ impl Engine {
     /// no budget, and a driver takes what time it takes. After a refusal or a fault the engine takes the
     /// next command.
     ///
-    /// The reply, and the modules after it, are those that docs/MEANING.md gives for the command, what the
+    /// The reply, and the modules after it, are those that docs/CLAIMS.md gives for the command, what the
     /// drivers answered, and which requests for memory were refused. A build sees the entries that
     /// `Registry::seen` gives for its module's mask. Each host call is of an entry that the calling module
     /// saw when it was built. The drivers were asked what the events list, in that order, and each has moved

@@ -1,4 +1,4 @@
--- What a build gives (docs/MEANING.md, "A build"; the AngelScript manual, "Script modules"): the errors of the first phase
+-- What a build gives (docs/CLAIMS.md, "A build"; the AngelScript manual, "Script modules"): the errors of the first phase
 -- that refuses something, or the program.
 use Rattle.std.specs.Prelude.{ℕ, List, [], ◌∷◌, Result, Ok, Err}
 use Rattle.ang_kinds.specs.declared.error.Denial.{Denial}

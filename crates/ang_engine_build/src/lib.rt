@@ -1,5 +1,5 @@
 //! Builds a module's program: from sections of text, over what the module's mask sees of a registration
-//! list, to the names that they declare with their resolved tree, or to the errors (docs/MEANING.md,
+//! list, to the names that they declare with their resolved tree, or to the errors (docs/CLAIMS.md,
 //! "A build"). `laws` has what holds of each program that is built.
 #![tactic(auto)]
 

@@ -1,4 +1,4 @@
--- What a call from outside hands to a function and gets from it (docs/EMBEDDING.md, "Commands"; the AngelScript manual, "Calling a
+-- What a call from outside hands to a function and gets from it (docs/HOST.md, "Commands"; the AngelScript manual, "Calling a
 -- script function"; that only primitives and enumerations by value pass is this profile's own). An enumeration is a primitive here, with the
 -- range of `int`.
 use Rattle.std.specs.Prelude.{◌≡◌, Bool, true, false, ◌&&◌, ◌||◌, is_some, List, [], ◌∷◌, Option, Some, None, option_map, Vec}

@@ -1,4 +1,4 @@
--- The function that a text declares without its body (docs/EMBEDDING.md, "Commands"; the AngelScript manual, "Calling a script
+-- The function that a text declares without its body (docs/HOST.md, "Commands"; the AngelScript manual, "Calling a script
 -- function"; what the text may be is this profile's own).
 use Rattle.std.specs.Prelude.{◌≡◌, ℕ, false, List, [], ◌∷◌, ◌++◌, Option, Some, None, Result, Ok, Err}
 use Rattle.std.specs.Result.{result_ok}

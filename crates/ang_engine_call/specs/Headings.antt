@@ -1,4 +1,4 @@
--- When two functions have the same heading: the name, the result and the parameters, whose names don't count (docs/EMBEDDING.md,
+-- When two functions have the same heading: the name, the result and the parameters, whose names don't count (docs/HOST.md,
 -- "Commands"; the AngelScript manual, "Function declaration"). `same_heading` of ang_names_known is the test of it.
 use Rattle.std.specs.Prelude.{ℕ, List, map}
 use Rattle.ang_kinds.specs.declared.types.Pass.{Pass}

@@ -1,4 +1,4 @@
--- The function of a module that a text declares (docs/EMBEDDING.md, "Commands"; the AngelScript manual, "Calling a script function").
+-- The function of a module that a text declares (docs/HOST.md, "Commands"; the AngelScript manual, "Calling a script function").
 use Rattle.std.specs.Prelude.{◌≡◌, ℕ, List, Option, Some, None, slice_get}
 use Rattle.ang_view.specs.Registration.{RegistrationList}
 use Rattle.ang_names_known.specs.declared.names.Names.{Names}

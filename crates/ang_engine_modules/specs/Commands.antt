@@ -1,4 +1,4 @@
--- What the commands do that neither build nor run: the reply, and the world after it (docs/MEANING.md,
+-- What the commands do that neither build nor run: the reply, and the world after it (docs/CLAIMS.md,
 -- "A command").
 use Rattle.std.specs.Prelude.{ℕ, ◌==◌, not, nat_le, if◌then◌else◌, List, [], ◌∷◌, ◌++◌, length, filter, position, slice_get, slice_set, Option, Some, None, is_none}
 use Rattle.ang_kinds.specs.declared.error.Error.{Error}

@@ -1,5 +1,5 @@
 -- What the runs of built modules mean: a call from outside, and a module's initializers in turn
--- (docs/MEANING.md, "A run of a built module").
+-- (docs/CLAIMS.md, "A run of a built module").
 use Rattle.std.specs.Prelude.{ℕ, suc, List, [], ◌∷◌, length, reverse, map, slice_get}
 use Rattle.std.specs.Option.{option_flatten}
 use Rattle.ang_typed.specs.Typed as t

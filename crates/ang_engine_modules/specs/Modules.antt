@@ -1,4 +1,4 @@
--- The modules of an engine as their runs know them, by number (docs/MEANING.md, "A run of a built
+-- The modules of an engine as their runs know them, by number (docs/CLAIMS.md, "A run of a built
 -- module").
 use Rattle.std.specs.Prelude.{◌≡◌, ◌<◌, ◌==◌, ℕ, List, [], Option, Some, None, IsSome, length, slice_get, slice_index_or, if◌then◌else◌, map}
 use Rattle.std.specs.Option.{option_flatten}
@@ -17,7 +17,7 @@ use Rattle.ang_meaning.specs.declared.routine.Routine.{Routine}
 use Rattle.ang_source.specs.Hosts.{use_in}
 
 -- a built module: its name, as events list it, what its built mask shows of the host
--- (docs/MEANING.md, "Masks and views"), its resolved tree, and by the number of an import the
+-- (docs/CLAIMS.md, "Masks and views"), its resolved tree, and by the number of an import the
 -- function that it is bound to, if any
 pub record Module : Type 0 where
   pub name : List ℕ

@@ -1,4 +1,4 @@
--- What an engine keeps from one command to the next (docs/MEANING.md, "A command").
+-- What an engine keeps from one command to the next (docs/CLAIMS.md, "A command").
 use Rattle.std.specs.Prelude.{ℕ, Bool, false, List, [], ◌∷◌, Option, Some, None, option_map, position, bytes_eq, slice_index_or, slice_set, map as list_map}
 use Rattle.std.specs.FinMap as map
 use Rattle.ang_view.specs.Registration.{RegistrationList}

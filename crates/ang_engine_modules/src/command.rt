@@ -1,7 +1,7 @@
 //! What a host tells the engine to do.
 use ang_kinds::{List, Mask, Value};
 
-/// One command to the engine (docs/EMBEDDING.md, "Commands").
+/// One command to the engine (docs/HOST.md, "Commands").
 ///
 /// Names and texts are bytes. A `budget` is a number of ticks, from 1 to 2,147,483,647: a tick is
 /// an entry of a script function, or a test of a loop.

@@ -1,7 +1,7 @@
 //! The modules of an engine and what each command does to them: their code and the entities of their
 //! views in one table, by number, calls of their functions, the runs of their initializers, the
 //! commands with their replies, and what is done by the commands that neither build nor run
-//! (docs/MEANING.md, "A run of a built module" and "A command").
+//! (docs/CLAIMS.md, "A run of a built module" and "A command").
 #![tactic(auto)]
 
 mod binding;

@@ -3,7 +3,7 @@ use ang_host::EventLog;
 use ang_kinds::{Denial, Error, Fault, List, Value};
 
 /// The answer to one command: what the host was asked meanwhile, what a build refused, and how the
-/// command ended (docs/EMBEDDING.md, "Replies").
+/// command ended (docs/HOST.md, "Replies").
 #[derive(Drop)]
 pub struct Reply {
     /// How the command ended.
@@ -30,7 +30,7 @@ pub enum Outcome {
     Refused(Refusal),
 }
 
-/// Why a command was refused. docs/EMBEDDING.md, "Commands", has the order in which each command
+/// Why a command was refused. docs/HOST.md, "Commands", has the order in which each command
 /// looks for the causes. `Memory` may come in the place of any other, but never from `SetMask` and
 /// `Unbind`.
 #[derive(Clone, Copy)]

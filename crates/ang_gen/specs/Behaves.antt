@@ -1,4 +1,4 @@
--- Compiled modules do what their source means (docs/MEANING.md, "What a script means" and "Code").
+-- Compiled modules do what their source means (docs/CLAIMS.md, "What a script means" and "Code").
 use Rattle.std.specs.Prelude.{◌≡◌, ◌≢◌, ℕ, List, [], length, Some, slice_get}
 use Rattle.ang_view.specs.Registration.{RegistrationList}
 use Rattle.ang_typed.specs.Typed as t

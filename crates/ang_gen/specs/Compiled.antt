@@ -1,4 +1,4 @@
--- What the code of a module is (docs/MEANING.md, "Code").
+-- What the code of a module is (docs/CLAIMS.md, "Code").
 use Rattle.std.specs.Prelude.{◌≡◌, List, map}
 use Rattle.std.specs.List.{AllZip}
 use Rattle.ang_view.specs.Registration.{RegistrationList}

@@ -1,5 +1,5 @@
 //! Generates the machine's instructions: the code of a module's bodies does what the module means
-//! (docs/MEANING.md, "What a script means" and "Code").
+//! (docs/CLAIMS.md, "What a script means" and "Code").
 //!
 //! `specs/` has the code of a body and of a module, and what it means that code does what bodies do;
 //! `laws` says that it does, and that a module's code behaves as its source.

@@ -1,5 +1,5 @@
 //! What lies outside the stack of a run: script objects with their counts, the globals, the drivers with
-//! what they keep, and the events. In `specs/` stands the world that it is (docs/MEANING.md, "The world of
+//! what they keep, and the events. In `specs/` stands the world that it is (docs/CLAIMS.md, "The world of
 //! a run"), as a function of it, so that nothing is kept beside the drivers' own counts.
 #![tactic(auto)]
 

@@ -1,5 +1,5 @@
 -- Counts of keys against the list of the places that hold them
--- (the AngelScript manual, "Memory management"; docs/MEANING.md).
+-- (the AngelScript manual, "Memory management"; docs/CLAIMS.md).
 use Rattle.std.specs.Prelude.{ℕ, ◌+◌, ◌≡◌, ◌<◌, Bool, ◌&&◌, nat_eq, List, All, count_by, length}
 use Rattle.ang_host.specs.State.{State, count_at}
 use Rattle.ang_host.specs.Laws.{IsSound}

@@ -1,6 +1,6 @@
 -- Host events, and that drivers follow them: nothing was asked that is not listed, and no answer is
 -- made up
--- (docs/EMBEDDING.md).
+-- (docs/HOST.md).
 use Rattle.std.specs.Prelude.{ℕ, ◌+◌, ◌≡◌, ◌<◌, ◌≤◌, ◌⊎◌, Bool, true, false, cond, nat_eq, ◌||◌, List, [], ◌∷◌, Option, length, filter, map as list_map, slice_index_or}
 use Rattle.std.specs.FinMap as map
 use Rattle.std.specs.Prelude.{All}

@@ -1,5 +1,5 @@
 -- The laws of a driver, as relations between its states before and after a call
--- (docs/EMBEDDING.md).
+-- (docs/RATTLE_HOST.md).
 use Rattle.std.specs.Prelude.{ℕ, ◌+◌, ◌≡◌, ◌<◌, ◌⊎◌, ◌↔◌, List, [], ◌∷◌, Option, Some, None, Bool, true, false, IsTrue}
 use Rattle.std.specs.FinMap as map
 use Rattle.ang_kinds.specs.declared.value.Value.{Value}

@@ -1,5 +1,5 @@
 -- The events of a command while it runs: which they are, and for how many more there is room
--- (docs/EMBEDDING.md, "Replies").
+-- (docs/HOST.md, "Replies").
 use Rattle.std.specs.Prelude.{ℕ, ◌-◌, ◌^◌, ◌≡◌, Bool, true, cond, List, length}
 use Rattle.ang_host.specs.declared.event.HostEvent.{HostEvent}
 use Rattle.ang_host.specs.declared.event_buffer.EventBuffer.{EventBuffer}

@@ -1,4 +1,4 @@
--- What a driver is to its callers, and what it is asked (docs/EMBEDDING.md).
+-- What a driver is to its callers, and what it is asked (docs/RATTLE_HOST.md).
 use Rattle.std.specs.Prelude.{ℕ, ◌^◌, ◌-◌, List, Option, Some, None, sum_by}
 use Rattle.std.specs.Ordering.{nat_cmp}
 use Rattle.std.specs.FinMap as map

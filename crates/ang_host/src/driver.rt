@@ -6,7 +6,7 @@ use crate::answer::{Answer, Made};
 use ang_kinds::Value;
 
 /// A part of the host: functions, properties, and objects that scripts reach by keys
-/// (the AngelScript manual, "Registering the application interface"; docs/EMBEDDING.md). A host implements
+/// (the AngelScript manual, "Registering the application interface"; docs/RATTLE_HOST.md). A host implements
 /// this trait for types of its own, and gives the engine boxed values of them in a list, `Drivers`.
 ///
 /// Crate example_first_driver is a driver to start from: its `fits`, explained below, holds of everything.

@@ -12,3 +12,5 @@ pub mod Views
 pub mod Headings
 pub mod Methods
 pub mod Modules
+pub mod Placing
+pub mod Worked

@@ -1,4 +1,4 @@
--- The core tree of expressions without where it lies in memory (docs/MEANING.md, "What a body does").
+-- The core tree of expressions without where it lies in memory (docs/CLAIMS.md, "What a body does").
 use Rattle.std.specs.Prelude.{ℕ, List, [], ◌∷◌}
 use Rattle.ang_meaning.specs.declared.operation.Update.{Update}
 use Rattle.ang_meaning.specs.declared.operation.Operation.{Operation}

@@ -7,3 +7,4 @@ pub mod Plain
 pub mod Lowered
 pub mod Kinds
 pub mod Same
+pub mod Positions

@@ -1,4 +1,4 @@
--- The core tree of a statement, of a body and of a module of the resolved tree (docs/MEANING.md, "What a script means" and "What a body does"), where n
+-- The core tree of a statement, of a body and of a module of the resolved tree (docs/CLAIMS.md, "What a script means" and "What a body does"), where n
 -- locals are alive.
 use Rattle.std.specs.Prelude.{◌≡◌, ℕ, suc, ◌+◌, List, [], ◌∷◌, ◌++◌, length, map, Option, Some, None}
 use Rattle.ang_typed.specs.declared.expression.TypedVariable.TheVariants as variable

@@ -1,4 +1,4 @@
--- The core tree of an expression of the resolved tree (docs/MEANING.md, "What a script means" and "What a body does"), where n locals are alive. A local of
+-- The core tree of an expression of the resolved tree (docs/CLAIMS.md, "What a script means" and "What a body does"), where n locals are alive. A local of
 -- the resolved tree is numbered from the outermost one, and one of the core tree from the innermost one.
 use Rattle.std.specs.Prelude.{ℕ, suc, ◌-◌, List, [], ◌∷◌, Option, Some, None}
 use Rattle.ang_kinds.specs.declared.primitive.Primitive.{Primitive}

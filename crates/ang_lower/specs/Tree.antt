@@ -1,4 +1,4 @@
--- The core tree of statements and bodies without where it lies in memory (docs/MEANING.md, "What a body does").
+-- The core tree of statements and bodies without where it lies in memory (docs/CLAIMS.md, "What a body does").
 use Rattle.std.specs.Prelude.{List, [], ◌∷◌, Option}
 use Rattle.ang_kinds.specs.declared.primitive.Primitive.{Primitive}
 use Rattle.ang_meaning.specs.declared.routine.Passing.{Passing}

@@ -1,10 +1,12 @@
 //! The bodies of a module.
 ghost use Rattle.std.specs.Prelude.{◌≡◌, ◌+◌, ◌++◌, ◌∷◌, [], None, suc, length, reverse, IfOk, OnOk, map as list_map};
+ghost use Rattle.std.specs.List.{flat_map};
 ghost use Rattle.ang_typed.specs.View.{view_block, view_expr, view_function, view_global, view_typed};
 ghost use Rattle.ang_source.specs.Meaning.{referred, passing_of, passings_of, passings_in, primitive_of, results_in, of_global};
 ghost use Rattle.ang_lower.specs.Plain.{plain_body, plain_stmt};
 ghost use Rattle.ang_lower.specs.Lowered as spec;
 ghost use Rattle.ang_lower.specs.Same.{LowersProgram, KeepsSound};
+ghost use Rattle.ang_lower.specs.Positions as places;
 
 use crate::positions::core_positions;
 use crate::statements::lower_block;
@@ -88,6 +90,8 @@ fn bytes_for(alloc: Global, parameters: &[TypedParameter]) -> Result<Vec<u8>, Al
 fn function_body(alloc: Global, function: &TypedFunction) -> Result<CoreBody, AllocError>
     ensures exact { IfOk result (λ b. plain_body b
         ≡ spec.lowered_function (view_function function.now)) }
+    ensures positions { IfOk result
+        (λ b. b.positions.items ≡ places.of_function function.now) }
 {
     let parameters = function.parameters.as_slice();
     let positions = core_positions(alloc, &function.body, function.positions.as_slice())?;
@@ -113,6 +117,7 @@ fn initializer_body(
     ensures statement { IfOk result
         (λ b. plain_stmt b.statement
         ≡ spec.lowered_code 0 (of_global number (view_expr value.now))) }
+    ensures positions { IfOk result (λ b. b.positions.items ≡ []) }
 {
     let value = lower_expression(alloc, 0, value)?;
     let whole = store(alloc, 0, &TypedVariable::Global(number), value)?;
@@ -132,6 +137,8 @@ fn add_functions(
     ensures exact { OnOk result (list_map plain_body bodies.new.items
         ≡ list_map plain_body bodies.old.items
         ++ list_map spec.lowered_function (list_map view_function functions.now)) }
+    ensures positions { OnOk result (places.listed bodies.new.items
+        ≡ places.listed bodies.old.items ++ list_map places.of_function functions.now) }
 {
     for function in functions {
         let body = function_body(alloc, function)?;
@@ -150,6 +157,8 @@ fn add_global(
     ensures exact { OnOk result (list_map plain_body bodies.new.items
         ≡ list_map plain_body bodies.old.items
         ++ spec.lowered_initializer number (view_global global.now).initializer) }
+    ensures positions { OnOk result (places.listed bodies.new.items
+        ≡ places.listed bodies.old.items ++ places.of_global global.now) }
 {
     match &global.initializer {
         Some(value) => {
@@ -169,6 +178,8 @@ fn add_globals(
     ensures exact { OnOk result (list_map plain_body bodies.new.items
         ≡ list_map plain_body bodies.old.items
         ++ spec.lowered_globals 0 (list_map view_global globals.now)) }
+    ensures positions { OnOk result (places.listed bodies.new.items
+        ≡ places.listed bodies.old.items ++ flat_map places.of_global globals.now) }
 {
     for (number, global) in globals.iter().enumerate() {
         add_global(alloc, number, global, bodies)?;
@@ -179,6 +190,8 @@ fn add_globals(
 fn bodies_of(alloc: Global, program: &Typed) -> Result<Vec<CoreBody>, AllocError>
     ensures exact { IfOk result (λ bodies. list_map plain_body bodies.items
         ≡ spec.lowered_module (view_typed program.now)) }
+    ensures positions { IfOk result
+        (λ bodies. places.listed bodies.items ≡ places.of_module program.now) }
 {
     let mut bodies = Vec::new(alloc);
     add_functions(alloc, program.functions.as_slice(), &mut bodies)?;
@@ -203,6 +216,8 @@ pub fn lower(alloc: Global, program: &Typed) -> Result<Vec<CoreBody>, AllocError
         ≡ results_in (view_typed program.now)) }
     ensures lowered { IfOk result (λ bodies. LowersProgram (view_typed program.now) bodies.items) }
     ensures sound { IfOk result (λ bodies. KeepsSound (view_typed program.now) bodies.items) }
+    ensures positions { IfOk result
+        (λ bodies. places.listed bodies.items ≡ places.of_module program.now) }
 {
     let bodies = bodies_of(alloc, program)?;
     Ok(bodies)

@@ -37,6 +37,18 @@ pub fn with_operand(
     Ok(found)
 }
 
+/// The list of one operand, with room for so many and no more.
+fn first_operand(
+    alloc: Global,
+    room: usize,
+    operand: CoreExpression,
+) -> Result<Vec<CoreExpression>, AllocError>
+    ensures exact { IfOk result (λ v. list_map plain_expr v.items ≡ plain_expr operand ∷ []) }
+{
+    let found = Vec::with_capacity(alloc, room)?;
+    with_operand(found, operand)
+}
+
 /// One more operand at the end.
 pub fn add_operand(
     found: &mut Vec<CoreExpression>,
@@ -64,7 +76,7 @@ pub fn unary(
 ) -> Result<CoreExpression, AllocError>
     ensures exact { IfOk result (λ x. plain_expr x ≡ spec.unary operation (plain_expr operand)) }
 {
-    let operands = with_operand(Vec::new(alloc), operand)?;
+    let operands = first_operand(alloc, 1, operand)?;
     Ok(apply(operation, operands))
 }
 
@@ -87,7 +99,7 @@ pub fn binary(
         ≡ spec.binary operation (plain_expr pair.left) (plain_expr pair.right)) }
 {
     let CoreOperands { left, right } = pair;
-    let first = with_operand(Vec::new(alloc), left)?;
+    let first = first_operand(alloc, 2, left)?;
     let operands = with_operand(first, right)?;
     Ok(apply(operation, operands))
 }

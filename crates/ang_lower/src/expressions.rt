@@ -356,8 +356,8 @@ fn lower_make(
     match constructor {
         None => Ok(made(alloc, family)),
         Some(body) => {
+            let mut values = Vec::with_capacity(alloc, arguments.len() + 1)?;
             let object = made(alloc, family);
-            let mut values = Vec::new(alloc);
             add_operand(&mut values, object)?;
             add_arguments(alloc, alive, arguments, &mut values)?;
             let targets = targets(alloc, alive, arguments)?;
@@ -376,7 +376,7 @@ fn lower_arguments(
     ensures exact { IfOk result (λ v. list_map plain_expr v.items
         ≡ spec.lowered_args alive (view_args arguments.now)) }
 {
-    let mut found = Vec::new(alloc);
+    let mut found = Vec::with_capacity(alloc, arguments.len())?;
     add_arguments(alloc, alive, arguments, &mut found)?;
     Ok(found)
 }

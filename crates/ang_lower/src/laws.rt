@@ -1,6 +1,7 @@
 //! What holds of lowered bodies, whatever made them.
-ghost use Rattle.std.specs.Prelude.{◌≡◌, ℕ, List, Some, slice_get};
-ghost use Rattle.ang_typed.specs.Typed.{Program};
+ghost use Rattle.std.specs.Prelude.{◌≡◌, ℕ, List, Some, length, slice_get};
+ghost use Rattle.ang_kinds.specs.declared.position.Position.{Position};
+ghost use Rattle.ang_typed.specs.Typed.{Program, Stmts};
 ghost use Rattle.ang_meaning.specs.declared.routine.Routine.{Routine};
 ghost use Rattle.ang_meaning.specs.World.{World};
 ghost use Rattle.ang_meaning.specs.Environment.{Environment};
@@ -13,6 +14,8 @@ ghost use Rattle.ang_source.specs.Sound.{Module, SoundProgram};
 ghost use Rattle.ang_view.specs.Registration.{RegistrationList};
 ghost use Rattle.ang_meaning.specs.declared.host.HostUse.{HostUse};
 ghost use Rattle.ang_source.specs.Hosts.{HasView, IsOfView};
+ghost use Rattle.ang_lower.specs.Lowered.{lowered_all, lowered_block};
+ghost use Rattle.ang_lower.specs.Positions.{core_of, in_blocks};
 ghost use Rattle.ang_lower.specs.Same.{AreLowered, AreSoundIn, AreCodes, HasProgram, MeansSame, AllMeanSame, TakeNothing};
 
 /// A build's initializers in turn end as their sources say, if each of them does.
@@ -79,4 +82,11 @@ pub fn each_use_is_of_the_view()
         → HasView z m V
         → z.host m e ≡ Some u
         → IsOfView V e u }
+{}
+
+/// Each core statement that stands in a block of a lowered body has a place, and no other.
+#[tactic(auto, using(crate::proofs::Placing::stmts_in))]
+pub fn each_has_a_place()
+    ensures places { (ss : Stmts) (n : ℕ) (ps : List Position)
+        → length (core_of ss ps) ≡ in_blocks (lowered_block (lowered_all n ss)) }
 {}

@@ -1,8 +1,8 @@
-//! Lowers the resolved tree to the core tree, which means the same (docs/MEANING.md, "What a script
+//! Lowers the resolved tree to the core tree, which means the same (docs/CLAIMS.md, "What a script
 //! means" and "What a body does").
 //!
-//! `specs/` has the core tree of each construct; `laws` says that it means what the script means, and
-//! that it keeps what the generator wants of a body.
+//! `specs/` has the core tree of each construct, and where its statements stand; `laws` says that it
+//! means what the script means, and that it keeps what the generator wants of a body.
 #![tactic(auto)]
 
 mod bodies;

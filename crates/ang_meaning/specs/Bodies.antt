@@ -1,5 +1,5 @@
 -- Whole bodies and a build's initializers, whatever tree they are written in: the ticks, the nesting and the memory that stand around what a body's
--- statements do (docs/MEANING.md, "What a body does"; the AngelScript manual, "Functions" and "Global variables").
+-- statements do (docs/CLAIMS.md, "What a body does"; the AngelScript manual, "Functions" and "Global variables").
 use Rattle.std.specs.Prelude.{ℕ, zero, suc, List, [], ◌∷◌}
 use Rattle.ang_kinds.specs.declared.fault.Fault.TheVariants.{Budget, Memory}
 use Rattle.ang_meaning.specs.declared.slot.Slot.{Slot}

@@ -1,4 +1,4 @@
--- What the faults `BadAnswer`, `NoObject` and `Tally` come of (docs/MEANING.md, "Operations" and "The world of a run"; docs/EMBEDDING.md, "Faults").
+-- What the faults `BadAnswer`, `NoObject` and `Tally` come of (docs/CLAIMS.md, "Operations" and "The world of a run"; docs/HOST.md, "Faults").
 use Rattle.std.specs.Prelude.{◌≡◌, ◌⊎◌, ◌≤◌, ℕ, ◌-◌, ◌^◌, true, false, List, ◌∷◌, ◌++◌, Option, Some, None}
 use Rattle.std.specs.FinMap as map
 use Rattle.ang_kinds.specs.declared.fault.Fault.{Fault}

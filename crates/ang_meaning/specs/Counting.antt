@@ -1,5 +1,5 @@
 -- Counts against the places that hold what is counted: each variable, parameter, field and value in flight that holds an object counts once
--- (docs/MEANING.md, "The world of a run"; the AngelScript manual, "Memory management").
+-- (docs/CLAIMS.md, "The world of a run"; the AngelScript manual, "Memory management").
 use Rattle.std.specs.Prelude.{ℕ, ◌+◌, ◌<◌, ◌≤◌, ◌≡◌, cond, ◌&&◌, nat_eq, List, [], ◌∷◌, Option, Some, None}
 use Rattle.std.specs.Ordering.{nat_cmp}
 use Rattle.std.specs.FinMap as map

@@ -26,7 +26,7 @@ use Rattle.ang_meaning.specs.declared.routine.Passing.TheVariants.{In, Out, Obje
 pub record Environment : Type 0 where
   -- a module's name
   pub name : ℕ → List ℕ
-  -- the registered entities that the module sees, by their numbers (docs/MEANING.md, "Masks and views")
+  -- the registered entities that the module sees, by their numbers (docs/CLAIMS.md, "Masks and views")
   pub host : ℕ → ℕ → Option HostUse
   -- an import's parameters as the module declares them (the AngelScript manual, "Imports"): it takes no objects but handles, so its call never faults with `Null`
   pub imported : ℕ → ℕ → Option (List Passing)

@@ -1,4 +1,4 @@
--- Values that pass between a script and its drivers, and host calls (docs/MEANING.md, "Operations"; docs/EMBEDDING.md, "Drivers"; the AngelScript manual, "Registering a function").
+-- Values that pass between a script and its drivers, and host calls (docs/CLAIMS.md, "Operations"; docs/HOST.md, "Drivers"; the AngelScript manual, "Registering a function").
 use Rattle.std.specs.Prelude.{ℕ, ◌^◌, ◌-◌, ◌&&◌, Bool, true, false, not, nat_eq, nat_lt, int_le, ℤ, pos, negsuc, List, [], ◌∷◌, ◌++◌, Option, Some, None, if◌then◌else◌}
 use Rattle.ang_kinds.specs.declared.value.Value.{Value}
 use Rattle.ang_kinds.specs.declared.value.Value.TheVariants.{Int, Uint, Bool as Truth, Key}

@@ -1,6 +1,6 @@
 -- How the parts of a script end, and one combinator for each construct that says what follows from its parts' ends. Locals are a list, the innermost
 -- one first; t is the number of ticks that are left. A fault gives up what each construct holds, in the reverse order of taking
--- (docs/MEANING.md, "What a body does").
+-- (docs/CLAIMS.md, "What a body does").
 use Rattle.std.specs.Prelude.{ℕ, zero, suc, ◌+◌, ◌-◌, Bool, ltb, List, [], ◌∷◌, length, Option, Some, None, if◌then◌else◌}
 use Rattle.ang_kinds.specs.declared.fault.Fault.{Fault}
 use Rattle.ang_kinds.specs.declared.fault.Fault.TheVariants.{Null, Budget, Depth, Memory, Tally}

@@ -1,5 +1,5 @@
 -- The world outside the locals of a run: objects with the counts of the places that hold them, globals, events, and what the run is told from
--- outside (docs/MEANING.md, "The world of a run"; the AngelScript manual, "Memory management").
+-- outside (docs/CLAIMS.md, "The world of a run"; the AngelScript manual, "Memory management").
 use Rattle.std.specs.Prelude.{ℕ, zero, suc, ◌-◌, ◌^◌, Bool, true, false, cond, nat_eq, ltb, List, [], ◌∷◌, ◌++◌, Option, Some, None, if◌then◌else◌}
 use Rattle.std.specs.Ordering.{nat_cmp}
 use Rattle.std.specs.FinMap as map

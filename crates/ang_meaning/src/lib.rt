@@ -1,5 +1,5 @@
 //! What a running script speaks of: slots, strict operations, host entities as code asks them, and in
-//! `specs/` the world outside the locals with what each operation does to it (docs/MEANING.md, "The world
+//! `specs/` the world outside the locals with what each operation does to it (docs/CLAIMS.md, "The world
 //! of a run" and "Operations").
 #![tactic(auto)]
 

@@ -21,7 +21,7 @@ pub fn lineage_of(alloc: Global, names: &IndexedNames) -> Result<Lineage, AllocE
         let types = types_of(alloc, family.above.as_slice())?;
         above.push(types)?;
     }
-    Ok(Lineage::new(above))
+    Lineage::new(alloc, above)
 }
 
 /// Nothing stands above a host type.

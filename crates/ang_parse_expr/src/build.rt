@@ -1,10 +1,10 @@
 //! Expressions made of their parts.
 ghost use Rattle.std.specs.Prelude.{◌≡◌, IfOk, None};
 ghost use Rattle.ang_tree.specs.Tree as tree;
-ghost use Rattle.ang_tree.specs.View.{view_expr, view_items};
+ghost use Rattle.ang_tree.specs.View.{view_expr, view_args, view_items};
 
 use ang_lex::Token;
-use ang_tree::{Argument, Expression};
+use ang_tree::{Argument, Arguments, CastTokens, Expression};
 use std::alloc::{AllocError, Global};
 
 /// The list with one more expression at its end.
@@ -28,6 +28,74 @@ pub(crate) fn only_argument(alloc: Global, value: Expression) -> Result<Vec<Argu
 {
     let room = Vec::with_capacity(alloc, 1)?;
     with_argument(room, None, value)
+}
+
+/// A call of a function by its bare name, or of a type's name.
+pub(crate) fn call(
+    alloc: Global,
+    name: Token,
+    arguments: Arguments,
+) -> Result<Expression, AllocError>
+    ensures exact { IfOk result (λ e. view_expr e ≡ tree.call name (view_args arguments)) }
+{
+    let arguments = Box::new(alloc, arguments)?;
+    Ok(Expression::Call { name, arguments })
+}
+
+/// A call of a class's method by the name of both.
+pub(crate) fn scoped_call(
+    alloc: Global,
+    class: Token,
+    scope: Token,
+    name: Token,
+    arguments: Arguments,
+) -> Result<Expression, AllocError>
+    ensures exact { IfOk result (λ e. view_expr e
+        ≡ tree.scoped_call class scope name (view_args arguments)) }
+{
+    let arguments = Box::new(alloc, arguments)?;
+    Ok(Expression::ScopedCall {
+        class,
+        scope,
+        name,
+        arguments,
+    })
+}
+
+/// A call of an object's method.
+pub(crate) fn method_call(
+    alloc: Global,
+    object: Expression,
+    dot: Token,
+    name: Token,
+    arguments: Arguments,
+) -> Result<Expression, AllocError>
+    ensures exact { IfOk result (λ e. view_expr e
+        ≡ tree.method_call (view_expr object) dot name (view_args arguments)) }
+{
+    let object = Box::new(alloc, object)?;
+    let arguments = Box::new(alloc, arguments)?;
+    Ok(Expression::MethodCall {
+        object,
+        dot,
+        name,
+        arguments,
+    })
+}
+
+/// A cast of an operand.
+pub(crate) fn cast(
+    alloc: Global,
+    tokens: CastTokens,
+    operand: Expression,
+) -> Result<Expression, AllocError>
+    ensures exact { IfOk result (λ e. view_expr e
+        ≡ tree.cast tokens.word tokens.less tokens.target tokens.greater tokens.open
+        (view_expr operand) tokens.close) }
+{
+    let tokens = Box::new(alloc, tokens)?;
+    let operand = Box::new(alloc, operand)?;
+    Ok(Expression::Cast { tokens, operand })
 }
 
 /// Two operands with an operator between them.

@@ -8,12 +8,15 @@ ghost use Rattle.ang_parse_read.specs.Read.{repeat};
 ghost use Rattle.ang_tree.specs.View.{view_expr, view_args, view_items};
 ghost use Rattle.ang_parse_expr.specs.ReadExpr as read;
 
-use crate::build::{assignment, binary, conditional, only_argument, with_argument};
+use crate::build::{
+    assignment, binary, call, cast, conditional, method_call, only_argument, scoped_call,
+    with_argument,
+};
 use crate::kinds::{binds, is_assignment, is_literal, is_prefix, is_step, precedence};
 use crate::types::type_name;
 use ang_lex::{Token, TokenKind};
 use ang_parse_read::{ReadError, a_colon, a_greater, a_left_paren, a_less, a_name, a_right_paren};
-use ang_tree::{Argument, Arguments, Expression};
+use ang_tree::{Argument, Arguments, CastTokens, Expression};
 use std::alloc::Global;
 
 /// Reads one more expression, after a comma.
@@ -159,15 +162,8 @@ fn scoped<'a>(
         && matches!(open.kind, TokenKind::LeftParen)
     {
         let (arguments, rest) = arguments(alloc, *open, rest, depth)?;
-        return Ok((
-            Expression::ScopedCall {
-                class,
-                scope,
-                name,
-                arguments,
-            },
-            rest,
-        ));
+        let called = scoped_call(alloc, class, scope, name, arguments)?;
+        return Ok((called, rest));
     }
     Ok((
         Expression::ScopedName {
@@ -197,7 +193,8 @@ fn named<'a>(
     match token.kind {
         TokenKind::LeftParen => {
             let (arguments, rest) = arguments(alloc, *token, rest, depth)?;
-            Ok((Expression::Call { name, arguments }, rest))
+            let called = call(alloc, name, arguments)?;
+            Ok((called, rest))
         }
         TokenKind::Scope => scoped(alloc, name, *token, rest, depth),
         _ => Ok((Expression::Name(name), tokens)),
@@ -263,19 +260,16 @@ fn casted<'a>(
     let (greater, rest) = a_greater(rest)?;
     let (open, rest) = a_left_paren(rest)?;
     let ((operand, close), rest) = inside(alloc, rest, depth)?;
-    let operand = Box::new(alloc, operand)?;
-    Ok((
-        Expression::Cast {
-            word,
-            less,
-            target,
-            greater,
-            open,
-            operand,
-            close,
-        },
-        rest,
-    ))
+    let around = CastTokens {
+        word,
+        less,
+        target,
+        greater,
+        open,
+        close,
+    };
+    let casted = cast(alloc, around, operand)?;
+    Ok((casted, rest))
 }
 
 /// Reads what stands after a left parenthesis.
@@ -336,16 +330,8 @@ fn membered<'a>(
         && matches!(open.kind, TokenKind::LeftParen)
     {
         let (arguments, rest) = arguments(alloc, *open, rest, depth)?;
-        let object = Box::new(alloc, object)?;
-        return Ok((
-            Expression::MethodCall {
-                object,
-                dot,
-                name,
-                arguments,
-            },
-            rest,
-        ));
+        let called = method_call(alloc, object, dot, name, arguments)?;
+        return Ok((called, rest));
     }
     let object = Box::new(alloc, object)?;
     Ok((Expression::Member { object, dot, name }, rest))

@@ -1,4 +1,4 @@
--- What the declaration of each host entity says (docs/EMBEDDING.md, "Declarations"). A text of another form, and one that
+-- What the declaration of each host entity says (docs/HOST.md, "Declarations"). A text of another form, and one that
 -- hosts can't use, declares nothing.
 use Rattle.std.specs.Prelude.{ℕ, false, if◌then◌else◌, List, [], Option, Some, None, Result, Ok, Err}
 use Rattle.ang_kinds.specs.declared.types.Signature.{Signature}

@@ -1,4 +1,4 @@
--- What can stand beside what under one name (docs/EMBEDDING.md, "Names").
+-- What can stand beside what under one name (docs/HOST.md, "Names").
 use Rattle.std.specs.Prelude.{Bool, true, false, ◌==◌, ◌&&◌, List, Option, Some, None}
 use Rattle.std.specs.Cmp.Lexicographic.{pointwise}
 use Rattle.std.specs.List.{list_any}

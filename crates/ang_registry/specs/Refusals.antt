@@ -1,4 +1,4 @@
--- When a registration is refused, and what it adds (docs/EMBEDDING.md, "Registration").
+-- When a registration is refused, and what it adds (docs/HOST.md, "Registration").
 use Rattle.std.specs.Prelude.{ℕ, ℤ, ◌==◌, Bool, false, not, ◌||◌, is_none, nat_le, nat_lt, if◌then◌else◌, List, [], ◌∷◌, ◌++◌, length, Option, Some, None}
 use Rattle.ang_kinds.specs.declared.mask.EntityNo.{EntityNo}
 use Rattle.ang_kinds.specs.declared.types.Signature.{Signature}

@@ -1,4 +1,4 @@
--- What a registry holds (docs/EMBEDDING.md, "Registration").
+-- What a registry holds (docs/HOST.md, "Registration").
 use Rattle.ang_kinds.specs.declared.mask.Mask.{Mask}
 use Rattle.ang_view.specs.Registration.{RegistrationList}
 

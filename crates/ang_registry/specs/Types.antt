@@ -1,4 +1,4 @@
--- The types that a declaration names, by name and by driver, and which of them are enumerations (docs/EMBEDDING.md, "Registration").
+-- The types that a declaration names, by name and by driver, and which of them are enumerations (docs/HOST.md, "Registration").
 use Rattle.std.specs.Prelude.{ℕ, Bool, true, false, not, ◌==◌, ◌&&◌, ◌||◌, nat_lt, is_some, if◌then◌else◌, List, map, Option, Some, None}
 use Rattle.std.specs.List.{list_any, list_all}
 use Rattle.ang_kinds.specs.declared.mask.Mask.{Mask}

@@ -1,4 +1,4 @@
--- What texts declare before it is known what has the names in them (docs/EMBEDDING.md, "Declarations"): values alone are taken, and a
+-- What texts declare before it is known what has the names in them (docs/HOST.md, "Declarations"): values alone are taken, and a
 -- property's type is a primitive one or a bare name.
 use Rattle.std.specs.Prelude.{ℕ, ◌≡◌, false, [], List, Option, Some, None}
 use Rattle.ang_kinds.specs.declared.types.Signature.{Signature}

@@ -5,7 +5,7 @@ ghost use Rattle.ang_registry.specs.declared.error.RegError.TheVariants.{Memory}
 use std::alloc::{AllocError, AllocFailed};
 use thiserror::Error;
 
-/// Why a registration is refused (docs/EMBEDDING.md, "Registration").
+/// Why a registration is refused (docs/HOST.md, "Registration").
 ///
 /// Where several apply, the first of them in this order is answered. `Memory` may come instead of any of
 /// them, and instead of success.

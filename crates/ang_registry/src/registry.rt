@@ -24,7 +24,7 @@ use std::alloc::{AllocError, Global};
 use std::marker::Model;
 
 /// What a host offers to scripts: a list of entries, numbered from 0 in the order of registration, and
-/// the mask that the next entry gets (docs/EMBEDDING.md, "Registration").
+/// the mask that the next entry gets (docs/HOST.md, "Registration").
 ///
 /// It doesn't know which drivers there will be: `Engine::new` refuses an entry whose driver is not in the
 /// list (`NoDriver`).

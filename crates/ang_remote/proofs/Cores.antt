@@ -1,5 +1,5 @@
 -- Wires of one core are alike.
-use Rattle.std.specs.Prelude.{ℕ, ◌+◌, ◌≡◌, Bool, true, false, cond, is_some, List, [], ◌∷◌, ◌++◌, length, Option, Some, None, map as list_map}
+use Rattle.std.specs.Prelude.{ℕ, ◌+◌, ◌≡◌, Bool, true, false, cond, is_some, List, [], ◌∷◌, ◌++◌, length, Option, Some, None, unwrap_or, map as list_map}
 use Rattle.std.specs.Ordering.{nat_cmp, is_eq}
 use Rattle.std.specs.FinMap as map
 use Rattle.std.specs.FinMap.{get-entries, find}
@@ -47,8 +47,15 @@ live_alike a b k h = ap is_some (get-entries a k) ∙ found_alike k (map.entries
 pub alike : (x y : Wire) → core_of x ≡ core_of y → AreAlike x y
 alike x y h =
     let n : x.number ≡ y.number = cc in
-    let more : known_code x.written (known_code x.unread (list_map (λ e. e.0) (map.entries x.live)))
-    ≡ known_code y.written (known_code y.unread (list_map (λ e. e.0) (map.entries y.live))) = cc in
+    let more : known_code x.written (known_code x.unread (known_code (Some x.posted) (list_map (λ e. e.0) (map.entries x.live))))
+    ≡ known_code y.written (known_code y.unread (known_code (Some y.posted) (list_map (λ e. e.0) (map.entries y.live)))) = cc in
     let p = known_parts x.written y.written _ _ more in
     let q = known_parts x.unread y.unread _ _ p.1 in
-    record { number = n; live = λ k. live_alike x.live y.live k q.1; written = p.0; unread = q.0 }
+    let r = known_parts (Some x.posted) (Some y.posted) _ _ q.1 in
+    record {
+      number = n;
+      posted = ap (λ o. unwrap_or o []) r.0;
+      live = λ k. live_alike x.live y.live k r.1;
+      written = p.0;
+      unread = q.0;
+    }

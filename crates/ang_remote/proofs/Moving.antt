@@ -13,7 +13,7 @@ use Rattle.ang_host.specs.declared.answer.HostReply.{HostReply}
 use Rattle.ang_host.specs.declared.answer.HostReply.TheVariants.{Making, Asking}
 use Rattle.ang_host.specs.State.{State, Tally, Ask, make, end}
 use Rattle.ang_host.specs.Laws.{Fits, IsLive, IsSound, IsAsked, Answers, Answered, WasMade, WasAdded, WasReleased, IsIdleTest, IsLiveAnswer, one_asked}
-use Rattle.ang_remote.specs.Asks.{ask_text}
+use Rattle.ang_remote.specs.Asks.{ask_text, is_posted}
 use Rattle.ang_remote.specs.Ledger.{Live, Ledger, IsHeld, Asks, Inserts, AddsOne, ReleasesOne}
 use Rattle.ang_remote.specs.KeysLedger.{ledger}
 use Rattle.ang_remote.specs.Wires.{Wire, core_of, is_live, given_of, answer_of, made_of, IsMaking, MakesKey, IsExchanged, AnswerMoves, MakingMoves, WireMoves, RemoteFits}
@@ -22,14 +22,18 @@ use Rattle.ang_remote.specs.declared.answers.Said.TheVariants as said
 use Rattle.ang_remote.specs.declared.keys.Keys.{Keys}
 use Rattle.ang_remote.proofs.Holding.{there_by_key}
 
--- the wire and the state of a driver of the number n
-abbrev pub wire : ℕ → Ledger → Option (List ℕ) → Option (List ℕ) → Wire
-wire n l w u = record { number = n; live = l.live; written = w; unread = u }
+-- a driver's number, and the functions that it is posted
+abbrev pub Own : Type 0
+Own = ℕ × List ℕ
 
-abbrev pub at : ℕ → Ledger → Option (List ℕ) → Option (List ℕ) → State
+-- the wire and the state of a driver
+abbrev pub wire : Own → Ledger → Option (List ℕ) → Option (List ℕ) → Wire
+wire n l w u = record { number = n.0; posted = n.1; live = l.live; written = w; unread = u }
+
+abbrev pub at : Own → Ledger → Option (List ℕ) → Option (List ℕ) → State
 at n l w u = record { counts = l.counts; core = core_of (wire n l w u); tally = l.tally }
 
-pub sound_of : (k : Keys) (n : ℕ) (w u : Option (List ℕ)) → IsSound (at n (ledger k) w u)
+pub sound_of : (k : Keys) (n : Own) (w u : Option (List ℕ)) → IsSound (at n (ledger k) w u)
 sound_of k n w u = record { sums = k.sums; positive = k.positive }
 
 -- one key made more
@@ -105,7 +109,7 @@ answer_not live said.Memory = tt
 
 -- ---- the laws. Before is the ledger k, after the counted host call l, and at the end m.
 
-module _ (n : ℕ) (k l : Keys) (w w2 u u2 : Option (List ℕ)) (asks : Asks (ledger k) true (ledger l)) where
+module _ (n : Own) (k l : Keys) (w w2 u u2 : Option (List ℕ)) (asks : Asks (ledger k) true (ledger l)) where
   counts_same : (ledger l).counts ≡ (ledger k).counts
   counts_same = ap (λ x. x.counts) asks
 
@@ -115,7 +119,7 @@ module _ (n : ℕ) (k l : Keys) (w w2 u u2 : Option (List ℕ)) (asks : Asks (le
   tally_one : (ledger l).tally ≡ one_asked (ledger k).tally
   tally_one = ap (λ x. x.tally) asks
 
-  answer_fits : (a : Ask) (s : Said) → IsExchanged (ask_text n a) w w2 u u2 s
+  answer_fits : (a : Ask) (s : Said) → IsExchanged (ask_text n.0 n.1 a) w w2 u u2 s (is_posted n.1 a)
       → ((x y : Wire) (r : HostReply) → AnswerMoves x a r y → WireMoves x a r y)
       → RemoteFits (core_of (wire n (ledger k) w u)) a (Asking (answer_of (ledger l).live s)) (core_of (wire n (ledger l) w2 u2))
   answer_fits a s exchanged moves = (
@@ -123,11 +127,11 @@ module _ (n : ℕ) (k l : Keys) (w w2 u u2 : Option (List ℕ)) (asks : Asks (le
     wire n (ledger l) w2 u2,
     refl,
     refl,
-    moves _ _ _ (s, (refl, exchanged), ap (λ v. Asking (answer_of v s)) live_same, live_same),
+    moves _ _ _ (s, (refl, refl, exchanged), ap (λ v. Asking (answer_of v s)) live_same, live_same),
   )
 
   -- a host call that is answered
-  pub answered : (a : Ask) (s : Said) (r : Answer) → IsExchanged (ask_text n a) w w2 u u2 s → r ≡ answer_of (ledger l).live s
+  pub answered : (a : Ask) (s : Said) (r : Answer) → IsExchanged (ask_text n.0 n.1 a) w w2 u u2 s (is_posted n.1 a) → r ≡ answer_of (ledger l).live s
       → ((x y : Wire) (q : HostReply) → AnswerMoves x a q y → WireMoves x a q y)
       → Answered RemoteFits (at n (ledger k) w u) a r (at n (ledger l) w2 u2)
   answered a s r exchanged e moves = subst (λ q. Answered RemoteFits (at n (ledger k) w u) a q (at n (ledger l) w2 u2)) (sym e) (record {
@@ -139,7 +143,7 @@ module _ (n : ℕ) (k l : Keys) (w w2 u u2 : Option (List ℕ)) (asks : Asks (le
   })
 
   -- what a making comes to that makes no key
-  made_none : (f : ℕ) (args : List Value) (s : Said) (r : Made) (m : Keys) → IsExchanged (ask_text n (make f args)) w w2 u u2 s
+  made_none : (f : ℕ) (args : List Value) (s : Said) (r : Made) (m : Keys) → IsExchanged (ask_text n.0 n.1 (make f args)) w w2 u u2 s false
       → IsMaking (ledger l).live s r → ledger m ≡ ledger l → ((ledger l).live ≡ (ledger k).live → MakingMoves (wire n (ledger k) w u) (make f args) (Making r) (wire n (ledger m) w2 u2))
       → IsAsked RemoteFits (at n (ledger k) w u) (make f args) (Making r) (at n (ledger m) w2 u2)
   made_none f args s r m exchanged making same moves = (
@@ -155,7 +159,7 @@ module _ (n : ℕ) (k l : Keys) (w w2 u u2 : Option (List ℕ)) (asks : Asks (le
   live_kept m same = ap (λ x. x.live) same ∙ live_same
 
   -- a host call for an object
-  pub was_made : (f : ℕ) (args : List Value) (s : Said) (r : Made) (m : Keys) → IsExchanged (ask_text n (make f args)) w w2 u u2 s → MakesKey (ledger l) s r (ledger m)
+  pub was_made : (f : ℕ) (args : List Value) (s : Said) (r : Made) (m : Keys) → IsExchanged (ask_text n.0 n.1 (make f args)) w w2 u u2 s false → MakesKey (ledger l) s r (ledger m)
       → WasMade RemoteFits (at n (ledger k) w u) (make f args) r (at n (ledger m) w2 u2)
   was_made f args s (made.Key q) m exchanged h = record {
     moved = (
@@ -167,7 +171,7 @@ module _ (n : ℕ) (k l : Keys) (w w2 u u2 : Option (List ℕ)) (asks : Asks (le
         wire n (ledger m) w2 u2,
         refl,
         refl,
-        (s, made.Key q, (refl, exchanged), making_before s (made.Key q) (inl (sym h.0)), refl, h.2.live ∙ ap (λ v. map.insert v q true) live_same),
+        (s, made.Key q, (refl, refl, exchanged), making_before s (made.Key q) (inl (sym h.0)), refl, h.2.live ∙ ap (λ v. map.insert v q true) live_same),
       ),
     );
     sound = sound_of m n w2 u2;
@@ -175,26 +179,26 @@ module _ (n : ℕ) (k l : Keys) (w w2 u u2 : Option (List ℕ)) (asks : Asks (le
   was_made f args s made.Nothing m exchanged h = record {
     moved =
         made_none f args s made.Nothing m exchanged (inl (sym h.0)) h.1
-        (λ e. (s, made.Nothing, (refl, exchanged), making_before s made.Nothing (inl (sym h.0)), refl, live_kept m h.1));
+        (λ e. (s, made.Nothing, (refl, refl, exchanged), making_before s made.Nothing (inl (sym h.0)), refl, live_kept m h.1));
     sound = sound_of m n w2 u2;
   }
   was_made f args s (made.Fault q) m exchanged h = record {
     moved =
         made_none f args s (made.Fault q) m exchanged (inl (sym h.0)) h.1
-        (λ e. (s, made.Fault q, (refl, exchanged), making_before s (made.Fault q) (inl (sym h.0)), refl, live_kept m h.1));
+        (λ e. (s, made.Fault q, (refl, refl, exchanged), making_before s (made.Fault q) (inl (sym h.0)), refl, live_kept m h.1));
     sound = sound_of m n w2 u2;
   }
   was_made f args s made.Memory m exchanged h = record {
     moved =
         made_none f args s made.Memory m exchanged h.0 h.1
-        (λ e. (s, made.Memory, (refl, exchanged), making_before s made.Memory h.0, refl, live_kept m h.1));
+        (λ e. (s, made.Memory, (refl, refl, exchanged), making_before s made.Memory h.0, refl, live_kept m h.1));
     sound = sound_of m n w2 u2;
   }
   was_made f args s made.Full m exchanged h = absurd h
 
 -- ---- what needs no host call
 
-module _ (n : ℕ) (k m : Keys) (w u : Option (List ℕ)) where
+module _ (n : Own) (k m : Keys) (w u : Option (List ℕ)) where
   pub full_answer : (a : Ask) → Asks (ledger k) false (ledger m) → Answered RemoteFits (at n (ledger k) w u) a answer.Full (at n (ledger m) w u)
   full_answer a h = record {
     moved = (ap (λ l. at n l w u) h.0, inl h.1);
@@ -207,7 +211,7 @@ module _ (n : ℕ) (k m : Keys) (w u : Option (List ℕ)) where
 
   pub added : (q : ℕ) (r : Bool) → AddsOne (ledger k) q r (ledger m) → WasAdded (at n (ledger k) w u) q r (at n (ledger m) w u)
   added q true h = record {
-    moved = (h.0, h.1, h.2, ap (λ v. core_of (record { number = n; live = v; written = w; unread = u })) h.3, h.4);
+    moved = (h.0, h.1, h.2, ap (λ v. core_of (record { number = n.0; posted = n.1; live = v; written = w; unread = u })) h.3, h.4);
     sound = sound_of m n w u;
   }
   added q false h = record { moved = (ap (λ l. at n l w u) h.0, inr (inr h.1)); sound = sound_of m n w u }
@@ -218,26 +222,26 @@ module _ (n : ℕ) (k m : Keys) (w u : Option (List ℕ)) where
       h.0,
       h.1,
       h.3,
-      (wire n (ledger k) w u, wire n (ledger m) w u, refl, refl, (refl, ap (λ v. record { number = n; live = v; written = w; unread = u }) h.2)),
+      (wire n (ledger k) w u, wire n (ledger m) w u, refl, refl, (refl, ap (λ v. record { number = n.0; posted = n.1; live = v; written = w; unread = u }) h.2)),
     );
     sound = sound_of m n w u;
   }
   released q false h = record {
-    moved = (h.0, h.1, h.2, ap (λ v. core_of (record { number = n; live = v; written = w; unread = u })) h.3, h.4);
+    moved = (h.0, h.1, h.2, ap (λ v. core_of (record { number = n.0; posted = n.1; live = v; written = w; unread = u })) h.3, h.4);
     sound = sound_of m n w u;
   }
 
 -- ---- the same where the driver's own fields are those that they were
 
-pub answered_by : (n n2 : ℕ) (k l0 l : Keys) (w w2 u u2 : Option (List ℕ)) → n2 ≡ n → l ≡ l0 → Asks (ledger k) true (ledger l0) → (a : Ask) (s : Said) (r : Answer)
-    → IsExchanged (ask_text n a) w w2 u u2 s → r ≡ answer_of (ledger l).live s → ((x y : Wire) (q : HostReply) → AnswerMoves x a q y → WireMoves x a q y)
+pub answered_by : (n n2 : Own) (k l0 l : Keys) (w w2 u u2 : Option (List ℕ)) → n2 ≡ n → l ≡ l0 → Asks (ledger k) true (ledger l0) → (a : Ask) (s : Said) (r : Answer)
+    → IsExchanged (ask_text n.0 n.1 a) w w2 u u2 s (is_posted n.1 a) → r ≡ answer_of (ledger l).live s → ((x y : Wire) (q : HostReply) → AnswerMoves x a q y → WireMoves x a q y)
     → Answered RemoteFits (at n (ledger k) w u) a r (at n2 (ledger l) w2 u2)
 answered_by n n2 k l0 l w w2 u u2 same_n same_k asks a s r exchanged e moves =
     subst (λ p. Answered RemoteFits (at n (ledger k) w u) a r (at p (ledger l) w2 u2)) (sym same_n)
     (answered n k l w w2 u u2 (subst (λ x. Asks (ledger k) true (ledger x)) (sym same_k) asks) a s r exchanged e moves)
 
-pub made_by : (n n2 : ℕ) (k l0 l m : Keys) (w w2 u u2 : Option (List ℕ)) → n2 ≡ n → l ≡ l0 → Asks (ledger k) true (ledger l0) → (f : ℕ) (args : List Value) (s : Said) (r : Made)
-    → IsExchanged (ask_text n (make f args)) w w2 u u2 s → MakesKey (ledger l) s r (ledger m)
+pub made_by : (n n2 : Own) (k l0 l m : Keys) (w w2 u u2 : Option (List ℕ)) → n2 ≡ n → l ≡ l0 → Asks (ledger k) true (ledger l0) → (f : ℕ) (args : List Value) (s : Said) (r : Made)
+    → IsExchanged (ask_text n.0 n.1 (make f args)) w w2 u u2 s false → MakesKey (ledger l) s r (ledger m)
     → WasMade RemoteFits (at n (ledger k) w u) (make f args) r (at n2 (ledger m) w2 u2)
 made_by n n2 k l0 l m w w2 u u2 same_n same_k asks f args s r exchanged h =
     subst (λ p. WasMade RemoteFits (at n (ledger k) w u) (make f args) r (at p (ledger m) w2 u2)) (sym same_n)

@@ -5,10 +5,11 @@ use Rattle.ang_remote.specs.declared.remote.Remote.{Remote}
 use Rattle.ang_remote.specs.KeysLedger.{ledger}
 use Rattle.ang_remote.specs.Wires.{Wire, core_of}
 
--- its number, its live keys, and what its streams say of themselves
+-- its number, the functions that it is posted, its live keys, and what its streams say of themselves
 abbrev pub wire_of : {R W : Type 0} → (R → Option (List ℕ)) → (W → Option (List ℕ)) → Remote R W → Wire
 wire_of remaining contents r = record {
   number = r.number;
+  posted = r.posted.items;
   live = (ledger r.keys).live;
   written = contents r.writer;
   unread = remaining r.reader;

@@ -12,7 +12,7 @@ use Rattle.ang_host.specs.declared.answer.HostReply.{HostReply}
 use Rattle.ang_host.specs.declared.answer.HostReply.TheVariants.{Making, Asking}
 use Rattle.ang_host.specs.State.{State, Ask, make, call, read, write, end}
 use Rattle.ang_host.specs.Laws.{Fits}
-use Rattle.ang_remote.specs.Asks.{ask_text}
+use Rattle.ang_remote.specs.Asks.{ask_text, is_posted}
 use Rattle.ang_remote.specs.Said.{said_in, not_written, not_read, input_ended, bad_form}
 use Rattle.ang_remote.specs.Lines.{IsLine}
 use Rattle.ang_remote.specs.Ledger.{Live, Ledger, Inserts, with_key}
@@ -78,11 +78,18 @@ heard_as heard.Failed line = not_read
 abbrev pub IsAnswered : Option (List ℕ) → Option (List ℕ) → Said → Type 0
 IsAnswered old new s = (came : Came) × Comes old new came × (s ≡ taken_for came)
 
--- One host call of this text: it is written, and an answer is read. Or it can't be written, and nothing is read. Or there
--- is no memory for it, and nothing is done.
+-- One host call of this text: it is written, and an answer is read, or, where it is posted, nothing is read, and `void` is
+-- taken for its answer. Or it can't be written, and nothing is read. Or there is no memory for it, and nothing is done.
 module _ (text : List ℕ) (written written_after unread unread_after : Option (List ℕ)) (s : Said) where
   abbrev pub IsAsked : Type 0
   IsAsked = Appends written written_after text × IsAnswered unread unread_after s
+
+  abbrev pub IsPosted : Type 0
+  IsPosted = Appends written written_after text × (unread_after ≡ unread) × (s ≡ said.Void)
+
+  abbrev pub IsTold : Bool → Type 0
+  IsTold true = IsPosted
+  IsTold false = IsAsked
 
   abbrev pub IsUnasked : Type 0
   IsUnasked = HasFront written written_after text × (unread_after ≡ unread) × (s ≡ not_written)
@@ -90,8 +97,8 @@ module _ (text : List ℕ) (written written_after unread unread_after : Option (
   abbrev pub IsUntold : Type 0
   IsUntold = (written_after ≡ written) × (unread_after ≡ unread) × (s ≡ said.Memory)
 
-  abbrev pub IsExchanged : Type 0
-  IsExchanged = IsAsked ⊎ (IsUnasked ⊎ IsUntold)
+  abbrev pub IsExchanged : Bool → Type 0
+  IsExchanged posted = IsTold posted ⊎ (IsUnasked ⊎ IsUntold)
 
 -- ---- answers
 
@@ -148,9 +155,11 @@ MakesKey s said made.Full t = ⊥
 
 -- ---- the core
 
--- the driver's number, the live keys, and what is known of the bytes that were written and that are left to read
+-- the driver's number, the functions that it is posted, the live keys, and what is known of the bytes that were written and
+-- that are left to read
 pub record Wire : Type 0 where
   pub number : ℕ
+  pub posted : List ℕ
   pub live : Live
   pub written : Option (List ℕ)
   pub unread : Option (List ℕ)
@@ -161,18 +170,23 @@ known_code None rest = 0 ∷ rest
 known_code (Some bytes) rest = (length bytes + 1) ∷ (bytes ++ rest)
 
 abbrev pub core_of : Wire → List ℕ
-core_of x = x.number ∷ known_code x.written (known_code x.unread (list_map (λ e. e.0) (map.entries x.live)))
+core_of x =
+    x.number ∷ known_code x.written (known_code x.unread (known_code (Some x.posted)
+    (list_map (λ e. e.0) (map.entries x.live))))
 
--- wires with the same number, live keys and known bytes
+-- wires with the same number, posted functions, live keys and known bytes
 pub record AreAlike (x y : Wire) : Type 0 where
   pub number : x.number ≡ y.number
+  pub posted : x.posted ≡ y.posted
   pub live : (k : ℕ) → is_live x.live k ≡ is_live y.live k
   pub written : x.written ≡ y.written
   pub unread : x.unread ≡ y.unread
 
 -- Between two wires this was said to a host call.
 abbrev pub Exchanges : Wire → Ask → Said → Wire → Type 0
-Exchanges x a s y = (y.number ≡ x.number) × IsExchanged (ask_text x.number a) x.written y.written x.unread y.unread s
+Exchanges x a s y =
+    (y.number ≡ x.number) × (y.posted ≡ x.posted)
+    × IsExchanged (ask_text x.number x.posted a) x.written y.written x.unread y.unread s (is_posted x.posted a)
 
 -- a host call to which something is answered
 abbrev pub AnswerMoves : Wire → Ask → HostReply → Wire → Type 0
@@ -197,9 +211,15 @@ abbrev pub RemoteFits : Fits
 RemoteFits c a r d = (x : Wire) × (y : Wire) × (c ≡ core_of x) × (d ≡ core_of y) × WireMoves x a r y
 
 -- no objects, and never asked
-abbrev pub fresh_state : ℕ → Option (List ℕ) → Option (List ℕ) → State
-fresh_state number written unread = record {
+abbrev pub fresh_state : ℕ → List ℕ → Option (List ℕ) → Option (List ℕ) → State
+fresh_state number posted written unread = record {
   counts = map.empty;
-  core = core_of (record { number = number; live = map.empty; written = written; unread = unread });
+  core = core_of (record {
+    number = number;
+    posted = posted;
+    live = map.empty;
+    written = written;
+    unread = unread;
+  });
   tally = record { asked = 0; made = 0; added = 0; released = 0 };
 }

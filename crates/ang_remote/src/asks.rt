@@ -1,6 +1,6 @@
-//! The text of an ask.
+//! The text of an ask, and of a post.
 ghost use Rattle.std.specs.Prelude.{◌≡◌, ◌++◌, OnOk, IfOk, codes, decimal, flat_map};
-ghost use Rattle.ang_remote.specs.Asks.{value_text, values_text, kind_text, line_text};
+ghost use Rattle.ang_remote.specs.Asks.{value_text, values_text, kind_text, is_posted_call, word_text, line_text};
 
 use ang_kinds::Value;
 use asrun_lines::{push_key, push_number, push_object, push_signed, push_text};
@@ -78,23 +78,42 @@ fn kind_name(kind: AskKind) -> &'static str
     }
 }
 
-/// `ask DRIVER KIND F OBJECT (V,V)`, as a line.
+/// Whether a call is posted, of a driver that is posted these functions. A method never is.
+pub fn is_posted_call(posted: &[u32], f: u32, object: Option<u64>) -> bool
+    ensures exact { result ≡ is_posted_call posted.now f object }
+{
+    match object {
+        None => posted.contains(&f),
+        Some(_) => false,
+    }
+}
+
+#[tactic(auto, unfolding(crate::specs::Asks::word_text))]
+fn word(posted: bool) -> &'static str
+    ensures exact { result.now ≡ word_text posted }
+{
+    if posted { "post " } else { "ask " }
+}
+
+/// `ask DRIVER KIND F OBJECT (V,V)`, as a line; where it is posted, the same with `post`.
 ///
 /// # Errors
 /// A growth of memory was refused.
 #[tactic(auto, using(crate::proofs::Texts::texts), unfolding(crate::specs::Asks::line_text))]
 pub fn ask_line(
     alloc: Global,
+    posted: bool,
     driver: u32,
     kind: AskKind,
     f: u32,
     object: Option<u64>,
     values: &[Value],
 ) -> Result<Vec<u8>, AllocError>
-    ensures exact { IfOk result (λ r. r.items ≡ line_text driver kind f object values.now) }
+    ensures exact { IfOk result
+        (λ r. r.items ≡ line_text posted driver kind f object values.now) }
 {
     let mut out = Vec::new(alloc);
-    push_text(&mut out, "ask ")?;
+    push_text(&mut out, word(posted))?;
     push_number(&mut out, u64::from(driver))?;
     push_text(&mut out, " ")?;
     push_text(&mut out, kind_name(kind))?;

@@ -1,4 +1,4 @@
-//! One host call over a line: the ask is written, and the answer is read.
+//! One host call over a line: the ask is written, and the answer is read. What is posted has none.
 ghost use Rattle.std.specs.Prelude.{◌≡◌};
 ghost use Rattle.ang_remote.specs.Asks.{line_text};
 ghost use Rattle.ang_remote.specs.Wires.{IsExchanged, IsAnswered, heard_as};
@@ -33,26 +33,31 @@ fn read_answer<R: Read>(alloc: Global, reader: &mut R) -> Said
     heard_as(heard, &line)
 }
 
-/// Asks the driver of this number, and gives what is said to it.
+/// Asks the driver of this number, and gives what is said to it. What is posted is written alone, and `void` is taken for
+/// its answer.
 pub fn exchange<R: Read, W: Write>(
     alloc: Global,
     reader: &mut R,
     writer: &mut W,
+    posted: bool,
     driver: u32,
     kind: AskKind,
     f: u32,
     object: Option<u64>,
     values: &[Value],
 ) -> Said
-    ensures exchanged { IsExchanged (line_text driver kind f object values.now)
+    ensures exchanged { IsExchanged (line_text posted driver kind f object values.now)
         (W.contents writer.old) (W.contents writer.new) (R.remaining reader.old)
-        (R.remaining reader.new) result }
+        (R.remaining reader.new) result posted }
 {
-    let Ok(line) = ask_line(alloc, driver, kind, f, object, values) else {
+    let Ok(line) = ask_line(alloc, posted, driver, kind, f, object, values) else {
         return Said::Memory;
     };
     if !write_text(writer, &line) {
         return Said::Fault(NOT_WRITTEN);
+    }
+    if posted {
+        return Said::Void;
     }
     read_answer(alloc, reader)
 }

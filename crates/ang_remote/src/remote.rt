@@ -1,12 +1,12 @@
 //! The driver whose host is another process.
 ghost use Rattle.std.specs.Prelude.{◌≡◌, ◌<◌};
-ghost use Rattle.ang_remote.specs.Asks.{line_text};
+ghost use Rattle.ang_remote.specs.Asks.{is_posted_call, line_text};
 ghost use Rattle.ang_remote.specs.KeysLedger.{ledger};
 ghost use Rattle.ang_remote.specs.declared.answers.Said.TheVariants as saying;
 ghost use Rattle.ang_remote.specs.Wires.{IsExchanged, MakesKey, answer_of, given_of, fresh_state};
 
 use crate::answers::{KEY_LIVE, NOT_LIVE, OTHER_KIND, Said};
-use crate::asks::AskKind;
+use crate::asks::{AskKind, is_posted_call};
 use crate::exchange::exchange;
 use crate::keys::Keys;
 use ang_host::{Answer, Driver, Made};
@@ -17,14 +17,16 @@ use std::io::{Read, Write};
 /// A driver whose host reads its asks from a writer, and writes its answers to a reader (docs/FORMATS.md, "The
 /// conversation of asremote").
 ///
-/// Each host call is one line that is written and one that is read. The references to live keys are kept here, so
+/// Each host call is one line that is written and one that is read. A function that is posted has no answer: its line is
+/// written alone, before that of what is asked next. The references to live keys are kept here, so
 /// nothing is written where one is added or released. What can't be taken for an answer is a fault of one of the
-/// numbers 4294967280 to 4294967286, which hosts don't use themselves. Its core is the driver's number, the live keys,
-/// and what is known of the bytes that the writer holds and the reader has left.
+/// numbers 4294967280 to 4294967286, which hosts don't use themselves. Its core is the driver's number, the functions
+/// that it is posted, the live keys, and what is known of the bytes that the writer holds and the reader has left.
 #[derive(Drop)]
 pub struct Remote<R: Drop, W: Drop> {
     alloc: Global,
     number: u32,
+    posted: Vec<u32>,
     reader: R,
     writer: W,
     keys: Keys,
@@ -33,32 +35,51 @@ pub struct Remote<R: Drop, W: Drop> {
 impl<R: Read + Drop, W: Write + Drop> Remote<R, W> {
     ghost use Rattle.ang_remote.specs.RemoteState.{state_of};
 
-    /// A driver of this number, without objects, that was never asked.
-    pub fn new(alloc: Global, number: u32, reader: R, writer: W) -> Remote<R, W>
+    /// A driver of this number, without objects, that was never asked. `posted` are the numbers of the functions whose calls
+    /// are posted; they are looked for from the first on, so they should be few.
+    pub fn new(alloc: Global, number: u32, posted: Vec<u32>, reader: R, writer: W) -> Remote<R, W>
         ensures fresh { state_of R.remaining W.contents result
-            ≡ fresh_state number (W.contents writer) (R.remaining reader) }
+            ≡ fresh_state number posted.items (W.contents writer) (R.remaining reader) }
     {
         Remote {
             alloc,
             number,
+            posted,
             reader,
             writer,
             keys: Keys::new(alloc),
         }
     }
 
-    // Asks, and gives what is said.
-    fn ask(&mut self, kind: AskKind, f: u32, object: Option<u64>, values: &[Value]) -> Said
+    // Whether a call is posted.
+    fn posts(&self, f: u32, object: Option<u64>) -> bool
+        ensures exact { result ≡ is_posted_call self.now.posted.items f object }
+    {
+        is_posted_call(&self.posted, f, object)
+    }
+
+    // Asks or posts, and gives what is said.
+    fn ask(
+        &mut self,
+        posted: bool,
+        kind: AskKind,
+        f: u32,
+        object: Option<u64>,
+        values: &[Value],
+    ) -> Said
         ensures keys { self.new.keys ≡ self.old.keys }
         ensures number { self.new.number ≡ self.old.number }
-        ensures exchanged { IsExchanged (line_text self.old.number kind f object values.now)
+        ensures posted { self.new.posted ≡ self.old.posted }
+        ensures exchanged { IsExchanged
+            (line_text posted self.old.number kind f object values.now)
             (W.contents self.old.writer) (W.contents self.new.writer)
-            (R.remaining self.old.reader) (R.remaining self.new.reader) result }
+            (R.remaining self.old.reader) (R.remaining self.new.reader) result posted }
     {
         exchange(
             self.alloc,
             &mut self.reader,
             &mut self.writer,
+            posted,
             self.number,
             kind,
             f,
@@ -139,7 +160,7 @@ impl<R: Read + Drop, W: Write + Drop> Driver for Remote<R, W> {
         if !self.keys.ask() {
             return Made::Full;
         }
-        let said = self.ask(AskKind::Make, f, None, args);
+        let said = self.ask(false, AskKind::Make, f, None, args);
         made(&mut self.keys, said)
     }
 
@@ -147,7 +168,8 @@ impl<R: Read + Drop, W: Write + Drop> Driver for Remote<R, W> {
         if !self.keys.ask() {
             return Answer::Full;
         }
-        let said = self.ask(AskKind::Call, f, object, args);
+        let posted = self.posts(f, object);
+        let said = self.ask(posted, AskKind::Call, f, object, args);
         answer(&self.keys, said)
     }
 
@@ -155,7 +177,7 @@ impl<R: Read + Drop, W: Write + Drop> Driver for Remote<R, W> {
         if !self.keys.ask() {
             return Answer::Full;
         }
-        let said = self.ask(AskKind::Read, f, object, &[]);
+        let said = self.ask(false, AskKind::Read, f, object, &[]);
         answer(&self.keys, said)
     }
 
@@ -163,7 +185,7 @@ impl<R: Read + Drop, W: Write + Drop> Driver for Remote<R, W> {
         if !self.keys.ask() {
             return Answer::Full;
         }
-        let said = self.ask(AskKind::Write, f, object, &[value]);
+        let said = self.ask(false, AskKind::Write, f, object, &[value]);
         answer(&self.keys, said)
     }
 

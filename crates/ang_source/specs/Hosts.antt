@@ -1,4 +1,4 @@
--- Registered entities as code asks them (docs/MEANING.md, "Operations"; docs/EMBEDDING.md, "Drivers").
+-- Registered entities as code asks them (docs/CLAIMS.md, "Operations"; docs/HOST.md, "Drivers").
 use Rattle.std.specs.Prelude.{◌≡◌, ℕ, ◌&&◌, Bool, true, false, map, Option, Some, None, if◌then◌else◌}
 use Rattle.ang_kinds.specs.declared.primitive.Primitive.TheVariants.{I32}
 use Rattle.ang_kinds.specs.declared.types.TypeRef.{TypeRef}

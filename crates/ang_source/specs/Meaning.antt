@@ -1,4 +1,4 @@
--- What a script means: what an expression, a statement and a body of the resolved tree does, by cases on the tree (docs/MEANING.md, "What a script means";
+-- What a script means: what an expression, a statement and a body of the resolved tree does, by cases on the tree (docs/CLAIMS.md, "What a script means";
 -- the AngelScript manual, "Expressions", "Statements" and "Functions"). What follows from the ends of a construct's parts is said by the combinators of
 -- `Results`. A local is numbered from the outermost one, and `this` is local 0 of the bodies of methods and constructors.
 use Rattle.std.specs.Prelude.{ℕ, zero, suc, ◌-◌, ◌==◌, true, false, List, [], ◌∷◌, length, reverse, map, find, ◌++◌, Option, Some, None, option_map, option_and_then, slice_get, slice_index_or}

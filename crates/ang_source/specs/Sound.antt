@@ -1,4 +1,4 @@
--- What a checker promises of a resolved tree (docs/MEANING.md, "What a script means"): each local is alive, each global, function, class, slot and import is
+-- What a checker promises of a resolved tree (docs/CLAIMS.md, "What a script means"): each local is alive, each global, function, class, slot and import is
 -- there, each call has an argument for each parameter, each host call is of an entity that the view has, no property that is declared `const` is written, and
 -- `break` and `continue` stand in a loop. It says nothing else of types: operations are total, a field of no object and a
 -- slot that a class has not fault.

@@ -3,7 +3,7 @@
 use crate::type_name::TypeName;
 use ang_lex::Token;
 
-/// An expression.
+/// An expression. What has many tokens is in a box of its own, so that every other node stays small.
 #[cycle(expression)]
 #[derive(Drop)]
 pub enum Expression {
@@ -16,7 +16,7 @@ pub enum Expression {
         /// The name that is called.
         name: Token,
         /// The arguments, with their parentheses.
-        arguments: Arguments,
+        arguments: Box<Arguments>,
     },
     /// `NAME "::" NAME args`: the first name is a class, the second its method.
     ScopedCall {
@@ -27,7 +27,7 @@ pub enum Expression {
         /// The name of its method.
         name: Token,
         /// The arguments, with their parentheses.
-        arguments: Arguments,
+        arguments: Box<Arguments>,
     },
     /// `NAME "::" NAME`: the first name is an enumeration, the second a value of it.
     ScopedName {
@@ -40,20 +40,10 @@ pub enum Expression {
     },
     /// A handle cast to another type: `"cast" "<" type ">" "(" assign ")"`
     Cast {
-        /// The word `cast`.
-        word: Token,
-        /// The `<` in front of the type.
-        less: Token,
-        /// The type that is cast to.
-        target: TypeName,
-        /// The `>` after the type.
-        greater: Token,
-        /// The `(` in front of the operand.
-        open: Token,
+        /// All that is written but the operand.
+        tokens: Box<CastTokens>,
         /// What is cast.
         operand: Box<Expression>,
-        /// The `)` after the operand.
-        close: Token,
     },
     /// A conversion to a primitive type: `PRIM "(" assign ")"`
     Convert {
@@ -100,7 +90,7 @@ pub enum Expression {
         /// The method's name.
         name: Token,
         /// The arguments, with their parentheses.
-        arguments: Arguments,
+        arguments: Box<Arguments>,
     },
     /// An operand with `!`, `-`, `+`, `~`, `@`, `++` or `--` in front of it.
     Prefix {
@@ -140,6 +130,23 @@ pub enum Expression {
         /// What is stored, or what the compound operator works with.
         value: Box<Expression>,
     },
+}
+
+/// What a cast has beside its operand: `"cast" "<" type ">" "("` and `")"`.
+#[derive(Drop)]
+pub struct CastTokens {
+    /// The word `cast`.
+    pub word: Token,
+    /// The `<` in front of the type.
+    pub less: Token,
+    /// The type that is cast to.
+    pub target: TypeName,
+    /// The `>` after the type.
+    pub greater: Token,
+    /// The `(` in front of the operand.
+    pub open: Token,
+    /// The `)` after the operand.
+    pub close: Token,
 }
 
 /// The arguments of a call: `"(" [ assign { "," assign } ] ")"`.

@@ -14,7 +14,7 @@ pub use declaration::{
     BaseName, Class, Constructor, Declaration, FieldName, Fields, Function, Import, Interface,
     InterfaceMethod, Member, Method, Parameter, Parameters, Reference, Script, SuperCall,
 };
-pub use expression::{Argument, Arguments, Expression};
+pub use expression::{Argument, Arguments, CastTokens, Expression};
 pub use statement::{
     Assigned, Block, Else, Ending, ForStart, Guard, Head, Initializer, Jump, Returned, Simple,
     Statement, Variable, Variables,

@@ -40,10 +40,10 @@ expression_step (TypedExpression-F.Same l r) = t.same l.value r.value
 expression_step (TypedExpression-F.Cast n e) = t.cast n e.value
 expression_step (TypedExpression-F.Naming x e) = t.naming x e.value
 expression_step (TypedExpression-F.Make n f es) = t.make n f (t.args es.items)
-expression_step (TypedExpression-F.Assign x ty e) = t.assign x ty e.value
+expression_step (TypedExpression-F.Assign ty x e) = t.assign x ty e.value
 expression_step (TypedExpression-F.Compound x ty op operating e) = t.compound x ty op operating e.value
 expression_step (TypedExpression-F.Step x ty kind) = t.step x ty kind
-expression_step (TypedExpression-F.Call f ty es) = t.call f ty (t.args es.items)
+expression_step (TypedExpression-F.Call ty f es) = t.call f ty (t.args es.items)
 expression_step (TypedExpression-F.HostCall h ty es) = t.host_call h ty (t.args es.items)
 
 abbrev pub argument_step : TypedArgument-F t.Arg t.Expr t.Site → t.Arg

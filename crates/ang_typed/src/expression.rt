@@ -78,7 +78,8 @@ pub enum StepKind {
     DecrementAfter,
 }
 
-/// An expression.
+/// An expression. Fields lie in memory as they stand here, so in `Assign` and `Call` the type is first, where it fills
+/// what is left beside the variant's number.
 ///
 /// Operands and arguments are evaluated from left to right, each once. In an assignment the value comes
 /// first.
@@ -215,10 +216,10 @@ pub enum TypedExpression {
     /// `site = value`, or `@site = value` of handles, both of type `ty`. The value comes first, then the site. The value
     /// of the whole is what was stored.
     Assign {
-        /// What is written.
-        site: TypedSite,
         /// The type of the site and of the value.
         ty: ArgType,
+        /// What is written.
+        site: TypedSite,
         /// What is stored.
         value: Box<TypedExpression>,
     },
@@ -249,10 +250,10 @@ pub enum TypedExpression {
     /// A call of a function of the scripts. There is an argument for each parameter; the receiver of a method, and
     /// the object of a constructor that `super` calls, are the first one.
     Call {
-        /// What is called.
-        callee: TypedCallee,
         /// The type of what the function returns.
         result: ArgType,
+        /// What is called.
+        callee: TypedCallee,
         /// The arguments, in the order of the parameters.
         arguments: Vec<TypedArgument>,
     },

@@ -1,3 +1,5 @@
 pub mod BestLaws
+pub mod MarkLaws
 pub mod RivalLaws
+pub mod StandingLaws
 pub mod PlaceLaws

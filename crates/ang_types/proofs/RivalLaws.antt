@@ -138,7 +138,7 @@ lesser_is (Some r) (Some m) P p q = elim (either r m) [ inl e ↦ subst (λ x. P
     either : (r m : ℕ) → (min r m ≡ r) ⊎ (min r m ≡ m)
     either r m = grind arith
 
-split_last : (i n : ℕ) → i < n + 1 → (i < n) ⊎ (i ≡ n)
+pub split_last : (i n : ℕ) → i < n + 1 → (i < n) ⊎ (i ≡ n)
 split_last i n lt = grind arith
 
 -- one candidate more that is not viable

@@ -1,4 +1,5 @@
 pub mod Integers
+pub mod Marks
 pub mod Ranks
 pub mod Overloads
 pub mod Best

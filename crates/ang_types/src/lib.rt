@@ -12,6 +12,7 @@ mod candidate;
 mod integers;
 pub mod laws;
 mod lineage;
+mod marks;
 mod overloads;
 mod ranks;
 mod rivals;

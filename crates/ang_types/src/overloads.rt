@@ -1,7 +1,6 @@
 //! Which of several candidates a call means.
 ghost use Rattle.std.specs.Prelude.{◌≡◌, ◌↔◌, ◌<◌, ◌+◌, ℕ, IsTrue, length};
 ghost use Rattle.ang_types.specs.Overloads.{
-  HasLess,
   IsBest,
   IsBetter,
   IsLess,
@@ -62,12 +61,10 @@ fn next_leader(
     ensures leads { Leads lineage.now candidates.now args.now (i + 1) result }
 {
     let challenger = params_of(candidates, i);
-    if !is_viable(lineage, challenger, args) {
-        return leader;
-    }
     match leader {
-        Some(best) if !is_better(lineage, challenger, params_of(candidates, best), args) => leader,
-        _ => Some(i),
+        None if is_viable(lineage, challenger, args) => Some(i),
+        Some(best) if outdoes(lineage, challenger, params_of(candidates, best), args) => Some(i),
+        _ => leader,
     }
 }
 
@@ -78,8 +75,7 @@ fn beats_others(lineage: &Lineage, candidates: &[Candidate], args: &[ArgType], i
 {
     let winner = params_of(candidates, i);
     for j in 0..candidates.len() {
-        let other = params_of(candidates, j);
-        if j != i && is_viable(lineage, other, args) && !is_better(lineage, winner, other, args) {
+        if j != i && !gives_way(lineage, params_of(candidates, j), winner, args) {
             return false;
         }
     }
@@ -107,33 +103,59 @@ pub(crate) fn is_viable(lineage: &Lineage, params: &[(ArgType, Pass)], args: &[A
     true
 }
 
-/// Whether no argument's rank is greater for the one candidate than for the other, and one is less.
-fn is_better(
+/// Whether a candidate is viable and better than another one, told place by place up to the first that says no.
+fn outdoes(
     lineage: &Lineage,
     params: &[(ArgType, Pass)],
     others: &[(ArgType, Pass)],
     args: &[ArgType],
 ) -> bool
-    ensures exact { IsTrue result ↔ IsBetter lineage.now params.now others.now args.now }
+    ensures exact { IsTrue result ↔ (IsViable lineage.now params.now args.now
+        × IsBetter lineage.now params.now others.now args.now) }
 {
-    !has_less(lineage, others, params, args) && has_less(lineage, params, others, args)
-}
-
-fn has_less(
-    lineage: &Lineage,
-    params: &[(ArgType, Pass)],
-    others: &[(ArgType, Pass)],
-    args: &[ArgType],
-) -> bool
-    ensures exact { IsTrue result ↔ HasLess lineage.now params.now others.now args.now }
-{
+    if params.len() != args.len() {
+        return false;
+    }
+    let mut is_ahead = false;
     for k in 0..args.len() {
         let rank = rank_of_place(lineage, params, args, k);
-        if is_less(rank, rank_of_place(lineage, others, args, k)) {
+        if rank.is_none() {
+            return false;
+        }
+        let other = rank_of_place(lineage, others, args, k);
+        if is_less(other, rank) {
+            return false;
+        }
+        is_ahead |= is_less(rank, other);
+    }
+    is_ahead
+}
+
+/// Whether a candidate is not viable, or another one is better, told place by place up to the first where it has no rank.
+fn gives_way(
+    lineage: &Lineage,
+    params: &[(ArgType, Pass)],
+    others: &[(ArgType, Pass)],
+    args: &[ArgType],
+) -> bool
+    ensures exact { IsTrue result ↔ (IsViable lineage.now params.now args.now
+        → IsBetter lineage.now others.now params.now args.now) }
+{
+    if params.len() != args.len() {
+        return true;
+    }
+    let mut is_ahead = false;
+    let mut is_behind = false;
+    for k in 0..args.len() {
+        let rank = rank_of_place(lineage, params, args, k);
+        if rank.is_none() {
             return true;
         }
+        let other = rank_of_place(lineage, others, args, k);
+        is_ahead |= is_less(rank, other);
+        is_behind |= is_less(other, rank);
     }
-    false
+    is_behind && !is_ahead
 }
 
 pub(crate) fn is_less(rank: Option<u8>, other: Option<u8>) -> bool

@@ -1,4 +1,4 @@
--- What a registry holds, and what a module of a mask sees of it (docs/EMBEDDING.md, "Registration" and "Masks";
+-- What a registry holds, and what a module of a mask sees of it (docs/HOST.md, "Registration" and "Masks";
 -- the AngelScript manual, "Access masks and exposing different interfaces").
 use Rattle.std.specs.Prelude.{ℕ, ◌≡◌, Bool, true, false, ◌==◌, not, ◌&&◌, ◌||◌, if◌then◌else◌, List, map, filter, length, Option, Some, None, slice_index_or}
 use Rattle.std.specs.List.{list_any, list_all, range_with_len, position}

@@ -1,5 +1,5 @@
 -- Whether a module of a mask sees the types that a declaration names: its own type, and each type that is spelled in its signature
--- (docs/EMBEDDING.md, "Masks").
+-- (docs/HOST.md, "Masks").
 use Rattle.std.specs.Prelude.{ℕ, Bool, true, false, not, ◌&&◌, ◌||◌, filter, Option, Some, None}
 use Rattle.std.specs.List.{list_all}
 use Rattle.ang_kinds.specs.declared.mask.EntityNo.{EntityNo}

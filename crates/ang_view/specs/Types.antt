@@ -1,4 +1,4 @@
--- The types and enumerations of a registration list by name (docs/EMBEDDING.md, "Registration").
+-- The types and enumerations of a registration list by name (docs/HOST.md, "Registration").
 use Rattle.std.specs.Prelude.{ℕ, Bool, true, false, ◌&&◌, List, Option, Some, None}
 use Rattle.std.specs.List.{position}
 use Rattle.std.specs.Str.{bytes_eq}

@@ -1,4 +1,4 @@
--- Hosts whose declarations take values alone (docs/EMBEDDING.md, "Declarations"): no parameter is `&out`, and each property is of a
+-- Hosts whose declarations take values alone (docs/HOST.md, "Declarations"): no parameter is `&out`, and each property is of a
 -- primitive type or an enumeration.
 use Rattle.std.specs.Prelude.{◌≡◌, ◌≢◌, List, [], ◌∷◌, Option, Some, None}
 use Rattle.ang_kinds.specs.declared.types.Param.{Param}

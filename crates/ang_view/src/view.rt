@@ -18,7 +18,7 @@ use std::alloc::{AllocError, Global};
 use std::marker::Model;
 
 /// What a module of a mask sees of a registration list: the list, in which each entry that it does not
-/// see is a blank. Numbers are those of the list (docs/EMBEDDING.md, "Masks").
+/// see is a blank. Numbers are those of the list (docs/HOST.md, "Masks").
 ///
 /// Contracts see the list. Beside it stand the numbers of its entries by name, of members and factories by type, and of
 /// values by their own names, so that none of the calls that look for them goes through the list, and none takes memory.

@@ -2,8 +2,8 @@
 //! (calls, makings of objects, reads and writes of properties), and on globals, script objects and
 //! handles.
 //!
-//! Each says what `perform` comes to on the values of its operands (docs/MEANING.md, "Operations";
-//! docs/EMBEDDING.md, "Drivers"); `ang_vm_steps` has the operands on its stack.
+//! Each says what `perform` comes to on the values of its operands (docs/CLAIMS.md, "Operations";
+//! docs/HOST.md, "Drivers"); `ang_vm_steps` has the operands on its stack.
 #![tactic(auto)]
 
 mod arguments;

@@ -1,14 +1,15 @@
 -- The values that a command line gives.
-use Rattle.std.proofs.Common.{◌≡◌, ◌∙◌, ap, sym, refl, true, List, ℕ, Option, None, Result, Ok, Err, IsErrAnd, IfErr, is_some, codes}
+use Rattle.std.proofs.Common.{◌≡◌, ◌∙◌, ap, sym, subst, refl, true, List, [], ◌∷◌, ℕ, Option, None, Result, Ok, Err, IsErrAnd, IfErr, is_some, codes}
 use Rattle.std.proofs.lemmas.Bool.{and_parts, false≢true}
 use Rattle.clap.specs.Words.{HasMatchesOf, first_value, one_text, found_of, is_simple, matches_of, rows_of, first_of, one_of}
-use Rattle.clap.specs.Words.{App, takes, kind_of}
+use Rattle.clap.specs.Words.{App, takes, kind_of, fault_of, is_simple_and_free, Kinds, FailsBy, HasKind}
 use Rattle.clap.specs.declared.error.Error.{Error}
-use Rattle.clap.specs.declared.error.kind.ErrorKind.TheVariants.{OutOfMemory}
+use Rattle.clap.specs.declared.error.kind.ErrorKind.TheVariants.{OutOfMemory, DisplayVersion}
 use Rattle.clap.specs.declared.parser.matches.ArgMatches.{ArgMatches}
+use Rattle.clap.proofs.OnLiterals.{clap_on_literals}
 use Rattle.clap.proofs.WalkLemmas.{first_value-rows, one_text-rows}
 use Rattle.asrun_lines.specs.Budget.{budget_given}
-use Rattle.asremote.specs.Options.{program, given, flag, drivers_given, is_complete, is_right}
+use Rattle.asremote.specs.Options.{program, given, flag, drivers_given, is_complete, is_right, AsksVersion, IsVersion}
 use Rattle.asremote.specs.declared.command.RemoteOptions.{RemoteOptions}
 
 program_simple : is_simple program ≡ true
@@ -52,3 +53,34 @@ not_right app words m r is h none complete right =
     ∙ ap (λ x. is_complete (given (codes "profile") words) (drivers_given x) (budget_given (first_value (found_of m) (codes "budget")))) drivers
     ∙ ap (λ x. is_complete (given (codes "profile") words) (drivers_given (given (codes "drivers") words)) (budget_given x)) budget in
     false≢true (sym (ap is_some none) ∙ complete ∙ all ∙ (and_parts (takes program words) _ right).1)
+
+-- ---- the version
+
+program_free : is_simple_and_free program ≡ true
+program_free = refl
+
+version_asked : (name : List ℕ) → fault_of program (name ∷ codes "--version" ∷ []) ≡ DisplayVersion ∷ []
+unfolding clap_on_literals
+version_asked name = refl
+
+-- what is read of a line that asks for the version fails by that
+fails_so : {T : Type 0} (r : Result T Error) (app : App) (words : List (List ℕ)) → app ≡ program → AsksVersion words
+    → (is_simple_and_free app ≡ true → FailsBy (fault_of app words) r) → FailsBy (DisplayVersion ∷ []) r
+fails_so r app words same asks fails =
+    subst (λ k. FailsBy k r) (ap (λ a. fault_of a words) same ∙ ap (fault_of program) asks.1 ∙ version_asked asks.0)
+    (fails (ap is_simple_and_free same ∙ program_free))
+
+abbrev some_kind : Kinds → Type 0
+some_kind [] = ⊥
+some_kind (k ∷ ks) = Unit {0}
+
+-- it has no options
+pub no_options : {T : Type 0} (v : T) (app : App) (words : List (List ℕ)) → app ≡ program → AsksVersion words
+    → (is_simple_and_free app ≡ true → fault_of app words ≡ []) → ⊥
+no_options v app words same asks fails = subst some_kind (fails_so (Ok v) app words same asks fails) tt
+
+-- and its error is that
+pub version_shown : {T : Type 0} (r : Result T Error) (e : Error) (app : App) (words : List (List ℕ)) → IsErrAnd r (λ d. d ≡ e) → app ≡ program
+    → (is_simple_and_free app ≡ true → HasKind (fault_of app words) e) → AsksVersion words → IsErrAnd r IsVersion
+version_shown (Ok v) e app words is same fails asks = is
+version_shown (Err d) e app words is same fails asks = subst IsVersion (sym is) (fails_so {T = Unit {0}} (Err e) app words same asks fails)

@@ -1,6 +1,7 @@
 pub mod Options
 pub mod Commands
 pub mod OwnLines
+pub mod Posted
 pub mod Talk
 pub mod Turns
 pub mod Conversation

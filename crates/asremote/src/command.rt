@@ -12,6 +12,9 @@ use std::alloc::{AllocError, Global};
 /// The most drivers that `--drivers` may give.
 const MOST_DRIVERS: u64 = 64;
 
+/// The version, which docs/CHANGES.md and the clients have too.
+const VERSION: &str = "0.1.0";
+
 /// What the program is for.
 const ABOUT: &str =
     "Runs scripts for a host that writes commands to standard input and answers asks there.";
@@ -54,6 +57,7 @@ pub fn command_line<'a>(alloc: Global) -> Result<Command<'a>, AllocError>
         .long("echo")
         .action(ArgAction::SetTrue);
     Command::new(alloc, "asremote")
+        .version(VERSION)
         .about(ABOUT)
         .after_help(FORMATS)
         .arg(profile.help(PROFILE_HELP))?

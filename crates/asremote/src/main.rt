@@ -9,16 +9,21 @@ mod echo;
 pub mod laws;
 mod options;
 mod own_lines;
+mod posted;
 mod shared;
 mod turns;
 
 use crate::command::RemoteOptions;
 use crate::conversation::converse;
 use crate::echo::Echo;
+use crate::posted::{posted_in, read_profile};
 use crate::shared::Shared;
 use ang_host::Driver;
 use ang_remote::Remote;
-use asrun_session::{ProgramExit, SessionEnd, exit_status, print_no_memory, print_outcome};
+use asrun_session::{
+    ProgramExit, SessionEnd, Status, exit_status, outcome_of, print_no_memory, print_outcome,
+    print_profile_line,
+};
 use std::alloc::AllocError;
 use std::fs::File;
 use std::process::ExitCode;
@@ -27,27 +32,48 @@ use std::{env, io};
 /// The program's name, which stands in front of what it says on standard error.
 const NAME: &str = "asremote";
 
-/// Opens the profile and holds the conversation. The commands and the drivers share standard input, and what was read of
-/// it ahead.
+/// The text of the profile, or how the program ends without it, which it says on standard error.
+fn read_or_say(rt: &HostRuntime, path: &str) -> Result<Vec<u8>, ProgramExit> {
+    let Ok(mut file) = File::open(rt, path) else {
+        let _ = eprintln!(rt; "asremote: cannot open {path}");
+        return Err(ProgramExit::CannotOpen);
+    };
+    match read_profile(rt.alloc(), &mut file) {
+        Ok(text) => Ok(text),
+        Err(stop) => {
+            let outcome = outcome_of(Err(stop));
+            print_outcome(rt, NAME, outcome);
+            Err(ProgramExit::Ran(outcome))
+        }
+    }
+}
+
+/// Reads the profile, tells each driver which of its functions are posted, and holds the conversation. The commands and
+/// the drivers share standard input, and what was read of it ahead.
 ///
 /// # Errors
 /// A growth of memory was refused before the conversation.
 fn run_file(rt: &HostRuntime, options: &RemoteOptions) -> Result<ProgramExit, AllocError> {
-    let Ok(mut profile) = File::open(rt, options.profile.as_str()) else {
-        let _ = eprintln!(rt; "asremote: cannot open {}", options.profile);
-        return Ok(ProgramExit::CannotOpen);
+    let text = match read_or_say(rt, options.profile.as_str()) {
+        Ok(text) => text,
+        Err(ending) => return Ok(ending),
     };
     let alloc = rt.alloc();
     let shared = Shared::new(alloc, rt.stdin())?;
     let mut boxes: Vec<Box<dyn Driver>> = Vec::new(alloc);
     for number in 0..options.drivers {
         let input = Echo::new(shared.share()?, rt.stdout(), options.echo);
-        boxes.push(Box::new(alloc, Remote::new(alloc, number, input, rt.stdout()))?)?;
+        let posted = posted_in(alloc, number, &text)?;
+        boxes.push(Box::new(
+            alloc,
+            Remote::new(alloc, number, posted, input, rt.stdout()),
+        )?)?;
     }
     // There are as many boxes as drivers. That they are few is what `converse` asks for.
     if boxes.len() > 64 {
         return Ok(ProgramExit::BadCommandLine);
     }
+    let mut profile = text.as_slice();
     let mut input = Echo::new(shared, rt.stdout(), options.echo);
     let mut out = rt.stdout();
     let SessionEnd { outcome, drivers } = converse(
@@ -60,6 +86,9 @@ fn run_file(rt: &HostRuntime, options: &RemoteOptions) -> Result<ProgramExit, Al
     );
     drop(drivers);
     print_outcome(rt, NAME, outcome);
+    if let Ok(Status::BadInput) = outcome {
+        print_profile_line(rt, alloc, NAME, &text);
+    }
     Ok(ProgramExit::Ran(outcome))
 }
 

@@ -1,6 +1,9 @@
--- The command line (docs/EMBEDDING.md, "The program").
-use Rattle.std.specs.Prelude.{ℕ, Bool, true, List, Option, Some, is_some, ◌&&◌, codes}
-use Rattle.clap.specs.Words.{App, Rule, new_app, new_rule, with_rule, matches_of, first_of, takes}
+-- The command line (docs/HOST.md, "The program").
+use Rattle.std.specs.Prelude.{◌≡◌, ℕ, Bool, true, List, [], ◌∷◌, Option, Some, is_some, ◌&&◌, codes}
+use Rattle.clap.specs.Words.{App, Rule, HasKind, new_app, new_rule, with_rule, matches_of, first_of, takes}
+use Rattle.clap.specs.Simple.{on_top}
+use Rattle.clap.specs.declared.error.Error.{Error}
+use Rattle.clap.specs.declared.error.kind.ErrorKind.TheVariants.{DisplayVersion}
 use Rattle.asrun_lines.specs.Budget.{budget_given}
 
 -- `--profile` and `--session` are wanted, `--budget` isn't
@@ -13,8 +16,12 @@ session_rule = record (new_rule (codes "session")) { long = Some (codes "session
 abbrev pub budget_rule : Rule
 budget_rule = record (new_rule (codes "budget")) { long = Some (codes "budget") }
 
+-- a command with a version, which `--version` and `-V` print
+abbrev pub with_version : App → App
+with_version = on_top (λ s. record s { has_version = true })
+
 abbrev pub program : App
-program = with_rule (with_rule (with_rule (new_app (codes "asrun")) profile_rule) session_rule) budget_rule
+program = with_rule (with_rule (with_rule (with_version (new_app (codes "asrun"))) profile_rule) session_rule) budget_rule
 
 -- the value that a line of words gives an option
 unfoldable pub given : List ℕ → List (List ℕ) → Option (List ℕ)
@@ -27,3 +34,11 @@ is_complete profile session budget = is_some profile && is_some session && is_so
 -- A line that the command line takes, and that gives both paths and, if it gives a budget, one in the range.
 abbrev pub is_right : List (List ℕ) → Bool
 is_right words = takes program words && is_complete (given (codes "profile") words) (given (codes "session") words) (budget_given (given (codes "budget") words))
+
+-- `--version` alone, after the program's name
+abbrev pub AsksVersion : List (List ℕ) → Type 0
+AsksVersion words = (name : List ℕ) × (words ≡ name ∷ codes "--version" ∷ [])
+
+-- it is the version that is printed in place of a run, unless memory ran out
+abbrev pub IsVersion : Error → Type 0
+IsVersion = HasKind (DisplayVersion ∷ [])

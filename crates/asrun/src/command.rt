@@ -8,6 +8,9 @@ use asrun_lines::budget_of;
 use clap::{Arg, ArgMatches, Command};
 use std::alloc::{AllocError, Global};
 
+/// The version, which docs/CHANGES.md and the clients have too.
+const VERSION: &str = "0.1.0";
+
 /// What the program is for.
 const ABOUT: &str = "Runs a session of scripts over a profile of what a host offers them.";
 
@@ -55,6 +58,7 @@ pub fn command_line<'a>(alloc: Global) -> Result<Command<'a>, AllocError>
     let session = Arg::new(alloc, "session").long("session").required(true);
     let budget = Arg::new(alloc, "budget").long("budget");
     Command::new(alloc, "asrun")
+        .version(VERSION)
         .about(ABOUT)
         .after_help(FORMATS)
         .arg(profile.help(PROFILE_HELP))?

@@ -1,5 +1,5 @@
 //! Runs a session of scripts over a profile of what a host offers them, both read from files
-//! (docs/EMBEDDING.md, "The program").
+//! (docs/HOST.md, "The program").
 #![tactic(auto)]
 
 mod command;
@@ -9,7 +9,10 @@ use crate::command::RunOptions;
 use ang_drivers::{Cell, Console, Counter};
 use ang_host::Driver;
 pub use asrun_session::{IoFault, SessionEnd, Status, session};
-use asrun_session::{ProgramExit, exit_status, print_no_memory, print_outcome};
+use asrun_session::{
+    Kept, ProgramExit, exit_status, print_no_memory, print_outcome, print_profile_line,
+    print_session_line,
+};
 use std::alloc::AllocError;
 use std::fs::File;
 use std::process::ExitCode;
@@ -34,13 +37,15 @@ fn open_or_say(rt: &HostRuntime, path: &str) -> Option<File> {
 /// # Errors
 /// A growth of memory was refused before the session.
 fn run_files(rt: &HostRuntime, options: &RunOptions) -> Result<ProgramExit, AllocError> {
-    let Some(mut profile) = open_or_say(rt, options.profile.as_str()) else {
+    let Some(profile) = open_or_say(rt, options.profile.as_str()) else {
         return Ok(ProgramExit::CannotOpen);
     };
-    let Some(mut session) = open_or_say(rt, options.session.as_str()) else {
+    let Some(session) = open_or_say(rt, options.session.as_str()) else {
         return Ok(ProgramExit::CannotOpen);
     };
     let alloc = rt.alloc();
+    let mut profile = Kept::new(alloc, profile);
+    let mut session = Kept::new(alloc, session);
     let mut boxes: Vec<Box<dyn Driver>> = Vec::new(alloc);
     boxes.push(Box::new(alloc, Console::new(alloc)?)?)?;
     boxes.push(Box::new(alloc, Counter::new(alloc)?)?)?;
@@ -56,6 +61,10 @@ fn run_files(rt: &HostRuntime, options: &RunOptions) -> Result<ProgramExit, Allo
     );
     drop(drivers);
     print_outcome(rt, NAME, outcome);
+    if let Ok(Status::BadInput) = outcome {
+        print_profile_line(rt, alloc, NAME, profile.text());
+        print_session_line(rt, alloc, NAME, session.text());
+    }
     Ok(ProgramExit::Ran(outcome))
 }
 

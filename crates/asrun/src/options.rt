@@ -1,9 +1,9 @@
 //! Reading the command line.
-ghost use Rattle.std.specs.Prelude.{◌≡◌, ◌≤◌, true, Some, IfOk, IfErr, codes, map, string_bytes};
+ghost use Rattle.std.specs.Prelude.{◌≡◌, ◌≤◌, true, Some, IfOk, IfErr, IsErrAnd, codes, map, string_bytes};
 ghost use Rattle.clap.specs.Words.{kind_of};
 ghost use Rattle.clap.specs.declared.error.kind.ErrorKind.TheVariants.{OutOfMemory};
 ghost use Rattle.asrun_lines.specs.Budget.{budget_given};
-ghost use Rattle.asrun.specs.Options.{given, is_right};
+ghost use Rattle.asrun.specs.Options.{given, is_right, AsksVersion, IsVersion};
 
 use crate::command;
 use crate::command::{chosen, command_line};
@@ -15,7 +15,7 @@ use std::alloc::Global;
 ///
 /// # Errors
 /// The error of `clap`: an option that is missing, unknown, given twice or without a value, a budget
-/// that is no number from 1 to 2,147,483,647, a wish for help, or want of memory.
+/// that is no number from 1 to 2,147,483,647, a wish for help or the version, or want of memory.
 pub fn options<'a>(alloc: Global, words: &'a [&'a str]) -> Result<command::RunOptions, Error>
     ensures profile { IfOk result (λ o. given (codes "profile") (map (λ w. w.now) words.now)
         ≡ Some (string_bytes o.profile)) }
@@ -27,6 +27,7 @@ pub fn options<'a>(alloc: Global, words: &'a [&'a str]) -> Result<command::RunOp
     ensures least { IfOk result (λ o. 1 ≤ o.budget) }
     ensures refused { IfErr result (λ e. is_right (map (λ w. w.now) words.now) ≡ true →
         kind_of e ≡ OutOfMemory) }
+    ensures version { AsksVersion (map (λ w. w.now) words.now) → IsErrAnd result IsVersion }
 {
     let mut command = command_line(alloc)?;
     let matches = command.try_get_matches_from_mut(words)?;

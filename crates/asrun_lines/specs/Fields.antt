@@ -1,4 +1,4 @@
--- The fields of a line, and the numbers, masks and values that they spell (docs/EMBEDDING.md, "The
+-- The fields of a line, and the numbers, masks and values that they spell (docs/HOST.md, "The
 -- program").
 use Rattle.std.specs.Prelude.{ℕ, ℤ, pos, neg_ℤ, ◌+◌, ◌*◌, ◌^◌, Bool, ◌||◌, List, [], ◌∷◌, length, take, drop, Option, Some, None, nat_lt, nat_le, slice_index, ◌==◌, if◌then◌else◌, position}
 use Rattle.std.specs.Option.{option_and_then, option_map}

@@ -1,4 +1,4 @@
--- The lines of a profile and of a session (docs/EMBEDDING.md, "The program").
+-- The lines of a profile and of a session (docs/HOST.md, "The program").
 use Rattle.std.specs.Prelude.{ℕ, ◌-◌, Bool, ◌||◌, List, [], ◌∷◌, length, take, Option, Some, None, unwrap_or, slice_index, ◌==◌, if◌then◌else◌}
 use Rattle.std.specs.List.{onto_first}
 

@@ -19,6 +19,7 @@ pub data Entry : Type 0 where
   Method : List ℕ → ℕ → List ℕ → Entry
   Property : List ℕ → ℕ → List ℕ → Entry
   Function : ℕ → ℕ → List ℕ → Entry
+  Posted : ℕ → ℕ → List ℕ → Entry
   Global : ℕ → ℕ → List ℕ → Entry
   Enumeration : List ℕ → Entry
   EnumValue : List ℕ → List ℕ → ℤ → Entry
@@ -32,6 +33,7 @@ entry (line.Factory type_name f decl) = Factory type_name.now f decl.now
 entry (line.Method type_name f decl) = Method type_name.now f decl.now
 entry (line.Property type_name f decl) = Property type_name.now f decl.now
 entry (line.Function driver f decl) = Function driver f decl.now
+entry (line.Posted driver f decl) = Posted driver f decl.now
 entry (line.Global driver f decl) = Global driver f decl.now
 entry (line.Enumeration name) = Enumeration name.now
 entry (line.EnumValue enumeration name value) = EnumValue enumeration.now name.now value
@@ -89,11 +91,13 @@ entry_behind word text =
     then option_map (λ m. Property m.0 m.1 m.2) (member_of text)
     else (if bytes_eq word (codes "function")
     then option_map (λ o. Function o.0 o.1 o.2) (own_of text)
+    else (if bytes_eq word (codes "posted")
+    then option_map (λ o. Posted o.0 o.1 o.2) (own_of text)
     else (if bytes_eq word (codes "global")
     then option_map (λ o. Global o.0 o.1 o.2) (own_of text)
     else (if bytes_eq word (codes "enum") then enumeration_of text
     else (if bytes_eq word (codes "value") then enum_value_of text
-    else None)))))))))
+    else None))))))))))
 
 -- one of these lines, or `blank` alone
 unfoldable pub entry_of : List ℕ → Option Entry

@@ -1,4 +1,4 @@
--- The lines of a session: what its commands say (docs/EMBEDDING.md, "The program").
+-- The lines of a session: what its commands say (docs/HOST.md, "The program").
 use Rattle.std.specs.Prelude.{◌≡◌, ℕ, Bool, false, List, length, take, drop, position, nat_lt, Option, Some, None, Result, Ok, Err, codes, if◌then◌else◌}
 use Rattle.std.specs.Char.{is_ascii_alphabetic}
 use Rattle.std.specs.Option.{option_map}

@@ -1,4 +1,4 @@
--- The arguments of a call, as a session spells them (docs/EMBEDDING.md, "The program").
+-- The arguments of a call, as a session spells them (docs/HOST.md, "The program").
 use Rattle.std.specs.Prelude.{ℕ, pos, neg_ℤ, ◌-◌, ◌^◌, Bool, true, false, ◌&&◌, List, [], ◌∷◌, length, take, drop, Option, Some, None, nat_lt, nat_le, slice_index, slice_range, ◌==◌, if◌then◌else◌, codes}
 use Rattle.std.specs.Option.{option_map}
 use Rattle.std.specs.Str.{bytes_eq}

@@ -56,6 +56,15 @@ pub enum ProfileLine<'a> {
         /// The declaration.
         decl: &'a [u8],
     },
+    /// `posted DRIVER F DECL`: a host function whose calls want no answer.
+    Posted {
+        /// The driver that is told.
+        driver: u32,
+        /// The driver's number of the function.
+        f: u32,
+        /// The declaration.
+        decl: &'a [u8],
+    },
     /// `global DRIVER F DECL`: a global property.
     Global {
         /// The driver that answers.
@@ -170,6 +179,10 @@ fn line_behind<'a>(word: &[u8], text: &'a [u8]) -> Option<ProfileLine<'a>>
     if word == b"function".as_slice() {
         let (driver, f, decl) = own(text)?;
         return Some(ProfileLine::Function { driver, f, decl });
+    }
+    if word == b"posted".as_slice() {
+        let (driver, f, decl) = own(text)?;
+        return Some(ProfileLine::Posted { driver, f, decl });
     }
     if word == b"global".as_slice() {
         let (driver, f, decl) = own(text)?;

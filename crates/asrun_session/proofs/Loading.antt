@@ -1,6 +1,7 @@
 -- A profile's lines, one after the other.
-use Rattle.std.proofs.Common.{◌≡◌, ◌≢◌, ℕ, ◌+◌, List, [], ◌∷◌, Option, Some, None, true, false, Result, Ok, Err, ap, sym, ◌∙◌, subst}
-use Rattle.std.specs.Prelude.{OnOk, IfErr}
+use Rattle.std.proofs.Common.{◌≡◌, ◌≢◌, ℕ, ◌+◌, List, [], ◌∷◌, Option, Some, None, true, false, Result, Ok, Err, ap, ap₂, sym, refl, ◌∙◌, subst}
+use Rattle.std.specs.Prelude.{Bool, OnOk, IfOk, IfErr, if◌then◌else◌}
+use Rattle.ang_view.specs.Registration.{entry_at}
 use Rattle.ang_kinds.specs.declared.mask.EntityNo.{EntityNo}
 use Rattle.ang_registry.specs.declared.error.RegError.{RegError}
 use Rattle.ang_registry.specs.declared.error.RegError.TheVariants.{Memory as NoMemory}
@@ -8,9 +9,9 @@ use Rattle.ang_registry.specs.Registrations.{Registrations}
 use Rattle.ang_heap.specs.declared.limits.Limits.{Limits}
 use Rattle.asrun_lines.specs.Lines.{shown_of}
 use Rattle.asrun_session.specs.Limits.{limits_of, line_limits}
-use Rattle.asrun_session.specs.Profile.{loaded, line_entered, Loads, registered, IsJudged}
+use Rattle.asrun_session.specs.Profile.{loaded, line_entered, Loads, registered, posted, gives_none, IsJudged, IsJudgedPosted}
 use Rattle.asrun_session.specs.declared.profile.ProfileFault.{ProfileFault}
-use Rattle.asrun_session.specs.declared.profile.ProfileFault.TheVariants.{Refused}
+use Rattle.asrun_session.specs.declared.profile.ProfileFault.TheVariants.{Refused, NotVoid}
 use Rattle.asrun_session.specs.declared.profile.ProfileStop.{ProfileStop}
 use Rattle.asrun_session.specs.declared.profile.ProfileStop.TheVariants as stop
 
@@ -55,3 +56,21 @@ loads_judged (Err (stop.Fault fault)) n (Err was) refusal after now (why, e, oth
     let same : was ≡ why = cc in
     ap (λ o. registered n o after) (first (subst (λ w. w ≢ NoMemory) (sym same) other)) ∙ ap Err (ap (λ w. Refused n w) same ∙ sym is)
 loads_judged (Err stop.Memory) n answer refusal after now j none added first = tt
+
+-- the same of a function that is posted
+loads_chosen : (b : Bool) (r : Result (Unit {0}) ProfileStop) (n : ℕ) (now : Registrations)
+    → r ≡ (if b then Ok tt else Err (stop.Fault (NotVoid n))) → Loads r now (if b then Ok now else Err (NotVoid n))
+loads_chosen true r n now is = subst (λ x. Loads x now (Ok now)) (sym is) refl
+loads_chosen false r n now is = subst (λ x. Loads x now (Err (NotVoid n))) (sym is) refl
+
+pub loads_posted : (r : Result (Unit {0}) ProfileStop) (n : ℕ) (answer : Result EntityNo RegError) (refusal : Option RegError) (place : ℕ) (after now : Registrations)
+    → IsJudgedPosted r n now.entries answer → OnOk answer (refusal ≡ None) → IfOk answer (λ number. number.0 ≡ place) → OnOk answer (now ≡ after)
+    → IfErr answer (λ why. why ≢ NoMemory → refusal ≡ Some why) → Loads r now (posted n refusal place after)
+loads_posted r n (Ok number) refusal place after now j none at added first =
+    subst (λ w. Loads r now w) (sym (ap (λ o. posted n o place after) none ∙ ap₂ (λ p a. posted n None p a) (sym at) (sym added)))
+    (loads_chosen (gives_none (entry_at now.entries number.0)) r n now j)
+loads_posted (Ok u) n (Err why) refusal place after now j none at added first = let differ : false ≡ true = j in cc
+loads_posted (Err (stop.Fault fault)) n (Err was) refusal place after now (why, e, other, is) none at added first =
+    let same : was ≡ why = cc in
+    ap (λ o. posted n o place after) (first (subst (λ w. w ≢ NoMemory) (sym same) other)) ∙ ap Err (ap (λ w. Refused n w) same ∙ sym is)
+loads_posted (Err stop.Memory) n (Err was) refusal place after now j none at added first = tt

@@ -4,7 +4,7 @@ use Rattle.std.specs.Prelude.{ℕ, List, [], ◌∷◌, ◌++◌, Option, Some, 
 use Rattle.ang_heap.specs.declared.limits.Limits.{Limits}
 use Rattle.ang_heap.specs.declared.limits.Held.{Held}
 use Rattle.asrun_lines.specs.Lines.{shown_of, is_skipped}
-use Rattle.asrun_lines.specs.ProfileLines.{Entry, DefaultMask, Limit, HostType, Factory, Method, Property, Function, Global, Enumeration, EnumValue, Blank, entry_of}
+use Rattle.asrun_lines.specs.ProfileLines.{Entry, DefaultMask, Limit, HostType, Factory, Method, Property, Function, Posted, Global, Enumeration, EnumValue, Blank, entry_of}
 use Rattle.asrun_lines.specs.declared.limits.LimitKind.{LimitKind}
 use Rattle.asrun_lines.specs.declared.limits.LimitKind.TheVariants.{Events, Slots, Objects}
 use Rattle.asrun_lines.specs.declared.limits.LimitLine.{LimitLine}
@@ -28,6 +28,7 @@ entry_limits l (Some (Factory t f decl)) = l
 entry_limits l (Some (Method t f decl)) = l
 entry_limits l (Some (Property t f decl)) = l
 entry_limits l (Some (Function driver f decl)) = l
+entry_limits l (Some (Posted driver f decl)) = l
 entry_limits l (Some (Global driver f decl)) = l
 entry_limits l (Some (Enumeration name)) = l
 entry_limits l (Some (EnumValue enumeration name value)) = l

@@ -1,15 +1,19 @@
--- What a profile registers (docs/EMBEDDING.md, "The program").
-use Rattle.std.specs.Prelude.{◌≡◌, ◌≢◌, IsOk, ℕ, ◌+◌, List, [], ◌∷◌, Option, Some, None, Result, Ok, Err, if◌then◌else◌}
+-- What a profile registers (docs/HOST.md, "The program").
+use Rattle.std.specs.Prelude.{◌≡◌, ◌≢◌, IsOk, ℕ, ◌+◌, Bool, true, false, List, [], ◌∷◌, length, Option, Some, None, Result, Ok, Err, if◌then◌else◌}
 use Rattle.ang_registry.specs.declared.error.RegError.{RegError}
 use Rattle.ang_registry.specs.Registrations.{Registrations}
 use Rattle.ang_kinds.specs.declared.mask.EntityNo.{EntityNo}
+use Rattle.ang_kinds.specs.declared.types.TypeRef.{TypeRef}
+use Rattle.ang_kinds.specs.declared.types.TypeRef.TheVariants as ref
+use Rattle.ang_view.specs.declared.entry.Entry as view
+use Rattle.ang_view.specs.Registration.{RegistrationList, entry_at}
 use Rattle.ang_registry.specs.Declarations.{declared_type, declared_factory, declared_method, declared_property, declared_function}
 use Rattle.ang_registry.specs.Refusals.{refusal_of_type, with_type, refusal_of_factory, with_factory, refusal_of_method, with_method, refusal_of_property, with_property, refusal_of_function, with_function, refusal_of_global, with_global, refusal_of_enumeration, with_enumeration, refusal_of_value, with_value, refusal_of_blank, with_blank}
 use Rattle.ang_registry.specs.declared.error.RegError.TheVariants.{Memory as NoMemory}
 use Rattle.asrun_lines.specs.Lines.{shown_of, is_skipped}
-use Rattle.asrun_lines.specs.ProfileLines.{Entry, DefaultMask, Limit, HostType, Factory, Method, Property, Function, Global, Enumeration, EnumValue, Blank, entry_of}
+use Rattle.asrun_lines.specs.ProfileLines.{Entry, DefaultMask, Limit, HostType, Factory, Method, Property, Function, Posted, Global, Enumeration, EnumValue, Blank, entry_of}
 use Rattle.asrun_session.specs.declared.profile.ProfileFault.{ProfileFault}
-use Rattle.asrun_session.specs.declared.profile.ProfileFault.TheVariants.{BadLine, Refused}
+use Rattle.asrun_session.specs.declared.profile.ProfileFault.TheVariants.{BadLine, Refused, NotVoid}
 use Rattle.asrun_session.specs.declared.profile.ProfileStop.{ProfileStop}
 use Rattle.asrun_session.specs.declared.profile.ProfileStop.TheVariants as stop
 
@@ -21,6 +25,23 @@ on_ok (Err e) f = Err e
 abbrev pub registered : ℕ → Option RegError → Registrations → Result Registrations ProfileFault
 registered n None after = Ok after
 registered n (Some why) after = Err (Refused n why)
+
+abbrev pub is_void : TypeRef → Bool
+is_void ref.Void = true
+is_void (ref.Plain p) = false
+is_void (ref.Enumeration name) = false
+is_void (ref.Object name shape const_object const_handle) = false
+
+-- whether an entry is there, and has no result
+abbrev pub gives_none : Option view.Entry → Bool
+gives_none None = false
+gives_none (Some x) = is_void x.signature.result
+
+-- A function that is posted is registered at this place, or line n is refused, also where the function has a result.
+abbrev pub posted : ℕ → Option RegError → ℕ → Registrations → Result Registrations ProfileFault
+posted n (Some why) place after = Err (Refused n why)
+posted n None place after =
+    if gives_none (entry_at after.entries place) then Ok after else Err (NotVoid n)
 
 -- what line n does to what is registered
 abbrev pub entered : ℕ → Registrations → Option Entry → Result Registrations ProfileFault
@@ -41,6 +62,9 @@ entered n r (Some (Property t f decl)) =
     (with_property r t f (declared_property decl))
 entered n r (Some (Function driver f decl)) =
     registered n (refusal_of_function r driver (declared_function decl))
+    (with_function r driver f (declared_function decl))
+entered n r (Some (Posted driver f decl)) =
+    posted n (refusal_of_function r driver (declared_function decl)) (length r.entries)
     (with_function r driver f (declared_function decl))
 entered n r (Some (Global driver f decl)) =
     registered n (refusal_of_global r driver (declared_property decl))
@@ -74,3 +98,10 @@ IsJudged (Ok u) n answer = IsOk answer
 IsJudged (Err (stop.Fault fault)) n answer =
     (why : RegError) × (answer ≡ Err why) × (why ≢ NoMemory) × (fault ≡ Refused n why)
 IsJudged (Err stop.Memory) n answer = answer ≡ Err NoMemory
+
+-- The same of a function that is posted, where the list is that after the registration.
+abbrev pub IsJudgedPosted :
+    Result (Unit {0}) ProfileStop → ℕ → RegistrationList → Result EntityNo RegError → Type 0
+IsJudgedPosted r n list (Ok number) =
+    r ≡ (if gives_none (entry_at list number.0) then Ok tt else Err (stop.Fault (NotVoid n)))
+IsJudgedPosted r n list (Err why) = IsJudged r n (Err why)

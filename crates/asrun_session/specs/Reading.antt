@@ -1,4 +1,4 @@
--- Reading a text whole (docs/EMBEDDING.md, "The program").
+-- Reading a text whole (docs/HOST.md, "The program").
 use Rattle.std.specs.Prelude.{◌≡◌, ◌<◌, ◌≤◌, ◌+◌, ℕ, List, length, drop, Option, Some, IfSome}
 use Rattle.std.specs.Io.KnownBytes.{Consumes, IsAtEnd}
 use Rattle.asrun_session.specs.declared.ending.IoFault.TheVariants as io

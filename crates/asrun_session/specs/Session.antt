@@ -1,4 +1,4 @@
--- What a session says (docs/EMBEDDING.md, "The program").
+-- What a session says (docs/HOST.md, "The program").
 use Rattle.std.specs.Prelude.{ℕ, zero, suc, ◌+◌, nat_le, List, [], ◌∷◌, length, take, Option, Some, None, option_and_then, if◌then◌else◌}
 use Rattle.std.specs.List.{concat}
 use Rattle.ang_engine_modules.specs.declared.command.Command.{Command}

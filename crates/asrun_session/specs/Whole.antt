@@ -1,4 +1,4 @@
--- What a run over a profile and a session prints, and how it ends (docs/EMBEDDING.md, "The
+-- What a run over a profile and a session prints, and how it ends (docs/HOST.md, "The
 -- program").
 use Rattle.std.specs.Prelude.{◌≡◌, ℕ, ◌<◌, ◌≤◌, ◌⊎◌, nat_lt, List, [], ◌++◌, length, Option, Result, Ok, Err, codes, decimal, Bool, true, false, if◌then◌else◌}
 use Rattle.std.specs.Io.KnownBytes.{Appends}
@@ -24,7 +24,7 @@ use Rattle.asrun_session.specs.declared.ending.Status.TheVariants.{AllOk, SomeRe
 use Rattle.asrun_session.specs.declared.ending.SessionError.{SessionError}
 use Rattle.asrun_session.specs.declared.ending.SessionError.TheVariants as stop
 use Rattle.asrun_session.specs.declared.profile.ProfileFault.{ProfileFault}
-use Rattle.asrun_session.specs.declared.profile.ProfileFault.TheVariants.{BadLine, Refused}
+use Rattle.asrun_session.specs.declared.profile.ProfileFault.TheVariants.{BadLine, Refused, NotVoid}
 
 -- the most bytes of a profile and of a session
 abbrev pub most_profile : ℕ
@@ -42,11 +42,12 @@ why_text WrongDriver = codes "WrongDriver"
 why_text Duplicate = codes "Duplicate"
 why_text NoMemory = codes "Memory"
 
--- `profile LINE BadLine` or `profile LINE REFUSAL`
+-- `profile LINE BadLine`, `profile LINE NotVoid` or `profile LINE REFUSAL`
 unfoldable pub profile_fault_text : ProfileFault → List ℕ
 profile_fault_text (BadLine n) = codes "profile " ++ decimal n ++ codes " BadLine\n"
 profile_fault_text (Refused n why) =
     codes "profile " ++ decimal n ++ codes " " ++ why_text why ++ codes "\n"
+profile_fault_text (NotVoid n) = codes "profile " ++ decimal n ++ codes " NotVoid\n"
 
 abbrev pub long_profile_text : List ℕ
 long_profile_text = codes "profile 0 TooLong\n"

@@ -1,4 +1,4 @@
--- Writing a text (docs/EMBEDDING.md, "The program").
+-- Writing a text (docs/HOST.md, "The program").
 use Rattle.std.specs.Prelude.{ℕ, ◌≤◌, List, length, take, Option}
 use Rattle.std.specs.Io.KnownBytes.{Appends}
 use Rattle.asrun_session.specs.declared.ending.IoFault.TheVariants as io

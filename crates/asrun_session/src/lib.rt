@@ -1,5 +1,5 @@
 //! A session of scripts over a profile of what a host offers them: both are read from readers, and the text of the
-//! replies goes to a writer (docs/EMBEDDING.md, "The program").
+//! replies goes to a writer (docs/HOST.md, "The program").
 //!
 //! What each line says is read by `asrun_lines`. `specs/` has what the lines of both texts do (`Profile.antt`,
 //! `Limits.antt`, `Session.antt`), what was done with the replies (`Deeds.antt`), and what a whole session writes and how it ends
@@ -9,6 +9,9 @@
 mod action;
 mod ending;
 mod exit;
+mod explaining;
+mod forms;
+mod kept;
 mod limits;
 mod printing;
 mod profile;
@@ -21,6 +24,8 @@ mod writing;
 pub use action::{Act, Action, read_act};
 pub use ending::{IoFault, SessionError, Status};
 pub use exit::{ProgramExit, exit_status, print_no_memory, print_outcome};
+pub use explaining::{print_profile_line, print_session_line};
+pub use kept::Kept;
 pub use limits::{limited_engine, with_limit};
 pub use printing::{ReplyBuffer, print_bad_line, print_held};
 pub use profile::LoadedProfile;

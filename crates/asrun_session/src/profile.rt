@@ -1,15 +1,16 @@
 //! Registering what a profile says.
 ghost use Rattle.std.specs.Prelude.{◌≡◌, ◌<◌, ◌^◌, length, OnOk};
+ghost use Rattle.ang_view.specs.Registration.{entry_at};
 ghost use Rattle.ang_engine.specs.Limited.{no_limits};
 ghost use Rattle.asrun_lines.specs.Lines.{lines_of};
 ghost use Rattle.asrun_session.specs.Limits.{entry_limits, line_limits, limits_of};
-ghost use Rattle.asrun_session.specs.Profile.{line_entered, loaded, Loads, entered, IsJudged};
+ghost use Rattle.asrun_session.specs.Profile.{line_entered, loaded, Loads, entered, IsJudged, IsJudgedPosted, is_void, gives_none};
 ghost use Rattle.asrun_session.specs.Whole.{fresh};
 ghost use Rattle.asrun_lines.specs.ProfileLines.{entry_of};
 
 use crate::limits::with_limit;
 use ang_engine::Limits;
-use ang_kinds::EntityNo;
+use ang_kinds::{EntityNo, TypeRef};
 use ang_registry::{RegError, Registry};
 use asrun_lines::{ProfileLine, first_line, is_skipped, profile_line, shown};
 use std::alloc::Global;
@@ -43,6 +44,8 @@ pub enum ProfileFault {
     BadLine(u64),
     /// The registration of the line was refused, for another cause than memory.
     Refused(u64, RegError),
+    /// The line posts a function that has a result.
+    NotVoid(u64),
 }
 
 /// Why a profile was not loaded.
@@ -65,8 +68,54 @@ fn judged(number: u64, answer: Result<EntityNo, RegError>) -> Result<(), Profile
     }
 }
 
+fn is_void(ty: &TypeRef) -> bool
+    ensures exact { result ≡ is_void ty.now }
+{
+    match ty {
+        TypeRef::Void => true,
+        TypeRef::Plain(_) => false,
+        TypeRef::Enumeration { name: _ } => false,
+        TypeRef::Object {
+            name: _,
+            shape: _,
+            const_object: _,
+            const_handle: _,
+        } => false,
+    }
+}
+
+/// Whether an entry of this number is there, and has no result.
+fn gives_none(registry: &Registry, number: EntityNo) -> bool
+    ensures exact { result ≡ gives_none (entry_at registry.now.entries number.0) }
+{
+    match registry.get(number) {
+        Some(entry) => is_void(&entry.signature.result),
+        None => false,
+    }
+}
+
+/// How line `number` ends that posts a function, of which this is the registration's answer.
+fn judged_posted(
+    registry: &Registry,
+    number: u64,
+    answer: Result<EntityNo, RegError>,
+) -> Result<(), ProfileStop>
+    ensures exact { IsJudgedPosted result number registry.now.entries answer }
+{
+    match answer {
+        Ok(entry) => {
+            if gives_none(registry, entry) {
+                Ok(())
+            } else {
+                Err(ProfileStop::Fault(ProfileFault::NotVoid(number)))
+            }
+        }
+        Err(why) => judged(number, Err(why)),
+    }
+}
+
 /// Registers what line `number` says, or sets the limit that it says.
-#[tactic(auto, using(crate::proofs::Loading::loads_judged))]
+#[tactic(auto, using(crate::proofs::Loading::loads_judged, crate::proofs::Loading::loads_posted))]
 fn enter(profile: &mut LoadedProfile, number: u64, line: &[u8]) -> Result<(), ProfileStop>
     ensures exact { Loads result profile.new.registry
         (entered number profile.old.registry (entry_of line.now)) }
@@ -100,6 +149,10 @@ fn enter(profile: &mut LoadedProfile, number: u64, line: &[u8]) -> Result<(), Pr
         }
         ProfileLine::Function { driver, f, decl } => {
             judged(number, profile.registry.function(driver, f, decl))
+        }
+        ProfileLine::Posted { driver, f, decl } => {
+            let answer = profile.registry.function(driver, f, decl);
+            judged_posted(&profile.registry, number, answer)
         }
         ProfileLine::Global { driver, f, decl } => {
             judged(number, profile.registry.global_property(driver, f, decl))

@@ -35,7 +35,7 @@ fn registration_error_name(why: RegError) -> &'static str
     }
 }
 
-/// `profile LINE BadLine` or `profile LINE REFUSAL`, put after what stands in `out`.
+/// `profile LINE BadLine`, `profile LINE NotVoid` or `profile LINE REFUSAL`, put after what stands in `out`.
 #[tactic(auto, using(crate::proofs::Texts::texts), unfolding(crate::specs::Whole::profile_fault_text))]
 pub fn push_profile_fault(out: &mut Vec<u8>, fault: ProfileFault) -> Result<(), AllocError>
     ensures added { OnOk result (out.new.items ≡ out.old.items ++ profile_fault_text fault) }
@@ -51,6 +51,10 @@ pub fn push_profile_fault(out: &mut Vec<u8>, fault: ProfileFault) -> Result<(), 
             push_text(out, " ")?;
             push_text(out, registration_error_name(why))?;
             push_text(out, "\n")
+        }
+        ProfileFault::NotVoid(number) => {
+            push_number(out, number)?;
+            push_text(out, " NotVoid\n")
         }
     }
 }

@@ -269,7 +269,7 @@ pub fn outcome_of(ended: Result<Status, SessionError>) -> Result<Status, IoFault
 }
 
 /// Runs a session over a profile with these drivers, and writes the text of each reply before the next
-/// command (docs/EMBEDDING.md, "The program").
+/// command (docs/HOST.md, "The program").
 ///
 /// It reads the profile whole (at most 1,048,576 bytes) and runs its lines, makes the engine, under the limits that
 /// the profile sets, reads the session whole (at most 16,777,216 bytes) and runs its lines. A line of the profile that is not taken,

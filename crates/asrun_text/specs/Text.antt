@@ -1,4 +1,4 @@
--- The text of a reply (docs/EMBEDDING.md, "The program").
+-- The text of a reply (docs/HOST.md, "The program").
 use Rattle.std.specs.Prelude.{ℕ, true, false, List, [], ◌∷◌, ◌++◌, length, Option, Some, None, nat_lt, ◌+◌, ◌/◌, ◌%◌, ◌==◌, if◌then◌else◌, codes, decimal, flat_map}
 use Rattle.std.specs.Fmt.{signed_decimal}
 use Rattle.std.specs.Int.{w32, to_be_bytes}

@@ -1,5 +1,5 @@
 //! The text of replies: each event, error, denial and outcome on a line of its own
-//! (docs/EMBEDDING.md, "The program").
+//! (docs/HOST.md, "The program").
 #![tactic(auto)]
 
 mod reply;

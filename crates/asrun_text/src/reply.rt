@@ -1,4 +1,4 @@
-//! The text of a reply, as the program writes it (docs/EMBEDDING.md, "The program").
+//! The text of a reply, as the program writes it (docs/HOST.md, "The program").
 ghost use Rattle.std.specs.Prelude.{◌≡◌, ◌<◌, ◌++◌, OnOk, codes, decimal, flat_map};
 ghost use Rattle.ang_host.specs.Lent.{event_of};
 ghost use Rattle.asrun_lines.specs.Texts.{object_text};

@@ -1,4 +1,4 @@
-//! A driver of a host's own: it gives tickets, one number after the other (docs/EMBEDDING.md,
+//! A driver of a host's own: it gives tickets, one number after the other (docs/RATTLE_HOST.md,
 //! "Writing a driver").
 #![tactic(auto)]
 

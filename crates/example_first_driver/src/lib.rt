@@ -1,5 +1,5 @@
 //! A driver of a host's own that gives tickets, in its first form: what each driver owes is proved,
-//! and what this one answers is tested (docs/EMBEDDING.md, "A driver in 30 lines").
+//! and what this one answers is tested (docs/RATTLE_HOST.md, "A driver in 30 lines").
 #![tactic(auto)]
 
 ghost use Rattle.std.specs.Prelude.{◌≡◌, ◌<◌, ◌≤◌, ◌+◌, ◌^◌, true, false};

@@ -1,5 +1,5 @@
 //! A host: what it offers scripts under two masks, one module, builds and calls
-//! (docs/EMBEDDING.md, "A whole host").
+//! (docs/RATTLE_HOST.md, "A whole host").
 #![tactic(auto)]
 
 ghost use Rattle.std.specs.Prelude.{◌≡◌, ◌∷◌, [], Some, IfOk};

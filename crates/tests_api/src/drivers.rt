@@ -3,4 +3,6 @@ mod console;
 mod faulty;
 mod limited;
 mod listed;
+mod lists;
+mod maps;
 mod objects;

@@ -80,7 +80,7 @@ fn lineage(alloc: Global) -> Result<Lineage, AllocError> {
     for line in LINES {
         lines.push(Vec::from_slice(alloc, line)?)?;
     }
-    Ok(Lineage::new(lines))
+    Lineage::new(alloc, lines)
 }
 
 #[test]

@@ -63,33 +63,40 @@ fn typing(typed: Result<Operand, TypingError>) -> Typing {
     }
 }
 
-fn objects(alloc: Global) -> Lineage {
-    Lineage::new(Vec::new(alloc))
-}
-
 /// The operator between values of these types.
 fn between(
     alloc: Global,
+    lineage: &Lineage,
     left: ArgType,
     operator: TokenKind,
     right: ArgType,
 ) -> Result<Operand, TypingError> {
     let left = value(alloc, left, 1)?;
     let right = value(alloc, right, 5)?;
-    binary(alloc, &objects(alloc), left, operator, right)
+    binary(alloc, lineage, left, operator, right)
 }
 
 /// The operator in front of a value of this type.
-fn in_front(alloc: Global, operator: TokenKind, ty: ArgType) -> Result<Operand, TypingError> {
+fn in_front(
+    alloc: Global,
+    lineage: &Lineage,
+    operator: TokenKind,
+    ty: ArgType,
+) -> Result<Operand, TypingError> {
     let operand = value(alloc, ty, 2)?;
-    prefix(alloc, &objects(alloc), &token(operator, 1), operand)
+    prefix(alloc, lineage, &token(operator, 1), operand)
 }
 
 /// A conversion to the primitive type that is written in front of a value of this type.
-fn converted(alloc: Global, to: Prim, ty: ArgType) -> Result<Operand, TypingError> {
+fn converted(
+    alloc: Global,
+    lineage: &Lineage,
+    to: Prim,
+    ty: ArgType,
+) -> Result<Operand, TypingError> {
     let operand = value(alloc, ty, 6)?;
     let word = token(TokenKind::Primitive(to), 1);
-    convert(alloc, &objects(alloc), &word, operand)
+    convert(alloc, lineage, &word, operand)
 }
 
 /// `++` after a variable in parentheses.
@@ -105,40 +112,46 @@ fn constant_counted_down(alloc: Global) -> Result<Operand, TypingError> {
 }
 
 /// `++` in front of a variable of this type.
-fn counted_up(alloc: Global, ty: ArgType) -> Result<Operand, TypingError> {
+fn counted_up(alloc: Global, lineage: &Lineage, ty: ArgType) -> Result<Operand, TypingError> {
     let operand = variable(alloc, ty, 2, false)?;
-    prefix(
-        alloc,
-        &objects(alloc),
-        &token(TokenKind::Increment, 1),
-        operand,
-    )
+    prefix(alloc, lineage, &token(TokenKind::Increment, 1), operand)
 }
 
 /// A value of this type assigned to what is written in front of it.
 fn stored(
     alloc: Global,
+    lineage: &Lineage,
     written: Result<Operand, TypingError>,
     operator: TokenKind,
     ty: ArgType,
 ) -> Result<Operand, TypingError> {
     let written = written?;
     let value = value(alloc, ty, 6)?;
-    assignment(alloc, &objects(alloc), written, &token(operator, 4), value)
+    assignment(alloc, lineage, written, &token(operator, 4), value)
 }
 
 /// `@` in front of a variable.
-fn seat(alloc: Global, ty: ArgType, read_only: bool) -> Result<Operand, TypingError> {
+fn seat(
+    alloc: Global,
+    lineage: &Lineage,
+    ty: ArgType,
+    read_only: bool,
+) -> Result<Operand, TypingError> {
     let inner = variable(alloc, ty, 2, read_only)?;
-    prefix(alloc, &objects(alloc), &token(TokenKind::At, 1), inner)
+    prefix(alloc, lineage, &token(TokenKind::At, 1), inner)
 }
 
 /// `?:` with values of these types.
-fn chosen(alloc: Global, then: ArgType, otherwise: ArgType) -> Result<Operand, TypingError> {
+fn chosen(
+    alloc: Global,
+    lineage: &Lineage,
+    then: ArgType,
+    otherwise: ArgType,
+) -> Result<Operand, TypingError> {
     let condition = value(alloc, BOOL, 1)?;
     let then = value(alloc, then, 5)?;
     let otherwise = value(alloc, otherwise, 9)?;
-    conditional(alloc, &objects(alloc), condition, then, otherwise)
+    conditional(alloc, lineage, condition, then, otherwise)
 }
 
 const BOOL: ArgType = ArgType::Plain(Prim::Bool);
@@ -201,32 +214,58 @@ enum Asked {
 /// What is typed, and what comes of it.
 type Row = (Asked, Typing);
 
-fn typed(alloc: Global, asked: &Asked) -> Result<Operand, TypingError> {
+fn typed(alloc: Global, lineage: &Lineage, asked: &Asked) -> Result<Operand, TypingError> {
     match *asked {
-        Between(left, operator, right) => between(alloc, left, operator, right),
-        InFront(operator, ty) => in_front(alloc, operator, ty),
-        Converted(to, ty) => converted(alloc, to, ty),
+        Between(left, operator, right) => between(alloc, lineage, left, operator, right),
+        InFront(operator, ty) => in_front(alloc, lineage, operator, ty),
+        Converted(to, ty) => converted(alloc, lineage, to, ty),
         Literal(text) => literal(alloc, &token(TokenKind::Number, 1), text),
         GroupCountedUp => group_counted_up(alloc),
         ConstantCountedDown => constant_counted_down(alloc),
-        CountedUp(ty) => counted_up(alloc, ty),
-        Stored(to, operator, ty) => stored(alloc, variable(alloc, to, 1, false), operator, ty),
-        StoredInValue(to, operator, ty) => stored(alloc, value(alloc, to, 1), operator, ty),
+        CountedUp(ty) => counted_up(alloc, lineage, ty),
+        Stored(to, operator, ty) => stored(
+            alloc,
+            lineage,
+            variable(alloc, to, 1, false),
+            operator,
+            ty,
+        ),
+        StoredInValue(to, operator, ty) => stored(
+            alloc,
+            lineage,
+            value(alloc, to, 1),
+            operator,
+            ty,
+        ),
         Seated(to, read_only, ty) => {
-            stored(alloc, seat(alloc, to, read_only), TokenKind::Assign, ty)
+            stored(
+                alloc,
+                lineage,
+                seat(alloc, lineage, to, read_only),
+                TokenKind::Assign,
+                ty,
+            )
         }
-        Chosen(then, otherwise) => chosen(alloc, then, otherwise),
+        Chosen(then, otherwise) => chosen(alloc, lineage, then, otherwise),
     }
 }
 
 /// The number of the first row of which something else comes.
-fn first_wrong(alloc: Global, rows: &[Row]) -> Option<usize> {
+fn first_wrong_over(alloc: Global, lineage: &Lineage, rows: &[Row]) -> Option<usize> {
     for (at, (asked, outcome)) in rows.iter().enumerate() {
-        if typing(typed(alloc, asked)) != *outcome {
+        if typing(typed(alloc, lineage, asked)) != *outcome {
             return Some(at);
         }
     }
     None
+}
+
+/// The same over objects above which nothing stands; where there is no memory for these, how many rows there are.
+fn first_wrong(alloc: Global, rows: &[Row]) -> Option<usize> {
+    match Lineage::new(alloc, Vec::new(alloc)) {
+        Ok(lineage) => first_wrong_over(alloc, &lineage, rows),
+        Err(_) => Some(rows.len()),
+    }
 }
 
 /// Two operands, the operator between them, and the type that they have together.

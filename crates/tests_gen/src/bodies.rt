@@ -1,4 +1,4 @@
-//! Whole bodies, with the code that docs/MEANING.md ("Code") gives for each construct.
+//! Whole bodies, with the code that docs/CLAIMS.md ("Code") gives for each construct.
 use crate::modules::{Code, first_unlike};
 use ang_code::{Instruction, RoutineCode};
 use ang_core::{CoreBody, CoreExpression, CoreStatement};

@@ -1,4 +1,4 @@
-//! A small module, with the code that docs/MEANING.md ("Code") gives for it.
+//! A small module, with the code that docs/CLAIMS.md ("Code") gives for it.
 use ang_code::{Instruction, Mark, RoutineCode};
 use ang_gen::generate_module;
 use ang_kinds::{Comparison, List, Operator, Pass, Position, Prim};

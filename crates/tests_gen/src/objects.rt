@@ -1,5 +1,5 @@
 //! Members of objects, `this`, the making of objects and calls of all kinds, and the core trees that
-//! docs/MEANING.md ("From a script to the core tree") gives them.
+//! docs/CLAIMS.md ("From a script to the core tree") gives them.
 use crate::forms::{
     Arguments, Place, Rows, assign, assign_at, call, cast, compound_at, evaluate, function_of,
     give_back, local, make, member_of, module_with, no_arguments, null, number, one_value, only,

@@ -1,4 +1,4 @@
-//! Small modules as resolved trees, and the core trees that docs/MEANING.md gives them.
+//! Small modules as resolved trees, and the core trees that docs/CLAIMS.md gives them.
 use crate::forms::{
     INT, Row, Rows, Tree, and, assign, block, call, choice, choose, compare, complement, converted,
     do_loop, evaluate, for_loop, function, give_back, go_on, leaf, leave, local, module_of, naming,

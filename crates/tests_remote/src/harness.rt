@@ -122,7 +122,7 @@ pub fn answered(
 ) -> Result<Option<Answer>, AllocError> {
     let mut host = Host::new(text, 0);
     let mut sink = Sink::new(alloc, 0, false, false);
-    let mut driver = Remote::new(alloc, 3, &mut host, &mut sink);
+    let mut driver = Remote::new(alloc, 3, Vec::new(alloc), &mut host, &mut sink);
     let answer = asked(&mut driver, asking);
     drop(driver);
     let is_right = host.unread() == unread && sink.kept.as_slice() == written.as_bytes();
@@ -131,7 +131,7 @@ pub fn answered(
 
 /// What a driver of the number 0 answers where a stream fails.
 pub fn failing(host: &mut Host<'_>, sink: &mut Sink, alloc: Global) -> Answer {
-    let mut driver = Remote::new(alloc, 0, host, sink);
+    let mut driver = Remote::new(alloc, 0, Vec::new(alloc), host, sink);
     let answer = driver.read(1, None);
     drop(driver);
     answer
@@ -141,7 +141,7 @@ pub fn failing(host: &mut Host<'_>, sink: &mut Sink, alloc: Global) -> Answer {
 pub fn making(alloc: Global, text: &str, written: &str) -> Result<Option<Made>, AllocError> {
     let mut host = Host::new(text, 0);
     let mut sink = Sink::new(alloc, 0, false, false);
-    let mut driver = Remote::new(alloc, 3, &mut host, &mut sink);
+    let mut driver = Remote::new(alloc, 3, Vec::new(alloc), &mut host, &mut sink);
     let made = driver.make(4_294_967_295, &[Value::Bool(false)]);
     drop(driver);
     let is_right = sink.kept.as_slice() == written.as_bytes();

@@ -11,3 +11,5 @@ mod harness;
 mod lines;
 #[cfg(test)]
 mod objects;
+#[cfg(test)]
+mod posts;

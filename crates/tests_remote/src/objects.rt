@@ -48,7 +48,7 @@ fn is_idle<D: Driver>(driver: &D) -> bool {
 fn a_key_is_used_again(rt: HostRuntime) -> Result<(), AllocError> {
     let mut host = Host::new("made #9\nmade #9\n", 0);
     let mut sink = Sink::new(rt.alloc(), 0, false, false);
-    let mut driver = Remote::new(rt.alloc(), 0, &mut host, &mut sink);
+    let mut driver = Remote::new(rt.alloc(), 0, Vec::new(rt.alloc()), &mut host, &mut sink);
     let is_idle_before = is_idle(&driver);
     let once = made_and_ended(&mut driver, 9);
     let again = made_and_ended(&mut driver, 9);
@@ -70,7 +70,7 @@ fn live_answers<D: Driver>(driver: &mut D) -> Option<(u64, Answer, Made)> {
 fn a_key_is_live(rt: HostRuntime) -> Result<(), AllocError> {
     let mut host = Host::new("made #9\n#9\nmade #9\n", 0);
     let mut sink = Sink::new(rt.alloc(), 0, false, false);
-    let mut driver = Remote::new(rt.alloc(), 0, &mut host, &mut sink);
+    let mut driver = Remote::new(rt.alloc(), 0, Vec::new(rt.alloc()), &mut host, &mut sink);
     let answers = live_answers(&mut driver);
     drop(driver);
     let text = b"ask 0 make 0 - ()\nask 0 call 1 #9 (#9)\nask 0 make 0 - ()\n";

@@ -41,7 +41,7 @@ pub type Row = (Step, Left);
 pub type Left = (usize, usize, u64, u64, u64);
 
 /// An odd number is 1 as a truth value. Where a comparison does not hold, four instructions more are passed.
-const TAKEN: [Row; 28] = [
+const TAKEN: [Row; 30] = [
     (Step::Push(4), (8, 3, 5, 3, 4)),
     (Step::Keep(0), (9, 1, 3, 3, 0)),
     (Step::Move(1, 0), (10, 2, 5, 5, 0)),
@@ -70,10 +70,12 @@ const TAKEN: [Row; 28] = [
     (Step::DropUnder(1), (8, 1, 3, 3, 0)),
     (Step::Swap(None, 0, 1), (8, 2, 3, 5, 0)),
     (Step::Swap(Some(Prim::Bool), 0, 1), (8, 2, 1, 5, 0)),
+    (Step::Jump(4), (12, 2, 5, 3, 0)),
+    (Step::JumpIfFalse(4), (8, 1, 5, 3, 0)),
 ];
 
-/// At a loop's end a tick is taken.
-const BACK: [Row; 7] = [
+/// A tick is taken, at a loop's end too.
+const BACK: [Row; 9] = [
     (Step::ChangeBack(LATER, 1, 2, 3), (7, 2, 7, 3, 0)),
     (Step::AddBack32(true, 0, 1, 3), (7, 2, 5, 4, 0)),
     (Step::AddBack64(true, 0, 1, 3), (7, 2, 5, 4, 0)),
@@ -81,6 +83,8 @@ const BACK: [Row; 7] = [
     (Step::AddBackU64(true, 0, 1, 3), (7, 2, 5, 4, 0)),
     (Step::LeaveBack(1, 3), (5, 1, 5, 3, 0)),
     (Step::LeaveBack(2, 3), (5, 0, 5, 3, 0)),
+    (Step::Tick, (8, 2, 5, 3, 0)),
+    (Step::LoopBack(3), (4, 2, 5, 3, 0)),
 ];
 
 /// Calls, returns, host calls, loads, fields, globals and handles are left to the run, and so is what faults, finds no
@@ -191,6 +195,14 @@ fn steps_are_taken(rt: HostRuntime) {
     assert!(rt; truth == left(9, (10, 1, 1, 9, 5)));
     let last = taken(4, [2, 9, 5], 9, Step::KeepLastOut(Some(I64), 0));
     assert!(rt; last == left(9, (10, 1, 5, 9, 5)));
+    let untrue = taken(3, [5, 3, 0], 9, Step::JumpIfFalse(4));
+    assert!(rt; untrue == left(9, (12, 2, 5, 3, 0)));
+    let spent = taken(2, [5, 3, 0], 0, Step::LeaveAddBack32(true, 1, 0, 4, 3));
+    assert!(rt; spent == Err(Dispatch::Leave));
+    let above_one = taken(2, [5, 3, 0], 9, Step::LeaveAddBack32(true, 1, 0, 4, 3));
+    assert!(rt; above_one == left(8, (8, 1, 9, 3, 0)));
+    let above_two = taken(3, [2, 9, 5], 9, Step::LeaveAddBack32(false, 2, 0, 4, 20));
+    assert!(rt; above_two == left(8, (0, 1, 6, 9, 5)));
     let masked = taken(1, [5, 3, 0], 9, Step::MaskXor(U64, 0, 0, 4));
     assert!(rt; masked == left(9, (12, 2, 5, 1, 0)));
 }
@@ -227,15 +239,16 @@ const COUNTING: &[Instruction] = &[
 ];
 
 /// Steps of a text by their places, and the number of all.
-const STEPS: [(usize, Option<Step>); 11] = [
+const STEPS: [(usize, Option<Step>); 12] = [
     (0, Some(Step::Push(0))),
-    (1, Some(Step::Other)),
+    (1, Some(Step::Tick)),
     (2, Some(Step::LessConstant(0, 10, 4))),
     (3, Some(Step::LessTopConstant(10, 4))),
     (4, Some(Step::TestTops(LESS, true, 4))),
-    (5, Some(Step::Other)),
+    (5, Some(Step::JumpIfFalse(4))),
     (6, Some(Step::AddBack64(true, 0, 1, 7))),
     (7, Some(Step::AddTopToLocal64(true, 0))),
+    (9, Some(Step::LoopBack(7))),
     (10, Some(Step::Load(0))),
     (11, Some(Step::Return(1))),
     (12, None),
@@ -299,6 +312,14 @@ const DIFFER: Update = Update {
     at: Prim::U32,
     to: Prim::U32,
     old: false,
+};
+
+/// A change of an `int` by `+`.
+const COUNTED: Update = Update {
+    operator: Operator::Add,
+    at: Prim::I32,
+    to: Prim::I32,
+    old: true,
 };
 
 /// Two operators that stand together, values that are given up at a loop's end, and such that are given up below the top
@@ -370,10 +391,16 @@ const PAIRED: &[Instruction] = &[
     DropUnder(3),
     Drop,
     DropUnder(1),
+    Leave(2),
+    PushBits(1),
+    Changed(COUNTED, 1),
+    Drop,
+    LoopBack(9),
+    Instruction::Jump(5),
 ];
 
 /// Each of them is one step. Three values and more are given up alone.
-const PAIRS: [(usize, Option<Step>); 20] = [
+const PAIRS: [(usize, Option<Step>); 22] = [
     (0, Some(Step::MultiplyShift64(1, 0, 16))),
     (5, Some(Step::AddTestGreater64(1, 0, 9, 4))),
     (11, Some(Step::SubtractAddKeep64(1, 0, 1, 0))),
@@ -394,6 +421,8 @@ const PAIRS: [(usize, Option<Step>); 20] = [
     (57, Some(Step::DropUnder(2))),
     (59, Some(Step::Other)),
     (61, Some(Step::DropUnder(1))),
+    (62, Some(Step::LeaveAddBack32(true, 2, 1, 1, 9))),
+    (67, Some(Step::Jump(5))),
 ];
 
 /// Values of `&out` arguments that change places with locals: of one, of two, of one of a rare type, of one at a place

@@ -37,7 +37,8 @@ pub fn called<D: Driver>(driver: &mut D, f: u32, key: u64, args: &[Value]) -> An
     driver.call(f, Some(key), args)
 }
 
-fn told<D: Driver>(driver: &mut D, f: u32, key: u64) -> Answer
+/// What a read of an object's property answers.
+pub fn told<D: Driver>(driver: &mut D, f: u32, key: u64) -> Answer
     requires live { IsLive (D.meaning.state driver.old) key }
     ensures live { IsLive (D.meaning.state driver.new) key }
 {

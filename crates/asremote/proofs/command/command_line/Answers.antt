@@ -3,7 +3,7 @@ use Rattle.std.proofs.lemmas.Result.{IfOk-weaker}
 use Rattle.clap.specs.Words.{Rule, app_of, rule_of, with_rule, new_app}
 use Rattle.clap.specs.Simple.{app_of_fields}
 use Rattle.clap.specs.declared.builder.arg.Arg.{Arg}
-use Rattle.asremote.specs.Options.{profile_rule, drivers_rule, budget_rule, echo_rule}
+use Rattle.asremote.specs.Options.{with_version, profile_rule, drivers_rule, budget_rule, echo_rule}
 use Rattle.asremote.proofs.command.command_line.Goals as goal
 
 pub returns : goal.returns
@@ -18,12 +18,12 @@ returns c =
     ap rule_of c.help-2.ensures ∙ ap rule_of c.long-drivers.ensures ∙ ap (λ (r : Rule). record r { long = Some (codes "drivers") }) c.new-2.ensures.rule in
     let budget_is : rule_of c.help-3.result ≡ budget_rule = search rules in
     let echo_is : rule_of c.help-4.result ≡ echo_rule = search rules in
-    let told : app_of c.after_help.result ≡ new_app (codes "asremote") =
-    ap app_of_fields c.after_help.ensures ∙ ap app_of_fields c.about.ensures ∙ c.new-5.ensures.app in
-    let first : app_of c.in_ok-arg.field-0 ≡ with_rule (new_app (codes "asremote")) profile_rule =
+    let told : app_of c.after_help.result ≡ with_version (new_app (codes "asremote")) =
+    ap app_of_fields c.after_help.ensures ∙ ap app_of_fields c.about.ensures ∙ ap app_of_fields c.version.ensures ∙ ap with_version c.new-5.ensures.app in
+    let first : app_of c.in_ok-arg.field-0 ≡ with_rule (with_version (new_app (codes "asremote"))) profile_rule =
     c.in_ok-arg.ensures.shape local ∙ ap₂ with_rule told profile_is in
-    let second : app_of c.in_ok-arg-2.field-0 ≡ with_rule (with_rule (new_app (codes "asremote")) profile_rule) drivers_rule =
+    let second : app_of c.in_ok-arg-2.field-0 ≡ with_rule (with_rule (with_version (new_app (codes "asremote"))) profile_rule) drivers_rule =
     c.in_ok-arg-2.ensures.shape (search rules) ∙ ap₂ with_rule first drivers_is in
-    let third : app_of c.in_ok-arg-3.field-0 ≡ with_rule (with_rule (with_rule (new_app (codes "asremote")) profile_rule) drivers_rule) budget_rule =
+    let third : app_of c.in_ok-arg-3.field-0 ≡ with_rule (with_rule (with_rule (with_version (new_app (codes "asremote"))) profile_rule) drivers_rule) budget_rule =
     c.in_ok-arg-3.ensures.shape (search rules) ∙ ap₂ with_rule second budget_is in
     record { exact = IfOk-weaker c.arg-4.result _ _ (λ d added. added.shape (search rules) ∙ ap₂ with_rule third echo_is) c.arg-4.ensures }

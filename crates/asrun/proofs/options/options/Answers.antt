@@ -1,6 +1,6 @@
 use Rattle.std.proofs.Common.{◌∙◌, ap, sym, codes}
 use Rattle.asrun_lines.specs.Budget.{budget_given}
-use Rattle.asrun.proofs.CommandLine.{value_given, refused_right, not_right}
+use Rattle.asrun.proofs.CommandLine.{value_given, refused_right, not_right, no_options, version_shown}
 use Rattle.asrun.proofs.options.options.Goals as goal
 
 pub returns-in-Some-clause-profile : goal.returns-in-Some-clause-profile
@@ -25,3 +25,15 @@ returns-in_err-matches-clause-refused c =
 pub returns-clause-refused : goal.returns-clause-refused
 returns-clause-refused c =
     λ right. absurd (not_right _ _ c.in_ok-matches.matches _ c.in_ok-command.ensures.exact c.in_ok-matches.ensures.ok.2 c.in-None.is c.in_ok-options.ensures.complete right)
+
+pub returns-in-Some-clause-version : goal.returns-in-Some-clause-version
+returns-in-Some-clause-version c =
+    λ asks. no_options c.in_ok-matches.matches _ _ c.in_ok-command.ensures.exact asks c.in_ok-matches.ensures.kinds
+
+pub returns-in_err-matches-clause-version : goal.returns-in_err-matches-clause-version
+returns-in_err-matches-clause-version c =
+    version_shown _ _ _ _ c.from_residual-in_err-matches.ensures.1 c.in_ok-command.ensures.exact c.in_err-matches.ensures.kinds
+
+pub returns-clause-version : goal.returns-clause-version
+returns-clause-version c =
+    λ asks. absurd (no_options c.in_ok-matches.matches _ _ c.in_ok-command.ensures.exact asks c.in_ok-matches.ensures.kinds)

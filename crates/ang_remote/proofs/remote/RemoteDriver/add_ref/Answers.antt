@@ -5,5 +5,5 @@ pub returns : goal.returns
 returns g c =
     let s = c.args.self.now in
     record {
-      law = added s.number s.keys c.add_ref.new.self (g.W.Write.contents s.writer) (g.R.Read.remaining s.reader) c.args.key c.add_ref.result c.add_ref.ensures.added;
+      law = added (s.number, s.posted.items) s.keys c.add_ref.new.self (g.W.Write.contents s.writer) (g.R.Read.remaining s.reader) c.args.key c.add_ref.result c.add_ref.ensures.added;
     }

@@ -1,0 +1,12 @@
+use Rattle.ang_drivers.specs.IntMap.{map_code}
+use Rattle.ang_drivers.specs.ObjectsLedger.{ledger}
+use Rattle.ang_drivers.proofs.Moving.{sound_of}
+use Rattle.ang_drivers.proofs.MapLaws.{reads_nothing}
+use Rattle.ang_drivers.proofs.int_map.IntMapDriver.read.Goals as goal
+
+pub returns : goal.returns
+returns c = record {
+  law =
+      reads_nothing c.args.self.now.bound (ledger c.args.self.now.maps) (ledger c.ask.new.self) c.if-not-ask.ensures.asked c.args._f c.args._object
+      (sound_of map_code c.ask.new.self);
+}
