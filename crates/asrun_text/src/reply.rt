@@ -263,8 +263,7 @@ fn push_mask(out: &mut Vec<u8>, mask: Mask) -> Result<(), AllocError>
     ensures added { OnOk result (out.new.items ≡ out.old.items ++ mask_text mask.0) }
 {
     for byte in mask.0.to_be_bytes() {
-        out.push(hex_digit(byte / 16))?;
-        out.push(hex_digit(byte % 16))?;
+        out.extend_from_slice(&[hex_digit(byte / 16), hex_digit(byte % 16)])?;
     }
     Ok(())
 }
