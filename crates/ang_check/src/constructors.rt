@@ -18,7 +18,7 @@ use ang_check_context::{BodyContext, Locals, Within, own_type, types_of};
 use ang_check_operators::{Operand, TypingError, boxed, refused, refused_for};
 use ang_check_stmt::{FunctionContext, Returns, block, own_object, positions_of};
 use ang_check_typing::{arguments_for, typing_of_all};
-use ang_check_uses::{Callables, Called, Resolution, Scope, best_of_those, makers_of};
+use ang_check_uses::{Called, Resolution, Scope, maker_meant};
 use ang_kinds::{ErrorKind, List, Place, Position, position_of};
 use ang_lex::Token;
 use ang_names_known::{Default, Names, ScriptFunction, default_of, family_type};
@@ -127,20 +127,6 @@ fn super_chosen(
     }
 }
 
-/// All that makes an object of the class of this number; nothing where there is none.
-///
-/// The only error is want of memory.
-#[tactic(auto, using(crate::proofs::Makers::makers_beyond))]
-fn makers_in(alloc: Global, scope: &Scope<'_>, class: usize) -> Result<Callables, AllocError>
-    ensures exact { IfOk result (λ c. c ≡ all_makers scope.now (spaces.family_type class)) }
-{
-    if class < scope.names().families().len() {
-        makers_of(alloc, scope, family_type(class))
-    } else {
-        Ok(Callables::new(alloc))
-    }
-}
-
 /// `super(..)` of the class of this number.
 fn super_of(
     alloc: Global,
@@ -153,14 +139,9 @@ fn super_of(
         (spec.super_by context.now word.now (view_operands operands.items) (Some base)) }
 {
     let scope = Scope::new(context.view(), context.names(), context.lineage());
-    let makers = makers_in(alloc, &scope, base)?;
     let types = types_of(alloc, operands.as_slice())?;
-    let chosen = best_of_those(
-        context.lineage(),
-        ErrorKind::NoMatch,
-        makers,
-        types.as_slice(),
-    );
+    let number = family_type(base);
+    let chosen = maker_meant(alloc, &scope, ErrorKind::NoMatch, number, types.as_slice())?;
     super_chosen(alloc, context, word, operands, chosen)
 }
 

@@ -54,54 +54,6 @@ fn push_types(types: &mut Vec<ArgType>, fields: &[Field]) -> Result<(), AllocErr
     Ok(())
 }
 
-/// The fields that a family declares itself.
-fn fields_of(families: &[Family], number: usize) -> &[Field]
-    ensures exact { result.now ≡ fields_in (slice_get families.now number) }
-{
-    match families.get(number) {
-        None => &[],
-        Some(family) => family.fields.as_slice(),
-    }
-}
-
-/// The types of the fields of these families, the last family's first.
-///
-/// The only error is want of memory.
-#[tactic(auto, using(crate::proofs::Classes::types_turn))]
-fn types_behind(
-    alloc: Global,
-    families: &[Family],
-    order: &[usize],
-) -> Result<Vec<ArgType>, AllocError>
-    ensures exact { IfOk result
-        (λ v. v.items ≡ spec.types_behind (families_at families.now order.now)) }
-{
-    let mut types = Vec::new(alloc);
-    for back in 0..order.len() {
-        let number = order[order.len() - 1 - back];
-        push_types(&mut types, fields_of(families, number))?;
-    }
-    Ok(types)
-}
-
-/// The types of all fields of an object, those of the base class first. An interface has none.
-///
-/// The only error is want of memory.
-fn field_types(
-    alloc: Global,
-    families: &[Family],
-    family: &Family,
-) -> Result<Vec<ArgType>, AllocError>
-    ensures exact { IfOk result (λ v. v.items ≡ (if family.now.is_class
-        then spec.types_behind (families_at families.now family.now.order) else [])) }
-{
-    if family.is_class {
-        types_behind(alloc, families, family.order.as_slice())
-    } else {
-        Ok(Vec::new(alloc))
-    }
-}
-
 /// The slot and the body of a method, where it has one, at the end of some.
 fn push_slot(slots: &mut Vec<(usize, usize)>, method: &ScriptMethod) -> Result<(), AllocError>
     ensures pushed { OnOk result
@@ -140,7 +92,7 @@ fn typed_class(
     requires number { slice_get families.now number ≡ Some family.now }
     ensures exact { IfOk result (λ k. k ≡ spec.typed_class families.now number family.now) }
 {
-    let fields = field_types(alloc, families, family)?;
+    let fields = own_field_types(alloc, family)?;
     let above = Vec::from_slice(alloc, family.above.as_slice())?;
     let chosen = slots_of(alloc, family.methods.as_slice())?;
     Ok(TypedClass {
@@ -150,6 +102,14 @@ fn typed_class(
         chosen: List::from_vec(chosen),
         rank: family.rank,
     })
+}
+
+/// The types of the fields that a family declares itself.
+fn own_field_types(alloc: Global, family: &Family) -> Result<Vec<ArgType>, AllocError> {
+    let own = family.fields.as_slice();
+    let mut types = Vec::with_capacity(alloc, own.len())?;
+    push_types(&mut types, own)?;
+    Ok(types)
 }
 
 /// The classes and interfaces, with what is known of them where their objects are made and their methods are chosen.

@@ -11,12 +11,12 @@ ghost use Rattle.ang_check_uses.specs.Uses as uses;
 use crate::called::{CallSite, called_own, with_receiver};
 use ang_check_context::{BodyContext, Receiver, types_of};
 use ang_check_operators::{Operand, TypingError};
-use ang_check_uses::{Callable, Callables, Called, Reach, Resolution, best_method};
-use ang_kinds::{List, Pass};
+use ang_check_uses::{Callable, Called, Reach, Resolution, enter_params};
+use ang_kinds::{ErrorKind, List, Pass};
 use ang_lex::Token;
 use ang_names_known::{FoundMethod, ScriptMethod, parameters_of};
 use ang_typed::TypedCallee;
-use ang_types::{ArgType, Candidate, Lineage};
+use ang_types::{ArgType, Candidate, Contest, Lineage, Pick};
 use std::alloc::{AllocError, Global};
 
 /// The parameters of a method, with its receiver in front.
@@ -57,91 +57,103 @@ fn method_called(
     })
 }
 
-/// Each method as it is called on an object: that of the object's class in the slot.
-fn virtual_methods(
-    alloc: Global,
-    number: u32,
-    methods: &[FoundMethod<'_>],
-) -> Result<Callables, AllocError>
-    ensures exact { IfOk result (λ c. c ≡ list_map (spec.virtual_method number) methods.now) }
-{
-    let mut callables = Callables::new(alloc);
-    for method in methods {
-        let callee = TypedCallee::Chosen(method.method().slot);
-        let callable = method_called(alloc, callee, number, method)?;
-        callables.push(callable)?;
+/// What is called of a method: that of the object's class in the slot, or its own body, which an interface's does not have.
+fn callee_of(method: &ScriptMethod, is_direct: bool) -> Option<TypedCallee> {
+    if !is_direct {
+        return Some(TypedCallee::Chosen(method.slot));
     }
-    Ok(callables)
+    let body = method.body?;
+    Some(TypedCallee::Own(body))
 }
 
-fn push_direct(
-    alloc: Global,
-    callables: &mut Callables,
-    number: u32,
-    found: &FoundMethod<'_>,
-) -> Result<(), AllocError>
-    ensures pushed { OnOk result
-        (callables.new ≡ callables.old ++ spec.direct_method number found.now) }
-{
-    if let Some(body) = found.method().body {
-        let callable = method_called(alloc, TypedCallee::Own(body), number, found)?;
-        callables.push(callable)?;
-    }
-    Ok(())
-}
-
-/// Each method as its class has it, whatever the object's class. One without a body is left out.
-fn direct_methods(
-    alloc: Global,
-    number: u32,
-    methods: &[FoundMethod<'_>],
-) -> Result<Callables, AllocError>
-    ensures exact { IfOk result (λ c. c ≡ flat_map (spec.direct_method number) methods.now) }
-{
-    let mut callables = Callables::new(alloc);
-    for method in methods {
-        push_direct(alloc, &mut callables, number, method)?;
-    }
-    Ok(callables)
-}
-
-/// The best of some methods on this receiver, for these operands.
-fn best_on(
+/// Which of some methods is the best on this receiver, for these arguments, of which the receiver is the first. A method in whose
+/// place a nearer one stands, with the same parameters, plays no part.
+fn method_pick(
     alloc: Global,
     lineage: &Lineage,
-    callables: Callables,
+    methods: &[FoundMethod<'_>],
+    is_direct: bool,
+    number: u32,
+    types: &[ArgType],
+) -> Result<Pick, AllocError> {
+    let mut contest = Contest::new(alloc, types.len())?;
+    let Some(receiver) = types.first() else {
+        return Ok(Pick::NoViable);
+    };
+    for k in 0..methods.len() {
+        let method = methods[k].method();
+        let own = ArgType::Object {
+            number,
+            read_only: method.read_only,
+        };
+        let is_there = callee_of(method, is_direct).is_some();
+        if is_there && contest.place(lineage, 0, own, Pass::RefInOut, *receiver) {
+            let params = method.function.params.as_slice();
+            enter_params(&mut contest, lineage, params, types, 1, k, method.slot);
+        }
+    }
+    Ok(contest.pick())
+}
+
+/// The types of a receiver and of the operands after it.
+fn types_on(
+    alloc: Global,
+    number: u32,
+    read_only: bool,
+    operands: &[Operand],
+) -> Result<Vec<ArgType>, AllocError> {
+    let mut types = types_of(alloc, operands)?;
+    types.insert(0, ArgType::Object { number, read_only })?;
+    Ok(types)
+}
+
+/// Why none of the methods takes the arguments.
+fn unmatched(
+    alloc: Global,
+    lineage: &Lineage,
+    methods: &[FoundMethod<'_>],
+    is_direct: bool,
     on: Receiver,
     operands: &[Operand],
-) -> Result<Resolution, AllocError>
-    ensures exact { IfOk result (λ r. r ≡ uses.best_method lineage.now callables on.number
-        on.read_only (all_types (view_operands operands.now))) }
-{
-    let types = types_of(alloc, operands)?;
-    let Receiver { number, read_only } = on;
-    best_method(
-        alloc,
-        lineage,
-        callables,
-        number,
-        read_only,
-        types.as_slice(),
-    )
+) -> Result<ErrorKind, AllocError> {
+    let is_any = methods.iter().any(|found| callee_of(found.method(), is_direct).is_some());
+    if !is_any {
+        return Ok(ErrorKind::UnknownName);
+    }
+    if !on.read_only {
+        return Ok(ErrorKind::NoMatch);
+    }
+    let types = types_on(alloc, on.number, false, operands)?;
+    match method_pick(alloc, lineage, methods, is_direct, on.number, types.as_slice())? {
+        Pick::NoViable => Ok(ErrorKind::NoMatch),
+        Pick::Ambiguous | Pick::One(_) => Ok(ErrorKind::Const),
+    }
 }
 
 /// What a call of one of these methods on a receiver means, for these operands.
-fn virtual_meant(
+fn meant(
     alloc: Global,
     lineage: &Lineage,
     methods: &[FoundMethod<'_>],
+    is_direct: bool,
     on: Receiver,
     operands: &[Operand],
-) -> Result<Resolution, AllocError>
-    ensures exact { IfOk result (λ r. r ≡ uses.best_method lineage.now
-        (list_map (spec.virtual_method on.number) methods.now) on.number on.read_only
-        (all_types (view_operands operands.now))) }
-{
-    let callables = virtual_methods(alloc, on.number, methods)?;
-    best_on(alloc, lineage, callables, on, operands)
+) -> Result<Resolution, AllocError> {
+    let types = types_on(alloc, on.number, on.read_only, operands)?;
+    match method_pick(alloc, lineage, methods, is_direct, on.number, types.as_slice())? {
+        Pick::Ambiguous => Ok(Resolution::Refused(ErrorKind::Ambiguous)),
+        Pick::NoViable => {
+            let kind = unmatched(alloc, lineage, methods, is_direct, on, operands)?;
+            Ok(Resolution::Refused(kind))
+        }
+        Pick::One(place) => match callee_of(methods[place].method(), is_direct) {
+            None => Ok(Resolution::Refused(ErrorKind::UnknownName)),
+            Some(callee) => {
+                let callable = method_called(alloc, callee, on.number, &methods[place])?;
+                Ok(Resolution::Call(callable))
+            }
+        },
+    }
 }
 
 /// The same of the methods as their class has them.
@@ -151,13 +163,8 @@ pub fn direct_meant(
     methods: &[FoundMethod<'_>],
     on: Receiver,
     operands: &[Operand],
-) -> Result<Resolution, AllocError>
-    ensures exact { IfOk result (λ r. r ≡ uses.best_method lineage.now
-        (flat_map (spec.direct_method on.number) methods.now) on.number on.read_only
-        (all_types (view_operands operands.now))) }
-{
-    let callables = direct_methods(alloc, on.number, methods)?;
-    best_on(alloc, lineage, callables, on, operands)
+) -> Result<Resolution, AllocError> {
+    meant(alloc, lineage, methods, true, on, operands)
 }
 
 /// A call on this receiver that was resolved among methods of the scripts.
@@ -200,6 +207,6 @@ pub fn own_method(
         on.number on.read_only (all_types (view_operands operands.items)))) }
 {
     let lineage = context.lineage();
-    let resolution = virtual_meant(alloc, lineage, methods, on, operands.as_slice())?;
+    let resolution = meant(alloc, lineage, methods, false, on, operands.as_slice())?;
     called_on(alloc, context, name, receiver, operands, resolution)
 }

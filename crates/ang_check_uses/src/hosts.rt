@@ -66,7 +66,7 @@ fn host_callable(asked: HostEntity, gives: ArgType, params: List<(ArgType, Pass)
 /// A function of the host as one that a call can mean.
 ///
 /// The only error is want of memory.
-fn callable_as(usage: HostCallKind, function: SeenFunction) -> Result<Callable, AllocError>
+pub fn callable_as(usage: HostCallKind, function: SeenFunction) -> Result<Callable, AllocError>
     ensures exact { IfOk result (λ c. c ≡ kinds.host_callable_as usage function) }
 {
     let SeenFunction {

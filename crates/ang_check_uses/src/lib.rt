@@ -5,6 +5,7 @@
 #![tactic(auto)]
 
 mod callables;
+mod choosing;
 mod hosts;
 mod makers;
 mod picking;
@@ -15,6 +16,7 @@ mod uses;
 mod values;
 
 pub use callables::{CallTarget, Callables};
+pub use choosing::{enter_params, maker_meant};
 pub use hosts::{entity_of, host_methods, params_with_receiver};
 pub use makers::makers_of;
 pub use picking::{best_method, best_of_those, types_with_receiver};

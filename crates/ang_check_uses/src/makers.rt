@@ -44,7 +44,7 @@ fn default_maker(alloc: Global, family: usize, number: u32, default: Default) ->
     }
 }
 
-fn constructor_of(
+pub fn constructor_of(
     alloc: Global,
     family: usize,
     number: u32,
@@ -77,7 +77,7 @@ fn constructors_of(
 }
 
 /// What makes an object of a class by its default constructor, if anything does.
-fn default_makers(
+pub fn default_makers(
     alloc: Global,
     families: &[Family],
     family: usize,

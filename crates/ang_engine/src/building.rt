@@ -28,7 +28,7 @@ ghost use Rattle.ang_engine_modules.specs.World.{module_at, module_in, left_to};
 use crate::budget::may_run;
 use crate::ending::end_globals;
 use ang_engine_build::{NoProgram, Program, build_sections};
-use ang_engine_modules::{LoadedModule, Module, ModuleList, Modules, Refusal, find, put_globals};
+use ang_engine_modules::{KeptTree, LoadedModule, Module, ModuleList, Modules, Refusal, find, put_globals};
 use ang_host::{Driver, EventBuffer};
 use ang_kinds::{Denial, Error, Fault, List, Mask};
 use ang_meaning::{Routine, Slot};
@@ -98,6 +98,7 @@ fn with_view(
     let name = List::from_vec(Vec::from_slice(alloc, name)?);
     let Program { names, tree } = program;
     let links = List::from_vec(unbound_links(alloc, tree.imports.as_slice())?);
+    let tree = KeptTree::new(alloc, tree)?;
     Ok(LoadedModule {
         name,
         names,

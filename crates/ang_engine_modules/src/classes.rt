@@ -27,10 +27,33 @@ fn kind_of(ty: ArgType) -> ValueKind
     }
 }
 
-fn kinds_of(alloc: Global, fields: &[ArgType]) -> Result<Vec<ValueKind>, AllocError>
-    ensures exact { IfOk result (λ kinds. kinds.items ≡ list_map kind_of fields.now) }
-{
-    fields.iter().map(|ty| kind_of(*ty)).collect(alloc)
+/// What the fields hold of up to `left` classes above a class, the highest first, and then its own.
+fn add_kinds(
+    classes: &[TypedClass],
+    left: usize,
+    class: &TypedClass,
+    kinds: &mut Vec<ValueKind>,
+) -> Result<(), AllocError> {
+    if left > 0 {
+        if let Some(base) = base_of(classes, class) {
+            add_kinds(classes, left - 1, base, kinds)?;
+        }
+    }
+    for ty in class.fields.as_slice() {
+        kinds.push(kind_of(*ty))?;
+    }
+    Ok(())
+}
+
+fn kinds_of(
+    alloc: Global,
+    classes: &[TypedClass],
+    class: &TypedClass,
+) -> Result<Vec<ValueKind>, AllocError> {
+    let mut kinds = Vec::new(alloc);
+    add_kinds(classes, classes.len(), class, &mut kinds)?;
+    kinds.shrink_to_fit();
+    Ok(kinds)
 }
 
 /// The numbers of a class and of those above it.
@@ -44,10 +67,15 @@ fn numbers_of(alloc: Global, number: usize, above: &[usize]) -> Result<Vec<usize
 }
 
 /// The class of a number as its objects have it.
-fn class_in(alloc: Global, number: usize, class: &TypedClass) -> Result<meaning::Class, AllocError>
+fn class_in(
+    alloc: Global,
+    classes: &[TypedClass],
+    number: usize,
+    class: &TypedClass,
+) -> Result<meaning::Class, AllocError>
     ensures exact { IfOk result (λ c. c ≡ class_in number class.now) }
 {
-    let fields = kinds_of(alloc, class.fields.as_slice())?;
+    let fields = kinds_of(alloc, classes, class)?;
     let under = numbers_of(alloc, number, class.above.as_slice())?;
     Ok(meaning::Class {
         number,
@@ -121,8 +149,8 @@ fn class_code(
 {
     let mut found = Vec::new(alloc);
     add_chain(home, classes, classes.len(), class, &mut found)?;
-    let methods = Methods::new(found)?;
-    let class = class_in(alloc, number, class)?;
+    let methods = Methods::new(alloc, found)?;
+    let class = class_in(alloc, classes, number, class)?;
     Ok(ClassCode { class, methods })
 }
 

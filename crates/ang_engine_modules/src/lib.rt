@@ -9,6 +9,7 @@ mod classes;
 mod command;
 mod entities;
 mod globals;
+mod kept;
 mod links;
 mod module;
 mod module_places;
@@ -19,6 +20,7 @@ mod tables;
 
 pub use binding::{import_of, unbind};
 pub use command::Command;
+pub use kept::KeptTree;
 pub use module::{MOST_MODULES, Module, ModuleList};
 pub use module_places::{add_module, add_section, find, put_globals, remove_module, set_mask};
 pub use modules::{LoadedModule, Modules};

@@ -17,6 +17,7 @@ ghost use Rattle.ang_engine_modules.specs.Loaded.{loaded_at, modules_of, linked_
 ghost use Rattle.ang_engine_modules.specs.Modules.{module_at, result_at, LinkFits, TakesSoMany, AreDriversThere, AgreesWith, IsAskedIn};
 
 use crate::globals::defaults;
+use crate::kept::KeptTree;
 use crate::links::{bind_import, unbind_codes, unbind_places};
 use crate::runs::{body_count, run_initializers};
 use crate::tables::{code_of, no_code};
@@ -25,7 +26,6 @@ use ang_host::{Driver, EventBuffer};
 use ang_kinds::{Fault, List, Value};
 use ang_meaning::{Routine, Slot};
 use ang_names_known::Names;
-use ang_typed::Typed;
 use ang_view::View;
 use ang_vm::{Machine, Table, run};
 use ang_vm_stack::table::ModuleCode;
@@ -42,7 +42,7 @@ pub struct LoadedModule {
     /// What it sees of the host.
     pub view: View,
     /// Its resolved tree.
-    pub tree: Typed,
+    pub tree: KeptTree,
     /// By the number of an import, the function that it is bound to, if any.
     pub links: List<Option<Routine>>,
 }
@@ -151,13 +151,17 @@ impl Modules {
         ensures placed { OnOk result (self.new ≡ slice_set self.old home (Some loaded)) }
         ensures unchanged { OnErr result (self.new ≡ self.old) }
     {
-        let generated = generate(alloc, &loaded.tree)?;
+        let mut loaded = loaded;
+        let Some(tree) = loaded.tree.take() else {
+            return Ok(());
+        };
+        let generated = generate(alloc, &tree)?;
         let code = code_of(
             alloc,
             home,
             loaded.name.as_slice(),
             &loaded.view,
-            &loaded.tree,
+            &tree,
             generated,
         )?;
         put_code(&mut self.table.modules, home, code);
@@ -218,7 +222,7 @@ impl Modules {
             (λ values. values.items ≡ first_globals (module_at (modules_of self.now) home).tree) }
     {
         match self.loaded(home) {
-            Some(loaded) => defaults(alloc, loaded.tree.globals.as_slice()),
+            Some(loaded) => defaults(alloc, loaded.tree.globals()),
             None => Ok(Vec::new(alloc)),
         }
     }
@@ -228,7 +232,7 @@ impl Modules {
         ensures exact { result ≡ length (module_at (modules_of self.now) home).tree.functions }
     {
         match self.loaded(home) {
-            Some(loaded) => loaded.tree.functions.as_slice().len(),
+            Some(loaded) => loaded.tree.function_count(),
             None => 0,
         }
     }

@@ -22,8 +22,10 @@ use std::alloc::{AllocError, Global};
 fn bodies_of(alloc: Global, codes: Vec<RoutineCode>) -> Result<Vec<LoadedBody>, AllocError>
     ensures same { IfOk result (λ bodies. bodies.items ≡ codes.items) }
 {
-    let mut bodies = Vec::new(alloc);
+    let mut bodies = Vec::with_capacity(alloc, codes.len())?;
     for code in codes {
+        let mut code = code;
+        code.text.shrink_to_fit();
         bodies.push(LoadedBody::new(alloc, code)?)?;
     }
     Ok(bodies)

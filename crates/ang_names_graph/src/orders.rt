@@ -115,9 +115,31 @@ fn next_ring(
     ensures marked { OnOk result ((j : ℕ) → j < n → slice_index_or near.new j false
         ≡ (slice_index_or near.old j false || tables.is_reached edges.now n ring.now j)) }
 {
+    if ring.len() == 1 {
+        return next_of_one(alloc, edges, n, near, ring[0]);
+    }
     let mut next = Vec::new(alloc);
     for j in 0..n {
         if !near[j] && is_reached(edges, n, ring, j) {
+            near[j] = true;
+            next.push(j)?;
+        }
+    }
+    Ok(next)
+}
+
+/// The same from a ring of one place, whose row alone is looked through.
+fn next_of_one(
+    alloc: Global,
+    edges: &[bool],
+    n: usize,
+    near: &mut [bool],
+    from: usize,
+) -> Result<Vec<usize>, AllocError> {
+    let mut next = Vec::new(alloc);
+    let row = &edges[from * n..from * n + n];
+    for (j, edge) in row.iter().enumerate() {
+        if *edge && !near[j] {
             near[j] = true;
             next.push(j)?;
         }

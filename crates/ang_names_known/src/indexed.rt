@@ -2,6 +2,7 @@
 ghost use Rattle.std.specs.Prelude.{◌≡◌, IfOk};
 ghost use Rattle.ang_names_known.specs.Lookup as spec;
 
+use crate::flat::FlatParameters;
 use crate::lookup::heading_among;
 use crate::members::{field_in, has_method_in};
 use crate::methods::{FoundMethod, methods_in};
@@ -24,6 +25,8 @@ pub struct IndexedNames {
     kinds: Index<usize>,
     fields: Index<usize>,
     methods: Index<usize>,
+    flat: FlatParameters,
+    flat_imports: FlatParameters,
 }
 
 impl Model for IndexedNames {
@@ -51,12 +54,26 @@ impl IndexedNames {
         let kinds = places_by_kind(alloc, &lists)?;
         let fields = places_of_fields(alloc, lists.families.as_slice())?;
         let methods = places_of_methods(alloc, lists.families.as_slice())?;
+        let flat = FlatParameters::of(alloc, lists.functions.as_slice())?;
+        let flat_imports = FlatParameters::of(alloc, lists.imports.as_slice())?;
         Ok(IndexedNames {
             lists,
             kinds,
             fields,
             methods,
+            flat,
+            flat_imports,
         })
+    }
+
+    /// The parameters of the functions, by number.
+    pub fn parameters(&self) -> &FlatParameters {
+        &self.flat
+    }
+
+    /// The parameters of the imports, by number.
+    pub fn import_parameters(&self) -> &FlatParameters {
+        &self.flat_imports
     }
 
     /// The classes and interfaces.

@@ -8,6 +8,7 @@
 
 mod borrowed;
 mod family_types;
+mod flat;
 mod functions;
 mod host;
 mod indexed;
@@ -22,9 +23,11 @@ mod space;
 
 pub use borrowed::BorrowedText;
 pub use family_types::{FIRST_FAMILY, family_of_type, family_type};
+pub use flat::FlatParameters;
 pub use functions::parameters_of;
 pub use host::{
-    SeenFunction, SeenProperty, Wanted, WantedProperty, found_at, host_where, property_at,
+    SeenFunction, SeenProperty, Wanted, WantedProperty, found_at, host_type, host_where,
+    property_at,
     property_where,
 };
 pub use indexed::IndexedNames as Names;

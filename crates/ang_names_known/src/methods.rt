@@ -10,7 +10,6 @@ use crate::lookup::order_of;
 use crate::names::{Family, ScriptMethod};
 use ang_index::Index;
 use std::alloc::{AllocError, Global};
-use std::collections::HashSet;
 use std::marker::Model;
 
 /// A method, with the family that declares it.
@@ -44,9 +43,6 @@ impl<'a> FoundMethod<'a> {
     }
 }
 
-/// How many of the methods that were found are gone through for a slot. A set has the slots of all others.
-const FEW: usize = 8;
-
 /// The methods of this name that objects of a family have, own and inherited.
 pub(crate) fn methods_in<'a>(
     alloc: Global,
@@ -60,12 +56,11 @@ pub(crate) fn methods_in<'a>(
         (λ found. found.items ≡ spec.methods_named families.now family name.now) }
 {
     let mut found = Vec::new(alloc);
-    let mut slots = HashSet::new(alloc);
     let order = order_of(families, family);
     for number in order {
         let methods = own_methods(families, *number);
         let places = index.find(*number as u64, name);
-        push_methods(&mut found, &mut slots, *number, methods, places)?;
+        push_methods(&mut found, *number, methods, places)?;
     }
     Ok(found)
 }
@@ -83,21 +78,19 @@ fn own_methods(families: &[Family], number: usize) -> &[ScriptMethod]
 /// Puts the methods at these places, of those that a family declares, after those of the families below it.
 fn push_methods<'a>(
     found: &mut Vec<FoundMethod<'a>>,
-    slots: &mut HashSet<usize>,
     owner: usize,
     methods: &'a [ScriptMethod],
     places: &[usize],
 ) -> Result<(), AllocError>
-    requires slots { HasSlots slots.old found.old.items }
     ensures pushed { OnOk result ((before : List spec.FoundMethod) →
         found.old.items ≡ each_after spec.if_nearest [] before →
         found.new.items
         ≡ each_after spec.if_nearest [] (before ++ at_places owner methods.now places.now)) }
-    ensures slots { OnOk result (HasSlots slots.new found.new.items) }
 {
     for place in places {
-        let method = method_at(methods, owner, *place);
-        push_method(found, slots, method)?;
+        if let Some(method) = method_at(methods, owner, *place) {
+            found.push(method)?;
+        }
     }
     Ok(())
 }
@@ -108,59 +101,4 @@ fn method_at(methods: &[ScriptMethod], owner: usize, place: usize) -> Option<Fou
 {
     let method = methods.get(place)?;
     Some(FoundMethod { owner, method })
-}
-
-/// Puts a method in, where none of its slot is in front.
-fn push_method<'a>(
-    found: &mut Vec<FoundMethod<'a>>,
-    slots: &mut HashSet<usize>,
-    method: Option<FoundMethod<'a>>,
-) -> Result<(), AllocError>
-    requires slots { HasSlots slots.old found.old.items }
-    ensures pushed { OnOk result
-        (found.new.items ≡ found.old.items ++ nearest_at found.old.items method.entry) }
-    ensures slots { OnOk result (HasSlots slots.new found.new.items) }
-{
-    let Some(method) = method else {
-        return Ok(());
-    };
-    if has_slot(found, slots, method.method.slot) {
-        return Ok(());
-    }
-    push_nearest(found, slots, method)
-}
-
-/// Puts a method in after all others.
-fn push_nearest<'a>(
-    found: &mut Vec<FoundMethod<'a>>,
-    slots: &mut HashSet<usize>,
-    method: FoundMethod<'a>,
-) -> Result<(), AllocError>
-    requires slots { HasSlots slots.old found.old.items }
-    ensures pushed { OnOk result (found.new.items ≡ found.old.items ++ method.entry ∷ []) }
-    ensures slots { OnOk result (HasSlots slots.new found.new.items) }
-{
-    if found.len() >= FEW {
-        slots.insert(method.method.slot)?;
-    }
-    found.push(method)?;
-    Ok(())
-}
-
-/// Whether some method that was found has this slot.
-#[tactic(auto, using(crate::proofs::NearestMethods::any_of_both))]
-fn has_slot(found: &[FoundMethod<'_>], slots: &HashSet<usize>, slot: usize) -> bool
-    requires slots { HasSlots slots.now found.now }
-    ensures exact { result ≡ list_any (spec.stands_in slot) found.now }
-{
-    is_among_few(found, slot) || slots.contains(&slot)
-}
-
-fn is_among_few(found: &[FoundMethod<'_>], slot: usize) -> bool
-    ensures exact { result ≡ list_any (spec.stands_in slot) (take 8 found.now) }
-{
-    found
-        .iter()
-        .take(FEW)
-        .any(|other| other.method().slot == slot)
 }

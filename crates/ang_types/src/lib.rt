@@ -9,6 +9,7 @@
 mod arg_type;
 mod asks;
 mod candidate;
+mod contest;
 mod integers;
 pub mod laws;
 mod lineage;
@@ -20,6 +21,7 @@ mod rivals;
 pub use arg_type::ArgType;
 pub use asks::{Asks, Refused};
 pub use candidate::{Candidate, Pick};
+pub use contest::Contest;
 pub use integers::common;
 pub use lineage::Lineage;
 pub use overloads::resolve;

@@ -85,6 +85,7 @@ impl Lineage {
     }
 
     /// The rank of a conversion from objects of one type to those of another.
+    #[inline(always)]
     pub(crate) fn class_rank(&self, from: u32, to: u32) -> Option<u8>
         ensures exact { result ≡ class_rank self.now from to }
     {

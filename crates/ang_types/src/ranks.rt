@@ -95,6 +95,7 @@ fn rank_of_enumeration(from: u32, to: u32) -> Option<u8>
     None
 }
 
+#[inline(always)]
 fn rank_of_const(from: bool, to: bool) -> Option<u8>
     ensures exact { result ≡ const_rank from to }
 {
@@ -105,6 +106,7 @@ fn rank_of_const(from: bool, to: bool) -> Option<u8>
     }
 }
 
+#[inline(always)]
 fn greatest_of(form: u8, constness: Option<u8>, class: Option<u8>) -> Option<u8>
     ensures exact { result ≡ greatest form constness class }
 {
@@ -112,6 +114,7 @@ fn greatest_of(form: u8, constness: Option<u8>, class: Option<u8>) -> Option<u8>
 }
 
 /// The rank of an argument for a parameter of this type and passing.
+#[inline(always)]
 pub(crate) fn rank_of_argument(
     lineage: &Lineage,
     param: ArgType,
