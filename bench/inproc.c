@@ -3,8 +3,8 @@
        inproc ASREMOTE PROFILE [CALLS [ROUNDS]]
 
    PROFILE is a path, where the profile of both is written. In each round each row is done CALLS times (20,000), and the
-   time of one counts; prints the median of ROUNDS rounds (25) and the lower tenth, as a table. bench/remote.py
-   --library runs it. */
+   time of one counts; prints the median of ROUNDS rounds (25) and the lower tenth, as a table. Then some rows are laid
+   beside others, by the median of what their quotient was in each round. bench/remote.py --library runs it. */
 #define _GNU_SOURCE
 #include "bustlebrick.h"
 
@@ -183,6 +183,10 @@ static const char *const names[ROWS] = {
     "asremote, a turn of an empty loop",
 };
 
+enum { MOST_ROUNDS = 1000 };
+
+static double times[ROWS][MOST_ROUNDS];
+
 static void do_row(int row, bb_engine *engine, long calls)
 {
     static const char nothing[] = "call m () void nothing()\n";
@@ -236,6 +240,42 @@ static int compare(const void *one, const void *other)
     return (a > b) - (a < b);
 }
 
+static double median_of(double *figures, long count)
+{
+    qsort(figures, (size_t)count, sizeof(double), compare);
+    return figures[count / 2];
+}
+
+/* What one row takes of another. */
+static void quotient(const char *name, int row, int other, long rounds)
+{
+    double each[MOST_ROUNDS];
+    for (long round = 0; round < rounds; round++)
+        each[round] = times[row][round] / times[other][round];
+    printf("| %s | %.2f |\n", name, median_of(each, rounds));
+}
+
+static void print_quotients(long rounds)
+{
+    printf("\n| median of the rounds | |\n|---|---|\n");
+    quotient("in process, posted by asked", POST, CALLBACK, rounds);
+    quotient("asremote, posted by asked", REMOTE_POST, REMOTE, rounds);
+    quotient("`void put(int64)`, in process by asremote", CALLBACK, REMOTE, rounds);
+    quotient("`int64 sum(int64, int64)`, in process by asremote", CALLBACK_SUM, REMOTE_SUM, rounds);
+    quotient("a command, in process by asremote", COMMAND, REMOTE_COMMAND, rounds);
+}
+
+static void print_times(long rounds)
+{
+    printf("| | median | lower tenth |\n|---|---|---|\n");
+    for (int row = 0; row < ROWS; row++) {
+        double each[MOST_ROUNDS];
+        memcpy(each, times[row], sizeof each);
+        double median = median_of(each, rounds);
+        printf("| %s | %.3f | %.3f |\n", names[row], median, each[rounds / 10]);
+    }
+}
+
 static bb_engine *prepared(const char *program, const char *path)
 {
     bb_options options = {.profile = profile, .profile_bytes = sizeof profile - 1, .budget = 2147483647, .host = host};
@@ -257,8 +297,6 @@ static bb_engine *prepared(const char *program, const char *path)
 
 int main(int count, char **words)
 {
-    enum { MOST_ROUNDS = 1000 };
-    static double times[ROWS][MOST_ROUNDS];
     long calls = count > 3 ? atol(words[3]) : 20000, rounds = count > 4 ? atol(words[4]) : 25;
     if (count < 3 || calls < 1 || rounds < 1 || rounds > MOST_ROUNDS)
         fail("ASREMOTE PROFILE [CALLS [ROUNDS]]");
@@ -272,11 +310,8 @@ int main(int count, char **words)
     if (asked != (uint64_t)(7 * calls * rounds))
         fail("asks are missing");
     printf("%ld calls in each of %ld rounds, in microseconds, with a host in C (%s)\n\n", calls, rounds, bb_version());
-    printf("| | median | lower tenth |\n|---|---|---|\n");
-    for (int row = 0; row < ROWS; row++) {
-        qsort(times[row], (size_t)rounds, sizeof(double), compare);
-        printf("| %s | %.3f | %.3f |\n", names[row], times[row][rounds / 2], times[row][rounds / 10]);
-    }
+    print_times(rounds);
+    print_quotients(rounds);
     bb_free(engine);
     close(pipes.to);
     waitpid(pipes.child, NULL, 0);

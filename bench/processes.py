@@ -8,13 +8,19 @@ GNU_TIME = "/usr/bin/time"
 SECONDS = 120  # of processor time, after which a process that is measured is ended
 
 
-def processor_seconds(words, output):
-    """The processor time of a command from its start to its end, the system's part included. What it prints goes to a file."""
+def resources(words, output):
+    """The processor time of a command from its start to its end, the system's part included, and the most memory that it had, in
+    millions of bytes. What it prints goes to a file."""
     with open(output, "wb") as out:
         child = subprocess.Popen(words, stdout=out, stderr=subprocess.STDOUT)
         _, status, used = os.wait4(child.pid, 0)
         child.returncode = os.waitstatus_to_exitcode(status)
-    return used.ru_utime + used.ru_stime
+    return used.ru_utime + used.ru_stime, used.ru_maxrss * 1024 / 1e6
+
+
+def processor_seconds(words, output):
+    """The processor time of a command from its start to its end, the system's part included. What it prints goes to a file."""
+    return resources(words, output)[0]
 
 
 def measured(words, output):

@@ -6,7 +6,17 @@ import os
 import subprocess
 import sys
 
-KIT = os.path.dirname(subprocess.run(["rt", "doc"], capture_output=True, text=True, check=True).stdout.strip())
+
+def _found():
+    """The folder of the kit."""
+    try:
+        ran = subprocess.run(["rt", "doc"], capture_output=True, text=True, check=True)
+    except FileNotFoundError:
+        sys.exit('there is no rt, the command of the Rattle kit, in the PATH (docs/RATTLE_HOST.md, "The kit")')
+    return os.path.dirname(ran.stdout.strip())
+
+
+KIT = _found()
 
 
 def of_kit(name, file):

@@ -9,11 +9,12 @@
 #
 #     game       the hosts game.c and game.cpp print clients/game.expected
 #     sessions   each session of crates/examples and crates/asrun, and 1,000 generated ones: with the drivers of asrun in C the
-#                library prints what asrun prints, with the same status, by the callback and by steps
+#                library prints what asrun prints, with the same status, by the callback, by steps, and with posts at once
 #     engines    texts that are no command, options and calls out of turn; wrong threads, and 8 threads with an engine each;
 #                engines in one another's callbacks, while a script waits; 10,000 engines with a script that waits; 400 cancels
 #                at random moments; timeouts; scripts that use up the memory of their engine; exceptions out of callbacks
-#     posts      functions that are posted, by the callback and by steps: in their order, and before what is asked after them
+#     posts      functions that are posted, by the callback, by steps and many at once: in their order, and before what is
+#                asked after them
 #     growths    each growth of the heap is refused in turn, in each command of the examples
 #     deep       the deepest sections of trials/hostile.sh, on the least stack that the library takes
 #     checked    the hosts and the engines, with fewer of each, under valgrind, and with the library's C under gcc's address and

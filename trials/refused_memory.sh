@@ -17,8 +17,8 @@
 #   - its status is 3, it wrote a front of that, whole lines, and `asrun: no memory`, or `asremote: no memory`, on standard
 #     error, or
 #   - its status is 1, or that of a run where nothing is refused, the first line that it wrote otherwise is an answer of want
-#     of memory, before which there may be the ends of objects that this answer gave up, and no event is missing. Asks are
-#     compared apart, since all of a reply stand before its events: until then they are the usual ones, and as many as a
+#     of memory, before which there may be the ends of objects that this answer gave up, and no event is missing. Asks and posts
+#     are compared apart, since all of a reply stand before its events: until then they are the usual ones, and as many as a
 #     reply lists host calls, but for those that list `memory`. Where the conversation says `used`, there are as many
 #     objects as were made and did not end.
 # Prints a line for each way to end with the number of runs, each run that did not end well, and the number of those.
@@ -104,11 +104,11 @@ number=$(cat "$folder/count")
 # Whether want of memory is the first thing that was written otherwise, and no event is missing.
 wanted_memory() {
     awk '
-        FILENAME == ARGV[1] && /^ask / { usual_asks[++most_asks] = $0; next }
+        FILENAME == ARGV[1] && /^(ask|post) / { usual_asks[++most_asks] = $0; next }
         FILENAME == ARGV[1] { usual[++lines] = $0; next }
-        /^ask / { asks++ }
-        /^ask / && !otherwise && $0 != usual_asks[++asked] { wrong = 1 }
-        /^ask / { next }
+        /^(ask|post) / { asks++ }
+        /^(ask|post) / && !otherwise && $0 != usual_asks[++asked] { wrong = 1 }
+        /^(ask|post) / { next }
         /^host / { calls++ }
         /^host .* memory$/ { unasked++ }
         /^host .* made #[0-9]+$/ { alive++ }

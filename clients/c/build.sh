@@ -56,7 +56,7 @@ fi
 number=$(sed -n 's/^#define BUSTLEBRICK_VERSION "\(.*\)"/\1/p' "$here/bustlebrick.h")
 version="$word $number $(sha256sum "$object" | cut -c1-16)"
 objcopy --redefine-syms="$folder/names" "$object" "$folder/asremote.o"
-for file in bustlebrick lines program stack; do
+for file in bustlebrick lines posts program stack; do
     ${CC:-cc} -std=gnu11 ${CFLAGS:--O2} -Wall -Wextra -fPIC -fexceptions -DBB_VERSION="\"$version\"" \
         -c "$here/$file.c" -o "$folder/$file.o"
 done
@@ -65,7 +65,7 @@ done
 sed -n 's/^[a-z].*[ *]\(bb_[a-z_]*\)(.*/\1/p' "$here/bustlebrick.h" > "$folder/functions"
 case ${CFLAGS:-} in *-DBB_TRIAL*) printf 'bb_refuse_growth\nbb_growths\n' >> "$folder/functions" ;; esac
 cd "$folder"
-ld -r -z noexecstack asremote.o bustlebrick.o lines.o program.o stack.o -o whole.o
+ld -r -z noexecstack asremote.o bustlebrick.o lines.o posts.o program.o stack.o -o whole.o
 objcopy --keep-global-symbols=functions whole.o libbustlebrick.o
 rm -f "$to/lib/libbustlebrick.a"
 ar rcs "$to/lib/libbustlebrick.a" libbustlebrick.o

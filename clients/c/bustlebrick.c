@@ -117,6 +117,9 @@ static bb_state begin(bb_engine *engine, const struct piece *pieces, size_t coun
     forget_reply(engine);
     engine->memory_now = memory_for(engine, bytes);
     engine->growths = 0;
+    engine->has_written = false;
+    if (engine->line_is_lent)
+        bb_leave_line(engine);
     atomic_store_explicit(&engine->cancelled, false, memory_order_relaxed);
     engine->deadline = engine->timeout ? sum_of_times(bb_now(), engine->timeout) : 0;
     bb_run(engine);
@@ -140,16 +143,24 @@ bb_state bb_begin(bb_engine *engine, const char *text, size_t bytes)
     return begin(engine, pieces, 2);
 }
 
+/* Goes on after an ask, which is answered so, or after a post. */
+static bb_state go_on(bb_engine *engine, const bb_answer *answer)
+{
+    if (engine->ask.posted) {
+        bb_tell(engine);
+        return engine->state;
+    }
+    engine->input[0] = (struct piece){engine->answer, bb_write_answer(engine->answer, answer)};
+    engine->input_at = 0;
+    engine->input_count = 1;
+    bb_run(engine);
+    return engine->state;
+}
+
 bb_state bb_resume(bb_engine *engine, const bb_answer *answer)
 {
     bb_state state = turn(engine, BB_ASKS);
-    if (state != BB_ASKS)
-        return state;
-    engine->input_at = engine->input_count = 0;
-    if (!engine->ask.posted)
-        engine->input[engine->input_count++] = (struct piece){engine->answer, bb_write_answer(engine->answer, answer)};
-    bb_run(engine);
-    return engine->state;
+    return state == BB_ASKS ? go_on(engine, answer) : state;
 }
 
 static void leave_host(bb_engine **engine)
@@ -171,7 +182,7 @@ static bb_state by_callback(bb_engine *engine, bb_state state)
     while (state == BB_ASKS && engine->host) {
         bb_answer answer = {BB_VOID, 0, {BB_NULL, {0}}};
         ask_host(engine, &answer);
-        state = bb_resume(engine, &answer);
+        state = go_on(engine, &answer);
     }
     return state;
 }
@@ -215,6 +226,13 @@ void bb_set_timeout(bb_engine *engine, uint64_t milliseconds)
 const bb_ask *bb_asked(const bb_engine *engine)
 {
     return engine->state == BB_ASKS ? &engine->ask : NULL;
+}
+
+const bb_posts *bb_take_posts(bb_engine *engine, size_t *runs)
+{
+    *runs = 0;
+    bool is_posted = turn(engine, BB_ASKS) == BB_ASKS && engine->ask.posted;
+    return is_posted ? bb_batch_posts(engine, runs) : NULL;
 }
 
 /* The bytes of the reply: at an ask, or where something is posted, there is none yet. */
@@ -272,7 +290,10 @@ bb_state bb_end(bb_engine *engine)
         return state;
     engine->input_count = engine->input_at = 0;
     engine->input_ended = true;
-    bb_run(engine);
+    if (state == BB_ASKS && engine->ask.posted)
+        bb_tell(engine);
+    else
+        bb_run(engine);
     return engine->state;
 }
 
@@ -284,6 +305,8 @@ bb_state bb_free(bb_engine *engine)
     if (state != BB_ENDED)
         return state;
     bb_unmap_stack(&engine->stack);
+    free(engine->line);
+    free(engine->batch);
     free(engine->output);
     free(engine);
     return BB_ENDED;

@@ -72,6 +72,14 @@ typedef struct bb_ask {
     const bb_value *values;
 } bb_ask;
 
+/* Calls of one posted function, one after the other (bb_take_posts). */
+typedef struct bb_posts {
+    uint32_t driver, function; /* as of a bb_ask */
+    size_t calls;              /* how many there are: 1 or more */
+    size_t count;              /* how many values each has */
+    const bb_value *values;    /* those of the first call, then those of the next */
+} bb_posts;
+
 /* The kinds of answers. One of another kind than the ask takes is the fault Host 4294967284. */
 typedef enum bb_answer_kind {
     BB_VOID, /* to a call or a write: done, without a value */
@@ -157,6 +165,13 @@ const bb_ask *bb_asked(const bb_engine *engine);
    waits. To what is posted nothing is answered, and `answer` may be NULL. */
 bb_state bb_resume(bb_engine *engine, const bb_answer *answer);
 
+/* Takes what waits, where that is posted, and the posts behind it, as many as there is room for: runs of calls of one
+   function, in the order of the script's calls. `runs` is set to how many these are. bb_resume goes on behind them. They are
+   the library's, and hold until then. For hosts in languages from which each call of C costs much; others take one after
+   the other (bb_asked). NULL, and 0 runs, where nothing posted waits, in another thread, and where memory was refused:
+   nothing is taken then. */
+const bb_posts *bb_take_posts(bb_engine *engine, size_t *runs);
+
 /* The lines of the reply to the last command that was done, each with its LF: events, errors, denials, and one line for
    the outcome. A 0 follows them, which is not counted. They are the library's, and hold until the next command; empty
    while a command waits at an ask, and after an empty line or a comment. They are not counted in the engine's heap, and
@@ -188,11 +203,11 @@ bb_state bb_state_of(const bb_engine *engine);
    where the processor lacks what the object was built for (x86-64-v2). Before that 0. */
 int bb_status(const bb_engine *engine);
 
-/* The bytes of the heap that the engine has now, in blocks as malloc makes them. Where there is a limit (memory_bytes),
-   a growth above it is refused, and that is want of memory in the command, as of bb_cancel. So that a command can be
-   read whatever was used up before it, each may take 64 KiB and eight times its bytes above what there was when it
-   began, but never more than one and a half of the limit; where it has not even these, the engine ends with the
-   status 3. */
+/* The bytes of the heap that the engine has now, in blocks as malloc makes them; one of 136 bytes, which the library keeps
+   for the texts of lines, counts while one stands in it. Where there is a limit (memory_bytes), a growth above it is
+   refused, and that is want of memory in the command, as of bb_cancel. So that a command can be read whatever was used up
+   before it, each may take 64 KiB and eight times its bytes above what there was when it began, but never more than one
+   and a half of the limit; where it has not even these, the engine ends with the status 3. */
 size_t bb_memory_used(const bb_engine *engine);
 
 /* The bytes of its stack that are in memory, in whole pages: what was ever used of it. */

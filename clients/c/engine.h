@@ -41,9 +41,9 @@ void bb_arrived(struct bb_stack *stack);
 
 /* ---- Lines (lines.c) */
 
-/* The ask or the post that a line spells, with its LF; the values are put where `values` is. False where it spells
-   none. */
-bool bb_read_ask(const char *line, size_t bytes, bb_ask *ask, bb_value values[MOST_ARGUMENTS]);
+/* The ask or the post whose line a text begins with; the values are put where `values` is. Gives where the line ends,
+   behind its LF, or NULL where the text begins with none. */
+const char *bb_read_ask(const char *text, const char *end, bb_ask *ask, bb_value values[MOST_ARGUMENTS]);
 
 /* Writes the line of an answer, with its LF, and gives its bytes. */
 size_t bb_write_answer(char line[MOST_ANSWER], const bb_answer *answer);
@@ -61,8 +61,16 @@ struct piece {
     size_t left;
 };
 
+/* Why the program lets the host go on. */
+enum bb_stop {
+    BB_TO_HEAR,  /* it has read all that the host said, and wants the next command, or the answer to an ask */
+    BB_FOR_ROOM, /* there are many posts, which the host is to take before the program goes on */
+    BB_AT_END
+};
+
 struct bb_engine {
     struct bb_stack stack;
+    enum bb_stop stop;
     bb_state state; /* BB_BUSY while its program runs */
     int status;
     bool in_host; /* its callback runs */
@@ -79,16 +87,21 @@ struct bb_engine {
 
     char *output; /* what the program wrote since the command began, but for what was read of it, and a 0 after it */
     size_t output_bytes, output_room;
+    size_t output_at; /* where in it the post ends that the host was told last */
     int error; /* the program's errno */
 
     bb_ask ask;
     bb_value values[MOST_ARGUMENTS];
+    struct bb_batch *batch; /* NULL until the host takes posts at once */
     char answer[MOST_ANSWER];
 
     size_t memory_used;
     size_t memory_most; /* the host's limit */
     size_t memory_now;  /* that of the command */
     size_t growths;     /* of the heap, since the command began */
+    bool has_written;   /* the program, since the command began: an ask, a post or some of the reply */
+    void *line;         /* a block for the text of a line, or NULL */
+    bool line_is_lent;  /* whether the program has it */
     atomic_bool cancelled;
     uint64_t timeout;  /* milliseconds of a command, 0 for no limit */
     uint64_t deadline; /* that of the command, as bb_now tells it; 0 for none */
@@ -97,14 +110,33 @@ struct bb_engine {
 #endif
 };
 
-/* Lets the program run until it waits for the host, or has ended; `state` says which. */
+/* Lets the program run until the host is told something: what was posted, or that the program waits or has ended. `state`
+   says which. */
 void bb_run(bb_engine *engine);
+
+/* Tells the host the next thing, where it was told a post before. The program runs if there is no other post. */
+void bb_tell(bb_engine *engine);
+
+/* Leaves the line's block to the program, which keeps it: it is one as any other then. */
+void bb_leave_line(bb_engine *engine);
 
 /* Milliseconds from some moment on. */
 uint64_t bb_now(void);
 
 /* The function that the engine's stack begins with. */
 void bb_begin_program(void);
+
+/* ---- What is posted (posts.c) */
+
+/* Takes the next post of which the host is to be told, if there is one, as the ask. Once the input has ended it is told
+   nothing more. */
+bool bb_next_post(bb_engine *engine);
+
+/* Lets go the posts that were taken. */
+void bb_forget_posts(bb_engine *engine);
+
+/* Takes the post that is the ask, and those behind it that there is room for. NULL where memory was refused. */
+const bb_posts *bb_batch_posts(bb_engine *engine, size_t *runs);
 
 /* Takes the last line of the output away where it is an ask or `done`, and says which: BB_ASKS, BB_DONE, or BB_ENDED
    for neither. */

@@ -6,13 +6,13 @@
 
 /* ---- Reading asks */
 
-/* What is left to read of a line. */
+/* What is left to read of a text. */
 struct reader {
     const char *at, *end;
 };
 
-/* Goes past a text, if it is next. */
-static bool take(struct reader *reader, const char *text)
+/* Goes past a text, if it is next. A post has ten of these: in line, with a text that is known, each is a comparison. */
+__attribute__((always_inline)) static inline bool take(struct reader *reader, const char *text)
 {
     size_t bytes = strlen(text);
     if ((size_t)(reader->end - reader->at) < bytes || memcmp(reader->at, text, bytes) != 0)
@@ -26,16 +26,17 @@ static bool is_digit(char byte)
     return '0' <= byte && byte <= '9';
 }
 
-static bool take_number(struct reader *reader, uint64_t *number)
+static inline bool take_number(struct reader *reader, uint64_t *number)
 {
     const char *from = reader->at;
-    *number = 0;
+    uint64_t sum = 0;
     for (; reader->at < reader->end && is_digit(*reader->at); reader->at++)
-        *number = *number * 10 + (uint64_t)(*reader->at - '0');
+        sum = sum * 10 + (uint64_t)(*reader->at - '0');
+    *number = sum;
     return reader->at > from;
 }
 
-static bool take_small_number(struct reader *reader, uint32_t *number)
+static inline bool take_small_number(struct reader *reader, uint32_t *number)
 {
     uint64_t whole;
     bool is_one = take_number(reader, &whole) && whole <= UINT32_MAX;
@@ -44,7 +45,7 @@ static bool take_small_number(struct reader *reader, uint32_t *number)
 }
 
 /* `7`, `-7`, `7u` */
-static bool take_integer(struct reader *reader, bb_value *value)
+static inline bool take_integer(struct reader *reader, bb_value *value)
 {
     bool is_negative = take(reader, "-");
     uint64_t number;
@@ -55,8 +56,10 @@ static bool take_integer(struct reader *reader, bb_value *value)
     return true;
 }
 
-static bool take_value(struct reader *reader, bb_value *value)
+static inline bool take_value(struct reader *reader, bb_value *value)
 {
+    if (reader->at < reader->end && (is_digit(*reader->at) || *reader->at == '-'))
+        return take_integer(reader, value);
     value->as.u64 = 0;
     if (take(reader, "#")) {
         value->kind = BB_KEY;
@@ -68,13 +71,11 @@ static bool take_value(struct reader *reader, bb_value *value)
     }
     value->kind = BB_BOOL;
     value->as.truth = take(reader, "true");
-    if (value->as.truth || take(reader, "false"))
-        return true;
-    return take_integer(reader, value);
+    return value->as.truth || take(reader, "false");
 }
 
 /* `(V,V)` */
-static bool take_values(struct reader *reader, bb_ask *ask, bb_value *values)
+static inline bool take_values(struct reader *reader, bb_ask *ask, bb_value *values)
 {
     ask->count = 0;
     ask->values = values;
@@ -90,19 +91,24 @@ static bool take_values(struct reader *reader, bb_ask *ask, bb_value *values)
     return take(reader, ")");
 }
 
-static bool take_ask_kind(struct reader *reader, bb_ask_kind *kind)
+static inline bool take_ask_kind(struct reader *reader, bb_ask_kind *kind)
 {
-    static const char *const words[] = {" make ", " call ", " read ", " write "};
-    for (int at = 0; at < 4; at++)
-        if (take(reader, words[at])) {
-            *kind = (bb_ask_kind)at;
-            return true;
-        }
-    return false;
+    bool is_one = true;
+    if (take(reader, " call "))
+        *kind = BB_CALL;
+    else if (take(reader, " read "))
+        *kind = BB_READ;
+    else if (take(reader, " write "))
+        *kind = BB_WRITE;
+    else if (take(reader, " make "))
+        *kind = BB_MAKE;
+    else
+        is_one = false;
+    return is_one;
 }
 
 /* `#7`, or `-` for none */
-static bool take_object(struct reader *reader, bb_ask *ask)
+static inline bool take_object(struct reader *reader, bb_ask *ask)
 {
     ask->has_object = take(reader, "#");
     ask->object = 0;
@@ -110,13 +116,14 @@ static bool take_object(struct reader *reader, bb_ask *ask)
 }
 
 /* `ask DRIVER KIND F OBJECT (V,V)`, or the same with `post` */
-bool bb_read_ask(const char *line, size_t bytes, bb_ask *ask, bb_value values[MOST_ARGUMENTS])
+const char *bb_read_ask(const char *text, const char *end, bb_ask *ask, bb_value values[MOST_ARGUMENTS])
 {
-    struct reader reader = {line, line + bytes};
+    struct reader reader = {text, end};
     ask->posted = take(&reader, "post ");
-    return (ask->posted || take(&reader, "ask ")) && take_small_number(&reader, &ask->driver) && take_ask_kind(&reader, &ask->kind) &&
-           take_small_number(&reader, &ask->function) && take(&reader, " ") && take_object(&reader, ask) &&
-           take(&reader, " ") && take_values(&reader, ask, values) && take(&reader, "\n") && reader.at == reader.end;
+    bool is_one = (ask->posted || take(&reader, "ask ")) && take_small_number(&reader, &ask->driver) &&
+                  take_ask_kind(&reader, &ask->kind) && take_small_number(&reader, &ask->function) && take(&reader, " ") &&
+                  take_object(&reader, ask) && take(&reader, " ") && take_values(&reader, ask, values) && take(&reader, "\n");
+    return is_one ? reader.at : NULL;
 }
 
 /* ---- Writing answers, each of which has room: the longest, a key, has 28 bytes */

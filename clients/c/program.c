@@ -20,6 +20,9 @@ enum { INPUT = 0, OUTPUT = 1, ERRORS = 2, PROFILE = 3 };
    lives on. trials/inproc.sh refuses each growth of many commands in turn, and prints how many the program needs. */
 enum { READING = 128 };
 
+/* The bytes of the line's block: what malloc gives where 128 and some are wanted. */
+enum { LINE = 136 };
+
 /* The bytes of posts that are kept for the host: with as many it is given them before the program goes on. */
 enum { MOST_POSTS = 64 << 10 };
 
@@ -28,9 +31,27 @@ int bb_program_main(void);
 /* The engine whose program runs in this thread. */
 static _Thread_local bb_engine *now;
 
-/* ---- Running */
+/* ---- Running, on the engine's stack */
 
-void bb_run(bb_engine *engine)
+/* Lets the host go on, and returns when it lets the program do so. */
+static void stop(bb_engine *engine, enum bb_stop why)
+{
+    engine->stop = why;
+    bb_to_host(&engine->stack);
+}
+
+void bb_begin_program(void)
+{
+    bb_engine *engine = now;
+    bb_arrived(&engine->stack);
+    engine->status = bb_program_main();
+    for (;;)
+        stop(engine, BB_AT_END);
+}
+
+/* ---- Running, on the host's stack */
+
+static void run_program(bb_engine *engine)
 {
     bb_engine *before = now;
     now = engine;
@@ -39,45 +60,39 @@ void bb_run(bb_engine *engine)
     now = before;
 }
 
-static void wait_for_host(bb_engine *engine, bb_state state)
+/* The host has been told all that was posted: where the program stands then. It never wants more than a command has; if
+   it did, its input would end here, so that it doesn't wait for ever. BB_BUSY where it goes on by itself. */
+static bb_state state_at_stop(bb_engine *engine)
 {
-    engine->state = state;
-    bb_to_host(&engine->stack);
+    if (engine->stop == BB_FOR_ROOM)
+        return BB_BUSY;
+    bb_state state = bb_take_last_line(engine);
+    if (engine->stop == BB_AT_END)
+        return BB_ENDED;
+    if (state == BB_ENDED)
+        engine->input_ended = true;
+    return engine->input_ended ? BB_BUSY : state;
 }
 
-/* The bytes of the line that a text begins with, if it is a post, which is read then; else 0. */
-static size_t read_post(bb_engine *engine, const char *text, size_t bytes)
+void bb_tell(bb_engine *engine)
 {
-    const char *end = bytes > 5 && memcmp(text, "post ", 5) == 0 ? memchr(text, '\n', bytes) : NULL;
-    size_t line = end ? (size_t)(end + 1 - text) : 0;
-    return line && bb_read_ask(text, line, &engine->ask, engine->values) ? line : 0;
-}
-
-/* Gives the host what was posted since it last answered, one after the other, and takes it out of the output, in which
-   it stands first. Once the input has ended the host is told nothing more. */
-static void give_posts(bb_engine *engine)
-{
-    size_t at = 0, line;
-    while ((line = read_post(engine, engine->output + at, engine->output_bytes - at)) != 0) {
-        at += line;
-        if (!engine->input_ended)
-            wait_for_host(engine, BB_ASKS);
+    for (;;) {
+        if (bb_next_post(engine)) {
+            engine->state = BB_ASKS;
+            return;
+        }
+        bb_forget_posts(engine);
+        engine->state = state_at_stop(engine);
+        if (engine->state != BB_BUSY)
+            return;
+        run_program(engine);
     }
-    if (!at)
-        return;
-    engine->output_bytes -= at;
-    memmove(engine->output, engine->output + at, engine->output_bytes + 1);
 }
 
-void bb_begin_program(void)
+void bb_run(bb_engine *engine)
 {
-    bb_engine *engine = now;
-    bb_arrived(&engine->stack);
-    engine->status = bb_program_main();
-    give_posts(engine);
-    (void)bb_take_last_line(engine);
-    for (;;)
-        wait_for_host(engine, BB_ENDED);
+    run_program(engine);
+    bb_tell(engine);
 }
 
 /* ---- The heap */
@@ -138,27 +153,72 @@ static struct tried told(bb_engine *engine, size_t used, void *block)
     return (struct tried){true, block};
 }
 
+/* The line's block, where a new block is to be one: the program has a text for each line that it writes and reads, which
+   begins with 8 bytes, is doubled, and is given back soon. Texts of builds come before a command has written anything. */
+static void *line_block(bb_engine *engine, size_t bytes, size_t alignment)
+{
+    if (!engine->has_written || engine->line_is_lent || alignment != 1 || bytes > LINE)
+        return NULL;
+    if (!engine->line)
+        engine->line = malloc(LINE);
+    engine->line_is_lent = engine->line;
+    return engine->line;
+}
+
+static bool is_line(const bb_engine *engine, const void *block)
+{
+    return engine->line_is_lent && block == engine->line;
+}
+
 /* A block of so many bytes, aligned as malloc does it: `alignment` divides 16. */
 struct tried bb_alloc(size_t bytes, size_t alignment)
 {
     bb_engine *engine = now;
     size_t used = engine->memory_used, size = bytes ? bytes : alignment;
-    return told(engine, used, is_granted(engine, used, size) ? malloc(size) : NULL);
+    if (!is_granted(engine, used, size))
+        return (struct tried){false, &nowhere};
+    void *line = line_block(engine, bytes, alignment);
+    if (!line)
+        return told(engine, used, malloc(size));
+    engine->memory_used = used + LINE;
+    return (struct tried){true, line};
 }
 
-/* The block, which may move, with so many bytes. Where it is refused it stays as it was. */
+/* The block, which may move, with so many bytes. Where it is refused it stays as it was; and so it does where it has these,
+   and not more than twice as many. */
 struct tried bb_realloc(void *block, size_t kept, size_t bytes, size_t alignment)
 {
     (void)kept;
     bb_engine *engine = now;
-    size_t used = engine->memory_used - malloc_usable_size(block), size = bytes ? bytes : alignment;
-    return told(engine, used, is_granted(engine, used, size) ? realloc(block, size) : NULL);
+    bool was_line = is_line(engine, block);
+    size_t has = was_line ? LINE : malloc_usable_size(block), used = engine->memory_used - has;
+    size_t size = bytes ? bytes : alignment;
+    if (!is_granted(engine, used, size))
+        return (struct tried){false, &nowhere};
+    if (size <= has && (was_line || has / 2 <= size))
+        return (struct tried){true, block};
+    struct tried tried = told(engine, used, realloc(block, size));
+    if (was_line && tried.ok)
+        bb_leave_line(engine);
+    return tried;
 }
 
 void bb_dealloc(void *block)
 {
-    now->memory_used -= malloc_usable_size(block);
+    bb_engine *engine = now;
+    if (is_line(engine, block)) {
+        engine->line_is_lent = false;
+        engine->memory_used -= LINE;
+        return;
+    }
+    engine->memory_used -= malloc_usable_size(block);
     free(block);
+}
+
+void bb_leave_line(bb_engine *engine)
+{
+    engine->line = NULL;
+    engine->line_is_lent = false;
 }
 
 /* ---- What is written */
@@ -193,8 +253,9 @@ ssize_t bb_write(int stream, const void *bytes, size_t count)
         memcpy(engine->output + engine->output_bytes, bytes, count);
     engine->output_bytes += count;
     engine->output[engine->output_bytes] = 0;
-    if (engine->output_bytes >= MOST_POSTS)
-        give_posts(engine);
+    engine->has_written = true;
+    if (engine->output_bytes >= MOST_POSTS && memcmp(engine->output, "post ", 5) == 0)
+        stop(engine, BB_FOR_ROOM);
     return (ssize_t)count;
 }
 
@@ -211,11 +272,12 @@ bb_state bb_take_last_line(bb_engine *engine)
         return BB_ENDED;
     const char *before = memrchr(engine->output, '\n', end - 1);
     const char *line = before ? before + 1 : engine->output;
-    size_t bytes = (size_t)(engine->output + end - line);
+    const char *line_end = engine->output + end;
+    size_t bytes = (size_t)(line_end - line);
     bb_state state = BB_ENDED;
     if (bytes == 5 && memcmp(line, "done\n", 5) == 0)
         state = BB_DONE;
-    else if (bb_read_ask(line, bytes, &engine->ask, engine->values) && !engine->ask.posted)
+    else if (bb_read_ask(line, line_end, &engine->ask, engine->values) == line_end && !engine->ask.posted)
         state = BB_ASKS;
     if (state != BB_ENDED) {
         engine->output_bytes -= bytes;
@@ -245,19 +307,6 @@ static size_t given_of_input(bb_engine *engine, void *bytes, size_t count)
     return given(bytes, count, &engine->input[engine->input_at]);
 }
 
-/* The program has read all that the host said, and wants more: the next command, or the answer to an ask, as its last
-   line says. It never wants more than a command has; if it did, its input would end here, so that it doesn't wait for
-   ever. */
-static void hear_host(bb_engine *engine)
-{
-    give_posts(engine);
-    bb_state state = bb_take_last_line(engine);
-    if (state == BB_ENDED)
-        engine->input_ended = true;
-    if (!engine->input_ended)
-        wait_for_host(engine, state);
-}
-
 ssize_t bb_read(int stream, void *bytes, size_t count)
 {
     bb_engine *engine = now;
@@ -269,7 +318,7 @@ ssize_t bb_read(int stream, void *bytes, size_t count)
     }
     size_t some = given_of_input(engine, bytes, count);
     if (!some && count && !engine->input_ended) {
-        hear_host(engine);
+        stop(engine, BB_TO_HEAR);
         some = given_of_input(engine, bytes, count);
     }
     return (ssize_t)some;

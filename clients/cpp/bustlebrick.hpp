@@ -457,9 +457,10 @@ class Process : public Talk {
                 host.hear(*line);
                 continue;
             }
-            auto said = detail::text(answer(*line, host)) + "\n";
+            auto given = answer(*line, host);
+            if (!is_ask) continue;  // `line` tells whether it is late
             left(deadline_);
-            if (is_ask) send(said);
+            send(detail::text(given) + "\n");
         }
         return std::nullopt;
     }

@@ -25,8 +25,9 @@ import tempfile
 import time
 from contextlib import AbstractContextManager
 from functools import lru_cache
+from itertools import repeat
 from operator import attrgetter, index
-from typing import Any, Callable, Dict, Iterator, List, NamedTuple, Optional, Sequence, Tuple, Union
+from typing import Any, Callable, Dict, Iterable, Iterator, List, NamedTuple, Optional, Sequence, Tuple, Union
 
 __version__ = "0.1.0"
 
@@ -159,11 +160,13 @@ KEY, NULL = Form("#{}", 1, 3), Form("null", 1, 4)
 
 class Conversation:
     """The lines to and from an engine's process. `answer` is given each line ``ask ..``, and gives its answer; and each line
-    ``post ..``, to which nothing is said."""
+    ``post ..``, to which nothing is said. Where there is a `post`, it is given these instead."""
 
-    def __init__(self, words: Sequence[str], answer: Callable[[str], str]) -> None:
-        self._answer = answer
-        self._lines: List[bytes] = []  # read and not looked at, the last one first
+    def __init__(
+        self, words: Sequence[str], answer: Callable[[str], str], post: Optional[Callable[[str], object]] = None
+    ) -> None:
+        self._answer, self._post = answer, post or answer
+        self._lines: List[str] = []  # read and not looked at, the last one first
         self._rest = b""
         self.busy = False
         self.process = subprocess.Popen(words, stdin=subprocess.PIPE, stdout=subprocess.PIPE, bufsize=0)
@@ -199,8 +202,7 @@ class Conversation:
                     _left(self._deadline)
                     self._send(answer.encode() + b"\n")
                 elif line.startswith("post "):
-                    self._answer(line)
-                    _left(self._deadline)
+                    self._post(line)
                 else:
                     hear(line)
         except BaseException:
@@ -231,9 +233,10 @@ class Conversation:
             data = os.read(self._output.fileno(), 1 << 16)
             if not data:
                 return None
-            self._rest, *self._lines = (self._rest + data).split(b"\n")[::-1]
+            whole, end, self._rest = (self._rest + data).rpartition(b"\n")
+            self._lines = whole.decode().split("\n")[::-1] if end else []
         _left(self._deadline)
-        return self._lines.pop().decode()
+        return self._lines.pop()
 
     def _send(self, data: bytes) -> None:
         while data:
@@ -278,7 +281,8 @@ class Options(ctypes.Structure):
 
 
 DONE, ASKS, ENDED, BUSY, THREAD = range(5)  # bb_state
-ASK, ANSWER = struct.Struct("=II I?3xQQQ"), struct.Struct("=III4xQ")  # bb_ask, bb_answer
+ASK, ANSWER = struct.Struct("=II I??2xQQQ"), struct.Struct("=III4xQ")  # bb_ask, bb_answer
+POSTS = struct.Struct("=IIQQQ")  # bb_posts
 KINDS = ("make", "call", "read", "write")
 
 
@@ -296,6 +300,7 @@ def _loaded(path: str) -> Any:
         "bb_begin": (ctypes.c_int, [pointer, ctypes.c_char_p, size]),
         "bb_asked": (pointer, [pointer]),
         "bb_resume": (ctypes.c_int, [pointer, pointer]),
+        "bb_take_posts": (pointer, [pointer, ctypes.POINTER(size)]),
         "bb_reply": (pointer, [pointer, ctypes.POINTER(size)]),
         "bb_state_of": (ctypes.c_int, [pointer]),
         "bb_status": (ctypes.c_int, [pointer]),
@@ -313,12 +318,15 @@ def _loaded(path: str) -> Any:
 
 class InProcess:
     """An engine of the library, in the place of a `Conversation`. `answer` is given the kind of an ask, its number, whether
-    an object is asked, its key, and where the values stand."""
+    an object is asked, its key, and where the values stand. `post` is given the number of a posted function, how many calls
+    of it there are, where their values stand, one behind the other, and by when they are to be done."""
 
     pid = None
 
-    def __init__(self, library: Any, profile: str, drivers: int, memory: int, answer: Callable[..., Answer]) -> None:
-        self._library, self._answer, self.busy = library, answer, False
+    def __init__(
+        self, library: Any, profile: str, drivers: int, memory: int, answer: Callable[..., Answer], post: Callable[..., None]
+    ) -> None:
+        self._library, self._answer, self._post, self.busy = library, answer, post, False
         data = profile.encode()
         self._engine = library.bb_new(Options(data, len(data), drivers, 0, 0, memory, None, None))
         if not self._engine:
@@ -378,7 +386,11 @@ class InProcess:
             self._find_asks()
         ask, values = self._ask, self._values
         while state == ASKS:
-            kind, _, number, has_object, key, _, _ = read(ask)
+            kind, _, number, has_object, is_posted, key, _, _ = read(ask)
+            if is_posted:
+                self._take_posts(deadline)
+                state = resume(engine, None)
+                continue
             form, number = answer(KINDS[kind], number, has_object, key, values)
             if now() >= deadline:
                 raise CommandTimeout(LATE)
@@ -386,6 +398,14 @@ class InProcess:
             state = resume(engine, given_at)
         if state == THREAD:
             raise RuntimeError("an engine is for the thread that made it")
+
+    def _take_posts(self, deadline: float) -> None:
+        count = ctypes.c_size_t()
+        at = self._library.bb_take_posts(self._engine, count)
+        if not at:
+            raise MemoryError
+        for _, number, calls, _, values in POSTS.iter_unpack(ctypes.string_at(at, count.value * POSTS.size)):
+            self._post(number, calls, values, deadline)
 
     def _find_asks(self) -> None:
         at = self._library.bb_asked(self._engine)
@@ -395,9 +415,11 @@ class InProcess:
     def _hear(self, hear: Callable[[str], None], deadline: float) -> None:
         size = ctypes.c_size_t()
         at = self._library.bb_reply(self._engine, size)
+        now = time.monotonic
         for line in ctypes.string_at(at, size.value).decode().split("\n")[:-1]:
-            _left(deadline)
             hear(line)
+            if now() >= deadline:
+                raise CommandTimeout(LATE)
         _left(deadline)
 
 
@@ -534,9 +556,13 @@ class Engine(AbstractContextManager["Engine"]):
 
     def _talking(self, profile: str, said: List[str]) -> Union[Conversation, InProcess]:
         """An engine with the text of a profile, and what it says at its start."""
+        self._posted = dict(self._posted_heads())
         if self._library:
-            self._readers = {kind: [_reader(it, kind) for it in self.profile.entries] for kind in KINDS}
-            talk = InProcess(self._library, profile, self.profile.drivers, self.memory or 0, self._answer_values)
+            layouts = {kind: [_layout(it, kind) for it in self.profile.entries] for kind in KINDS}
+            self._readers = {kind: [(it.unpack_from, has_handles) for it, has_handles in layouts[kind]] for kind in KINDS}
+            self._posted_layouts = layouts["call"]
+            drivers, memory = self.profile.drivers, self.memory or 0
+            talk = InProcess(self._library, profile, drivers, memory, self._answer_values, self._post_values)
             talk.tell("", self.timeout, said.append)
             return talk
         with tempfile.NamedTemporaryFile("w") as file:
@@ -545,7 +571,7 @@ class Engine(AbstractContextManager["Engine"]):
             words = [self.program, "--profile", file.name, "--drivers", str(self.profile.drivers)]
             if self.memory is not None:
                 words = ["/bin/sh", "-c", 'ulimit -v "$0" && exec "$@"', str(self.memory >> 10), *words]
-            conversation = Conversation(words, self._answer_line)
+            conversation = Conversation(words, self._answer_line, self._post_line)
             conversation.tell("", self.timeout, said.append)
             return conversation
 
@@ -620,15 +646,17 @@ class Engine(AbstractContextManager["Engine"]):
         text, self._cause, made = _command(text), None, self._made
         outcome = ""  # a comment has none
         self.events, errors, denials = [], [], []
+        add_event = self.events.append
 
         def hear(line: str) -> None:
             nonlocal outcome
             outcome = line
+            if line.startswith("host "):  # as most lines do
+                add_event(line)
+                return
             word, _, rest = line.partition(" ")
-            if word == "host":
-                self.events.append(line)
-            elif word == "end":
-                self.events.append(line)
+            if word == "end":
+                add_event(line)
                 self._ended(int(rest.partition("#")[2]))
             elif word == "error":
                 kind, place, name = rest.split(" ", 2)
@@ -656,6 +684,49 @@ class Engine(AbstractContextManager["Engine"]):
     def _held(self, reply: Reply) -> Held:
         used = self.used()
         return Held(len(reply.events) + used.objects, used, self._limits)
+
+    def _posted_heads(self) -> Iterator[Tuple[str, Callable[[str], object]]]:
+        """Of each function that is posted, how its lines begin, and what is given the rest, behind the parenthesis."""
+        for number, entry in enumerate(self.profile.entries):
+            if entry.line.startswith("posted "):
+                driver = entry.line.split(" ")[1]
+                reads = [self._reader_of(it) for it in _types(entry.declaration)[1:] if it not in ("", "void")]
+                yield f"post {driver} call {number} - ", _poster(entry.asked["call"], reads)
+
+    def _reader_of(self, word: str) -> Callable[[str], Any]:
+        """What reads the text of a value of the type of that word."""
+        if "@" in word:
+            return lambda text: None if text == "null" else self.objects[int(text[1:])]
+        if word == "bool":
+            return lambda text: text == "true"
+        return (lambda text: int(text[:-1])) if word in UNSIGNED else int
+
+    def _post_line(self, line: str) -> None:
+        """Calls what a line ``post ..`` is for."""
+        head, _, values = line.partition("(")
+        try:
+            self._posted[head](values)
+        except Exception as error:
+            self._cause = error
+
+    def _post_values(self, number: int, calls: int, at: int, deadline: float) -> None:
+        """Calls what is posted, so many times."""
+        call, now = self.profile.entries[number].asked["call"], time.monotonic
+        for given in self._posted_values(number, calls, at):
+            try:
+                call(*given)
+            except Exception as error:
+                self._cause = error
+            if now() >= deadline:
+                raise CommandTimeout(LATE)
+
+    def _posted_values(self, number: int, calls: int, at: int) -> Iterable[Sequence[Any]]:
+        """The values of each call of a posted function, as they stand in a library."""
+        values, has_handles = self._posted_layouts[number]
+        if not values.size:
+            return repeat((), calls)
+        given = values.iter_unpack(ctypes.string_at(at, calls * values.size))
+        return map(tuple, map(self._with_objects, given)) if has_handles else given
 
     def _answer_line(self, line: str) -> str:
         _, _, kind, number, key, values = line.split(" ")
@@ -830,13 +901,23 @@ def _formed(value: Any, word: str) -> Answer:
     return INT if least else UINT, number
 
 
-def _reader(entry: Entry, kind: str) -> Tuple[Callable[[Any], Tuple[Any, ...]], bool]:
-    """What reads the values of an ask of an entry, as they stand in a library, and whether there are handles."""
+def _layout(entry: Entry, kind: str) -> Tuple[struct.Struct, bool]:
+    """How the values of an ask of an entry stand in a library, and whether there are handles."""
     words = _types(entry.declaration)
     words = () if kind == "read" else words[:1] if kind == "write" else words[1:]
     words = tuple(it for it in words if it not in ("", "void"))
     forms = ["0sI4xQ" if "@" in it else "8x?7x" if it == "bool" else "8xQ" if it in UNSIGNED else "8xq" for it in words]
-    return struct.Struct("=" + "".join(forms)).unpack_from, any("@" in it for it in words)
+    return struct.Struct("=" + "".join(forms)), any("@" in it for it in words)
+
+
+def _poster(call: Asked, reads: Sequence[Callable[[str], Any]]) -> Callable[[str], object]:
+    """What is given the values of a post, with the parenthesis behind them, and calls a callable."""
+    if not reads:
+        return lambda _: call()
+    if len(reads) == 1:
+        read = reads[0]
+        return lambda value: call(read(value[:-1]))
+    return lambda values: call(*[read(it) for read, it in zip(reads, values[:-1].split(","))])
 
 
 def _written(value: Any, word: str) -> str:

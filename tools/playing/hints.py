@@ -11,7 +11,7 @@ from playing.sources import Source, printable
 
 FLOATS = "there are no floats: count in a smaller unit, as 150 hundredths in place of 1.5"
 STRINGS = "there are no strings: a text stands only after 'from'; take numbers, or a function of the host for each text"
-ARRAYS = "there are no arrays and no templates: an object of the host can hold a number of values"
+ARRAYS = "there are no arrays and no templates: an object of the host, such as an IntList, can hold a number of values"
 NAMESPACES = "there are no namespaces: take longer names, or several modules"
 ENUMERATIONS = "scripts declare no enumerations: the host registers them, or write 'const int A = 0;'"
 DEFAULTS = "there are no default arguments: write an overload that calls the other one"
@@ -30,7 +30,7 @@ LEFT_OUT = [
     LeftOut("BadNumber", "", r"\d+(\.|[eE][+-]?\d|[fF]\b)", FLOATS),
     LeftOut("BadNumber", "", r"\d+\b", "the largest number is 18446744073709551615"),
     LeftOut("BadNumber", "", r"", "a number does not run into a letter, a digit or '_'; 0x, 0o, 0b and 0d want digits of their base"),
-    LeftOut("BadByte", "", r"'", "there are no characters and no texts in single quotes: write the number"),
+    LeftOut("BadByte", "", r"'", "there are no characters, and no texts in single quotes: write the number"),
     LeftOut("BadByte", "", r"[\[\]]", ARRAYS),
     LeftOut("BadByte", "", r"\"", "a text ends on its line, has printable ASCII without a backslash, and stands only after 'from'"),
     LeftOut("BadByte", "", r"#", "there is no preprocessor; // and /* */ are comments"),
@@ -57,7 +57,7 @@ LEFT_OUT = [
     LeftOut("Syntax", r"@\s*$", r"\+", "'@+' is for declarations of the host: write '@'"),
     LeftOut("Syntax", r"[\w)]\s*$", r"\}", "a ';' may be missing before it"),
     LeftOut("Syntax", r"[\w)]\s*\n\s*$", r"", "a ';' may be missing at the end of a line above"),
-    LeftOut("Syntax", r"[\w@]\s+$", RESERVED, "this word is reserved, and names nothing"),
+    LeftOut("Syntax", r"[\w@]\s+$", RESERVED, "this word is reserved, and can't be a name"),
     LeftOut("UnknownType", "", r"[sS]tring\b", STRINGS),
     LeftOut("UnknownType", "", r"(array|Array|dictionary|[lL]ist)\b", ARRAYS),
 ]

@@ -17,6 +17,7 @@ import generated
 ROOT = os.path.join(os.path.dirname(os.path.abspath(__file__)), "..", "..")
 SECONDS = 600  # that a run may take
 OWN = re.compile(r"^(limit|used)\b", re.MULTILINE)  # a line that conversations have, and sessions have not
+POSTED = re.compile(r"^posted ", re.MULTILINE)
 
 
 def commands(text):
@@ -57,7 +58,9 @@ def rows():
             name, _, row = row.partition("\n")
             first, _, row = row.partition("-- session\n")
             profile = (first if "-- profile\n" in first else head).partition("-- profile\n")[2]
-            session = row.partition("-- output\n")[0]
+            session, _, output = row.partition("-- output\n")
+            if POSTED.search(profile) and "host " in output:
+                continue  # asrun asks what asremote posts, so the two list other answers
             if "-- failing " not in first and not OWN.search(session) and not ends_early(session):
                 yield f"{file}, {name}", profile, session
 

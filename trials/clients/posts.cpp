@@ -20,15 +20,41 @@ const std::string script = R"(int64 mixed(int64 n) {
 }
 void many(int64 n) { for (int64 i = 0; i < n; i++) say(i); }
 int64 blamed() { bad(); say(7); return last(); }
+void kinds() {
+  Thing a(7);
+  Thing@ none;
+  uint64 big = 0;
+  big -= 1;
+  note(a, true, 200, big, -5);
+  note(none, false, 0, 0, 127);
+  ping();
+  note(a, false, 1, 2, 3);
+}
 )";
 
+struct Thing {
+    int number;
+};
+
 std::vector<std::int64_t> heard;
+std::vector<std::string> notes;
+
+// Notes the number of a thing, if there is one, and values of other types.
+void note(std::shared_ptr<Thing> thing, bool truth, std::uint8_t small, std::uint64_t big, std::int8_t less) {
+    using std::to_string;
+    auto number = thing ? to_string(thing->number) : "none";
+    notes.push_back(number + (truth ? " yes " : " no ") + to_string(small) + " " + to_string(big) + " " + to_string(less));
+}
 
 bustlebrick::Profile offered() {
     bustlebrick::Profile profile;
     profile.posted("void say(int64)", [](std::int64_t n) { heard.push_back(n); });
     profile.function("int64 last()", [] { return heard.back(); });
     profile.posted("void bad()", [] { throw bustlebrick::Fault(9); });
+    profile.type("Thing");
+    profile.factory("Thing", "Thing@ f(int)", [](int number) { return std::make_shared<Thing>(Thing{number}); });
+    profile.posted("void note(Thing@+, bool, uint8, uint64, int8)", note, "Thing");
+    profile.posted("void ping()", [] { notes.push_back("ping"); });
     return profile;
 }
 
@@ -60,5 +86,8 @@ int main(int count, char** words) {
     std::cout << "after a fault of what is posted: " << module.call<std::int64_t>("int64 blamed()") << '\n';
     auto reply = engine.command("call m () int64 blamed()");
     if (!reply.cause) std::cout << "there is no cause\n";
+    module.call("void kinds()");
+    std::cout << "posts of all types: ";
+    for (auto& it : notes) std::cout << it << (&it == &notes.back() ? "\n" : ", ");
     std::cout << "posted with a result: " << wrong_profile(program, library) << '\n';
 }

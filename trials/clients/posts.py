@@ -7,7 +7,7 @@ Prints what stands in posts.expected.
 
 import os
 import sys
-from typing import List
+from typing import Callable, List, Optional
 
 sys.path.insert(0, os.path.join(os.path.dirname(os.path.abspath(__file__)), "..", "..", "clients", "python"))
 from bustlebrick import Engine, Fault, Profile, Refused  # noqa: E402
@@ -24,20 +24,48 @@ int64 mixed(int64 n) {
 }
 void many(int64 n) { for (int64 i = 0; i < n; i++) say(i); }
 int64 blamed() { bad(); say(7); return last(); }
+void kinds() {
+  Thing a(7);
+  Thing@ none;
+  uint64 big = 0;
+  big -= 1;
+  note(a, true, 200, big, -5);
+  note(none, false, 0, 0, 127);
+  ping();
+  note(a, false, 1, 2, 3);
+}
 """
 program, library = sys.argv[1], (sys.argv[2:] or [None])[0]
+
+
+class Thing:
+    def __init__(self, number: int) -> None:
+        self.number = number
 
 
 def bad() -> None:
     raise Fault(9)
 
 
+def noted(notes: List[str]) -> Callable[..., None]:
+    """Notes the number of a thing, if there is one, and values of other types."""
+    def note(thing: Optional[Thing], truth: bool, *numbers: int) -> None:
+        notes.append(" ".join(map(str, (thing.number if thing else "none", "yes" if truth is True else "no", *numbers))))
+
+    return note
+
+
 def main() -> None:
     said: List[int] = []
+    notes: List[str] = []
     profile = Profile()
     profile.posted("void say(int64)", said.append)
     profile.function("int64 last()", lambda: said[-1])
     profile.posted("void bad()", bad)
+    thing = profile.type("Thing")
+    thing.factory("Thing@ f(int)", Thing)
+    thing.posted("void note(Thing@+, bool, uint8, uint64, int8)", noted(notes))
+    profile.posted("void ping()", lambda: notes.append("ping"))
     with Engine(profile, program, library=library) as engine:
         module = engine.module("m", 1)
         module.section(SCRIPT)
@@ -52,6 +80,8 @@ def main() -> None:
         reply = engine.command("call m () int64 blamed()")
         if not isinstance(reply.cause, Fault):
             print(f"the cause is {reply.cause}")
+        module.call("void kinds()")
+        print(f"posts of all types: {', '.join(notes)}")
     profile.posted("int64 three()", lambda: 3)
     try:
         Engine(profile, program, library=library).close()

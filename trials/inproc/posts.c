@@ -1,4 +1,4 @@
-/* Functions that are posted, by the callback and by steps.
+/* Functions that are posted, by the callback, by steps, and by steps that take many at once.
 
        posts
 
@@ -10,11 +10,15 @@
 
 enum { POSTS = 5000 };
 
-static const char profile[] = "mask 00000001\nposted 0 0 void say(int64)\nfunction 0 1 int64 last()\n";
+static const char profile[] =
+    "mask 00000001\nposted 0 0 void say(int64)\nfunction 0 1 int64 last()\nposted 0 2 void other(int64, bool)\n"
+    "posted 0 3 void all(int64, int, int, int, int, int, int, int, int, int, int, int, int, int, int, int)\n";
 
 static const char script[] =
     "int64 mixed(int64 n) { int64 wrong = 0; for (int64 i = 0; i < n; i++) { say(i); say(i + n); if (last() != i + n) wrong++; } return wrong; }\n"
-    "void many(int64 n) { for (int64 i = 0; i < n; i++) say(i); }\n";
+    "void many(int64 n) { for (int64 i = 0; i < n; i++) say(i); }\n"
+    "int64 turns(int64 n) { for (int64 i = 0; i < n; i++) { say(2 * i); other(2 * i + 1, true); } return last(); }\n"
+    "void wide(int64 n) { for (int64 i = 0; i < n; i++) all(i, -1, 0, 0, 0, 0, 0, 0, 0, 0, 0, 0, 0, 0, 0, 0); }\n";
 
 static int64_t last;
 static size_t heard, out_of_order;
@@ -31,7 +35,7 @@ static void wants(bool holds, const char *what)
 static void host(void *data, const bb_ask *ask, bb_answer *answer)
 {
     (void)data;
-    if (ask->function == 0) {
+    if (ask->function != 1) {
         wants(ask->posted, "a posted function is posted");
         out_of_order += ask->values[0].as.i64 != (int64_t)heard;
         last = ask->values[0].as.i64;
@@ -59,6 +63,38 @@ static bb_state by_steps(bb_engine *engine, const char *text)
     return state;
 }
 
+/* The host's function for each call of a run, of which all but the first have the same function. */
+static void take(const bb_posts *run)
+{
+    for (size_t call = 0; call < run->calls; call++) {
+        bb_ask ask = {BB_CALL, run->driver, run->function, false, true, 0, run->count, run->values + call * run->count};
+        bb_answer answer;
+        host(NULL, &ask, &answer);
+    }
+}
+
+static size_t most_runs, most_calls;
+
+static bb_state at_once(bb_engine *engine, const char *text)
+{
+    size_t runs;
+    bb_state state = bb_begin(engine, text, strlen(text));
+    while (state == BB_ASKS) {
+        bb_answer answer = {BB_VOID, 0, {BB_NULL, {0}}};
+        const bb_posts *posts = bb_take_posts(engine, &runs);
+        wants(!posts == !runs && !posts == !bb_asked(engine)->posted, "posts are taken where some wait");
+        for (size_t at = 0; at < runs; at++) {
+            most_calls = posts[at].calls > most_calls ? posts[at].calls : most_calls;
+            take(&posts[at]);
+        }
+        most_runs = runs > most_runs ? runs : most_runs;
+        if (!runs)
+            host(NULL, bb_asked(engine), &answer);
+        state = bb_resume(engine, runs ? NULL : &answer);
+    }
+    return state;
+}
+
 static bool ends_so(const bb_engine *engine, const char *outcome)
 {
     size_t bytes;
@@ -77,23 +113,42 @@ static bb_engine *prepared(bb_host callback)
     return engine;
 }
 
-static void all(const char *way, bb_engine *engine, bool steps)
+typedef bb_state way(bb_engine *engine, const char *text);
+
+static bb_state by_callback(bb_engine *engine, const char *text)
 {
-    static const char many[] = "call m (5000) void many(int64)\n", mixed[] = "call m (1000) int64 mixed(int64)\n";
+    return bb_command(engine, text, strlen(text));
+}
+
+/* A command whose posts count up from 0. */
+static void counts_up(bb_engine *engine, way *done, const char *command, const char *outcome, size_t posts)
+{
     heard = out_of_order = 0;
-    bb_state state = steps ? by_steps(engine, many) : bb_command(engine, many, sizeof many - 1);
-    wants(state == BB_DONE && ends_so(engine, "ok"), "posts end in ok");
-    wants(heard == POSTS && out_of_order == 0, "all posts are heard, in their order");
-    state = steps ? by_steps(engine, mixed) : bb_command(engine, mixed, sizeof mixed - 1);
+    bb_state state = done(engine, command);
+    wants(state == BB_DONE && ends_so(engine, outcome), command);
+    wants(heard == posts && out_of_order == 0, "all posts are heard, in their order");
+}
+
+static void all(const char *name, bb_engine *engine, way *done)
+{
+    counts_up(engine, done, "call m (5000) void many(int64)\n", "ok", POSTS);
+    counts_up(engine, done, "call m (2500) int64 turns(int64)\n", "ok 4999", POSTS);
+    counts_up(engine, done, "call m (5000) void wide(int64)\n", "ok", POSTS);
+    heard = 0;
+    bb_state state = done(engine, "call m (1000) int64 mixed(int64)\n");
     wants(state == BB_DONE && ends_so(engine, "ok 0"), "posts come before what is asked after them");
-    printf("%s: %zu posts\n", way, heard);
+    printf("%s: %zu posts\n", name, 3 * POSTS + heard);
 }
 
 int main(void)
 {
     bb_engine *one = prepared(host), *two = prepared(NULL);
-    all("posts by the callback", one, false);
-    all("posts by steps", two, true);
+    size_t runs;
+    all("posts by the callback", one, by_callback);
+    all("posts by steps", two, by_steps);
+    all("posts at once", two, at_once);
+    wants(most_runs > 100 && most_calls > 800, "many posts are taken at once");
+    wants(!bb_take_posts(two, &runs) && !runs, "nothing is taken where nothing waits");
     static const char many[] = "call m (5000) void many(int64)\n";
     wants(bb_begin(two, many, sizeof many - 1) == BB_ASKS && bb_asked(two)->posted, "a post waits");
     wants(bb_end(two) == BB_ENDED, "an engine ends while a post waits");

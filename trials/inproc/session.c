@@ -1,9 +1,10 @@
 /* asrun over the library: runs a session with the drivers of asrun in C, and prints what asrun prints.
 
-       session [--steps] [--stack BYTES] [--memory BYTES] [--budget N] --profile PROFILE --session SESSION
+       session [--steps | --at-once] [--stack BYTES] [--memory BYTES] [--budget N] --profile PROFILE --session SESSION
 
-   By the callback, or with --steps by steps. The status is asrun's; 9 for what can't be. With --memory a last line on
-   standard error has the bytes of the heap, and of the stack that was used. */
+   By the callback; with --steps by steps; with --at-once too, and then what is posted is taken at once. The status is
+   asrun's; 9 for what can't be. With --memory a last line on standard error has the bytes of the heap, and of the stack
+   that was used. */
 #include "bustlebrick.h"
 #include "commands.h"
 #include "drivers.h"
@@ -13,7 +14,7 @@
 #include <string.h>
 
 struct run {
-    bool by_steps, tells;
+    bool by_steps, at_once, tells;
     bb_options options;
     const char *profile, *session;
 };
@@ -29,8 +30,9 @@ static struct run chosen(int count, char **words)
     struct run run = {.options = {.drivers = 3}};
     for (int at = 1; at < count; at++) {
         const char *name = words[at];
-        if (strcmp(name, "--steps") == 0) {
+        if (strcmp(name, "--steps") == 0 || strcmp(name, "--at-once") == 0) {
             run.by_steps = true;
+            run.at_once = strcmp(name, "--at-once") == 0;
             continue;
         }
         const char *value = ++at < count ? words[at] : "";
@@ -48,12 +50,28 @@ static struct run chosen(int count, char **words)
     return run;
 }
 
-static bb_state by_steps(bb_engine *engine, struct drivers *drivers, const char *text, size_t bytes)
+/* Tells the drivers all that is posted and waits. */
+static void take_posts(bb_engine *engine, struct drivers *drivers)
+{
+    size_t runs;
+    const bb_posts *posts = bb_take_posts(engine, &runs);
+    for (const bb_posts *run = posts; run < posts + runs; run++)
+        for (size_t call = 0; call < run->calls; call++) {
+            bb_answer answer = {BB_VOID, 0, {BB_NULL, {0}}};
+            bb_ask ask = {BB_CALL, run->driver, run->function, false, true, 0, run->count, run->values + call * run->count};
+            drivers_answer(drivers, &ask, &answer);
+        }
+}
+
+static bb_state by_steps(const struct run *run, bb_engine *engine, struct drivers *drivers, const char *text, size_t bytes)
 {
     bb_state state = bb_begin(engine, text, bytes);
     while (state == BB_ASKS) {
         bb_answer answer = {BB_VOID, 0, {BB_NULL, {0}}};
-        drivers_answer(drivers, bb_asked(engine), &answer);
+        if (run->at_once && bb_asked(engine)->posted)
+            take_posts(engine, drivers);
+        else
+            drivers_answer(drivers, bb_asked(engine), &answer);
         state = bb_resume(engine, &answer);
     }
     return state;
@@ -80,7 +98,7 @@ static int converse(const struct run *run, bb_engine *engine, struct drivers *dr
     for (size_t at = 0; at < session.count;) {
         const char *text = session.bytes + at;
         size_t count = command_at(text, session.count - at);
-        bb_state state = run->by_steps ? by_steps(engine, drivers, text, count) : bb_command(engine, text, count);
+        bb_state state = run->by_steps ? by_steps(run, engine, drivers, text, count) : bb_command(engine, text, count);
         const char *reply = bb_reply(engine, &bytes);
         if (state == BB_FORM || (state == BB_DONE && is_bad_line(reply, bytes))) {
             printf("line %zu BadLine\n", line);

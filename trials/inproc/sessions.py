@@ -3,7 +3,7 @@
 
     trials/inproc/sessions.py HOST ASRUN [COUNT [SEED]]
 
-HOST is session.c over the library: each session runs by the callback and by steps. trials/clients/compared.py says which
+HOST is session.c over the library: each session runs by the callback, by steps, and so that posts are taken at once. trials/clients/compared.py says which
 sessions. Prints each that differs, and how many there were.
 """
 
@@ -17,9 +17,12 @@ from compared import Trial, run  # noqa: E402
 
 def main():
     host = os.path.abspath(sys.argv[1])
-    by_callback = lambda profile, session: run([host, "--profile", profile, "--session", session])  # noqa: E731
-    by_steps = lambda profile, session: run([host, "--steps", "--profile", profile, "--session", session])  # noqa: E731
-    trial = Trial(sys.argv[2], **{"by the callback": by_callback, "by steps": by_steps})
+    ways = {"by the callback": [], "by steps": ["--steps"], "with posts at once": ["--at-once"]}
+
+    def way(words):
+        return lambda profile, session: run([host, *words, "--profile", profile, "--session", session])
+
+    trial = Trial(sys.argv[2], **{name: way(words) for name, words in ways.items()})
     trial.compare_all(*map(int, sys.argv[3:]))
     return trial.bad > 0
 

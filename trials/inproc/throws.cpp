@@ -21,9 +21,9 @@ void host(void*, const bb_ask* ask, bb_answer*) {
 
 bb_state say(bb_engine* engine, const char* text) { return bb_command(engine, text, std::strlen(text)); }
 
-bool throws(bb_engine* engine) {
+bool throws(bb_engine* engine, const char* command = "call m (5) void run(int64)") {
     try {
-        say(engine, "call m (5) void run(int64)");
+        say(engine, command);
     } catch (const std::runtime_error& error) {
         return std::strcmp(error.what(), "three") == 0;
     }
@@ -36,11 +36,24 @@ bool outcome_is(const bb_engine* engine, const char* wanted) {
     return bytes == std::strlen(wanted) && std::memcmp(outcome, wanted, bytes) == 0;
 }
 
+// What is posted: the script has gone on, and what it posted after the throw is told next.
+void throw_at_posts(bb_engine* engine) {
+    is_right(throws(engine, "call m (5) void tells(int64)"), "an exception comes out of a post");
+    for (int value = 3; value < 5; value++) {
+        const bb_ask* post = bb_asked(engine);
+        is_right(post && post->posted && post->values[0].as.i64 == value, "the post waits, and then the next one");
+        is_right(bb_resume(engine, nullptr) == (value < 4 ? BB_ASKS : BB_DONE), "posts are gone on from");
+    }
+    is_right(outcome_is(engine, "ok"), "the script was done");
+}
+
 }  // namespace
 
 int main() {
-    const char profile[] = "mask 00000001\nfunction 0 0 void put(int64)\n";
-    const char script[] = "void run(int64 n) { for (int64 i = 0; i < n; i++) put(i); }";
+    const char profile[] = "mask 00000001\nfunction 0 0 void put(int64)\nposted 0 1 void tell(int64)\n";
+    const char script[] =
+        "void run(int64 n) { for (int64 i = 0; i < n; i++) put(i); }\n"
+        "void tells(int64 n) { for (int64 i = 0; i < n; i++) tell(i); }";
     bb_options options{};
     options.profile = profile;
     options.profile_bytes = sizeof profile - 1;
@@ -57,9 +70,10 @@ int main() {
         fault.kind = BB_FAULT;
         fault.fault = 5;
         is_right(bb_resume(engine, &fault) == BB_DONE && outcome_is(engine, "fault Host 5"), "the script ends by a fault");
+        throw_at_posts(engine);
     }
     throws(engine);
     is_right(bb_free(engine) == BB_ENDED, "an engine is freed whose script waits");
-    std::puts("throws: 101 exceptions came out of callbacks, and the engine went on");
+    std::puts("throws: 201 exceptions came out of callbacks, and the engine went on");
     return bad;
 }

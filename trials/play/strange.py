@@ -33,7 +33,7 @@ KILLS = """import os, signal
 def print(number):
     for line in os.popen(f"ps -o pid=,comm= --ppid {os.getpid()}").read().splitlines():
         process, program = line.split(None, 1)
-        if program == "asremote":
+        if program not in ("sh", "ps"):
             os.kill(int(process), signal.SIGKILL)
 """
 SLOW = "import time\ndef print(number):\n    time.sleep(60)\n"

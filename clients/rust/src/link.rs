@@ -44,7 +44,9 @@ impl Link {
 
     /// The next line, without its LF. It is empty where the stream ended.
     fn line(&mut self, deadline: Instant) -> io::Result<String> {
-        self.stream.get_ref().set_read_timeout(Some(left(deadline)?))?;
+        if !self.stream.buffer().contains(&b'\n') {
+            self.stream.get_ref().set_read_timeout(Some(left(deadline)?))?;
+        }
         let mut line = String::new();
         match self.stream.read_line(&mut line) {
             Err(error) if error.kind() == ErrorKind::ConnectionReset => line.clear(), // it ended, and read not all

@@ -6,7 +6,12 @@ use Rattle.ang_typed.specs.Typed as t
 use Rattle.ang_typed.specs.View.{view_stmt}
 use Rattle.ang_typed.specs.declared.statement.TypedStatement.{TypedStatement}
 use Rattle.ang_names_known.specs.Spaces.{family_type, family_of_type}
-use Rattle.ang_check_uses.specs.Uses.{Scope, makers_of, makers_for, makers_in}
+use Rattle.ang_kinds.specs.declared.error.ErrorKind.{ErrorKind}
+use Rattle.ang_types.specs.declared.arg_type.ArgType.{ArgType}
+use Rattle.ang_types.specs.Best.{best_of}
+use Rattle.ang_types.specs.Ranks.{Ancestors}
+use Rattle.ang_check_uses.specs.declared.uses.Resolution.TheVariants as resolution
+use Rattle.ang_check_uses.specs.Uses.{Scope, best_of_those, makers_of, makers_for, makers_in}
 use Rattle.ang_check.specs.Typing.{with_last}
 
 not_lt : (a b : ℕ) → b ≤ a → nat_lt a b ≡ false
@@ -19,11 +24,20 @@ family_again : (b : ℕ) → family_of_type (family_type b) ≡ Some b
 family_again b =
     ap (λ (low : Bool). cond low None (Some (1024 + b - 1024))) (not_below b) ∙ ap (λ n. Some n) (omega arith)
 
--- beyond the families there is nothing that makes an object
-pub makers_beyond : (s : Scope) (b : ℕ) → length s.names.families ≤ b → [] ≡ makers_of s (family_type b)
+nothing_beyond : (s : Scope) (b : ℕ) → length s.names.families ≤ b → [] ≡ makers_of s (family_type b)
 unfolding makers_of
-makers_beyond s b le =
+nothing_beyond s b le =
     sym (ap (makers_for s (family_type b)) (family_again b) ∙ ap (makers_in s.names.families b) (slice_get_past s.names.families b le))
+
+-- the best of none
+best_of_none : (l : Ancestors) (k : ErrorKind) (args : List ArgType) → resolution.Refused k ≡ best_of_those l k [] args
+unfolding best_of_those best_of
+best_of_none l k args = refl
+
+-- beyond the families there is nothing that makes an object
+pub none_beyond : (l : Ancestors) (k : ErrorKind) (s : Scope) (b : ℕ) (args : List ArgType) → length s.names.families ≤ b
+    → resolution.Refused k ≡ best_of_those l k (makers_of s (family_type b)) args
+none_beyond l k s b args le = best_of_none l k args ∙ ap (λ cs. best_of_those l k cs args) (nothing_beyond s b le)
 
 -- one statement more at the end
 last_of : (ss : List t.Stmt) (s : t.Stmt) → with_last (t.stmts ss) s ≡ t.stmts (ss ++ s ∷ [])

@@ -7,18 +7,19 @@ ghost use Rattle.ang_typed.specs.View.{view_arg, view_block, view_function, view
 ghost use Rattle.ang_check_operators.specs.Refusals.{Gives};
 ghost use Rattle.ang_check_operators.specs.View.{view_operands};
 ghost use Rattle.ang_check_stmt.specs.Typing.{own_object as object_of};
-ghost use Rattle.ang_check_uses.specs.Uses.{makers_of as all_makers};
+ghost use Rattle.ang_check_context.specs.Scope.{scope_of};
+ghost use Rattle.ang_check_uses.specs.Uses.{best_of_those, makers_of};
 ghost use Rattle.ang_names_known.specs.Spaces as spaces;
 ghost use Rattle.ang_check.specs.Positions as places;
 ghost use Rattle.ang_check.specs.Typing as spec;
 ghost use Rattle.ang_check.specs.View.{view_base};
 
 use crate::functions::{member_locals, member_parameters};
-use ang_check_context::{BodyContext, Locals, Within, own_type, types_of};
+use ang_check_context::{BodyContext, Locals, Within, best_maker, own_type, types_of};
 use ang_check_operators::{Operand, TypingError, boxed, refused, refused_for};
 use ang_check_stmt::{FunctionContext, Returns, block, own_object, positions_of};
 use ang_check_typing::{arguments_for, typing_of_all};
-use ang_check_uses::{Callables, Called, Resolution, Scope, best_of_those, makers_of};
+use ang_check_uses::{Called, Resolution};
 use ang_kinds::{ErrorKind, List, Place, Position, position_of};
 use ang_lex::Token;
 use ang_names_known::{Default, Names, ScriptFunction, default_of, family_type};
@@ -127,17 +128,25 @@ fn super_chosen(
     }
 }
 
-/// All that makes an object of the class of this number; nothing where there is none.
+/// The best of what makes an object of the class of this number for arguments of these types; nothing does where there is no
+/// such class.
 ///
 /// The only error is want of memory.
-#[tactic(auto, using(crate::proofs::Makers::makers_beyond))]
-fn makers_in(alloc: Global, scope: &Scope<'_>, class: usize) -> Result<Callables, AllocError>
-    ensures exact { IfOk result (λ c. c ≡ all_makers scope.now (spaces.family_type class)) }
+#[tactic(auto, using(crate::proofs::Makers::none_beyond))]
+fn best_base(
+    alloc: Global,
+    context: &BodyContext<'_>,
+    class: usize,
+    args: &[ArgType],
+) -> Result<Resolution, AllocError>
+    ensures exact { IfOk result (λ r. r ≡ best_of_those context.now.ancestors ErrorKind.NoMatch
+        (makers_of (scope_of context.now) (spaces.family_type class)) args.now) }
 {
-    if class < scope.names().families().len() {
-        makers_of(alloc, scope, family_type(class))
+    if class < context.names().families().len() {
+        let number = family_type(class);
+        best_maker(alloc, context, ErrorKind::NoMatch, number, args)
     } else {
-        Ok(Callables::new(alloc))
+        Ok(Resolution::Refused(ErrorKind::NoMatch))
     }
 }
 
@@ -152,15 +161,8 @@ fn super_of(
     ensures exact { Gives view_base result
         (spec.super_by context.now word.now (view_operands operands.items) (Some base)) }
 {
-    let scope = Scope::new(context.view(), context.names(), context.lineage());
-    let makers = makers_in(alloc, &scope, base)?;
     let types = types_of(alloc, operands.as_slice())?;
-    let chosen = best_of_those(
-        context.lineage(),
-        ErrorKind::NoMatch,
-        makers,
-        types.as_slice(),
-    );
+    let chosen = best_base(alloc, context, base, types.as_slice())?;
     super_chosen(alloc, context, word, operands, chosen)
 }
 

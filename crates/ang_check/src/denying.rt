@@ -134,7 +134,7 @@ pub fn denials(
     }
     let view = registry.seen(alloc, mask)?;
     let whole = registry.whole(alloc)?;
-    let masked = Masked::new(&whole, &hidden, mask);
+    let masked = Masked::new(alloc, &whole, &hidden, mask)?;
     match names {
         None => rows_of_phases(alloc, &masked, &view, scripts),
         Some(names) => rows_of_bodies(alloc, &masked, &view, names, scripts),

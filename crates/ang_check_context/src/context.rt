@@ -11,7 +11,7 @@ ghost use Rattle.ang_lex.specs.Text.{text_of};
 
 use crate::scope::{Locals, Within};
 use ang_check_operators::{TypingError, refused, use_refused};
-use ang_check_uses::{Callables, Resolution, Scope, makers_of, resolution_of};
+use ang_check_uses::{Resolution, Scope, maker_meant, resolution_of};
 use ang_kinds::ErrorKind;
 use ang_lex::{Token, text_of};
 use ang_names_known::{Access, Family, Names, may_use};
@@ -150,17 +150,21 @@ pub fn resolved(
     resolution_of(alloc, &context.scope(), context.text_of(name), asks)
 }
 
-/// All that makes an object of the type of this number.
+/// The best of what makes an object of the type of this number for arguments of these types, or this kind of refusal where
+/// nothing takes them.
 ///
 /// The only error is want of memory.
-pub fn makers(
+pub fn best_maker(
     alloc: Global,
     context: &BodyContext<'_>,
+    unviable: ErrorKind,
     number: u32,
-) -> Result<Callables, AllocError>
-    ensures exact { IfOk result (λ c. c ≡ uses.makers_of (scopes.scope_of context.now) number) }
+    args: &[ArgType],
+) -> Result<Resolution, AllocError>
+    ensures exact { IfOk result (λ r. r ≡ uses.best_of_those context.now.ancestors unviable
+        (uses.makers_of (scopes.scope_of context.now) number) args.now) }
 {
-    makers_of(alloc, &context.scope(), number)
+    maker_meant(alloc, &context.scope(), unviable, number, args)
 }
 
 /// Why a member with this access can't be used from everywhere.

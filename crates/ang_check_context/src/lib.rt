@@ -13,7 +13,7 @@ mod values;
 
 pub use casts::{cast, cast_type};
 pub use context::{
-    BodyContext, access_error, is_there, makers, may_reach, resolved, type_or_refusal,
+    BodyContext, access_error, best_maker, is_there, may_reach, resolved, type_or_refusal,
 };
 pub use members::member_of;
 pub use names::named;

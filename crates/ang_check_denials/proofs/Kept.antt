@@ -1,5 +1,5 @@
 -- Numbers of a list that are kept, and entries that come with one of those.
-use Rattle.std.specs.Prelude.{ℕ, ◌≡◌, ◌+◌, Bool, true, false, cond, ◌&&◌, ◌||◌, if◌then◌else◌, List, [], ◌∷◌, ◌++◌, filter, find, Option, Some}
+use Rattle.std.specs.Prelude.{ℕ, ◌≡◌, ◌+◌, Bool, true, false, cond, ◌&&◌, ◌||◌, if◌then◌else◌, List, [], ◌∷◌, ◌++◌, filter, find, map, Option, Some, None}
 use Rattle.std.specs.List.{list_any, range_with_len}
 use Rattle.std.proofs.Common.{arith, refl, sym, ap, ◌∙◌}
 use Rattle.std.proofs.lemmas.List.{map-id}
@@ -9,7 +9,7 @@ use Rattle.ang_types.specs.declared.asks.Refused.{Refused}
 use Rattle.ang_view.specs.Hidden.{is_unmet, is_with, numbers_of}
 use Rattle.ang_view.specs.Registration.{RegistrationList}
 use Rattle.ang_check_uses.specs.Uses.{Scope}
-use Rattle.ang_check_denials.specs.Denials.{denied, helps}
+use Rattle.ang_check_denials.specs.Denials.{IsSameUse, denied, helps, numbers_asked, row, rows_asked}
 
 -- one number more
 pub kept_more : (p : ℕ → Bool) (n : ℕ) → filter p (range_with_len 0 (n + 1)) ≡ filter p (range_with_len 0 n) ++ (if p n then n ∷ [] else [])
@@ -60,3 +60,18 @@ denied_are R m s r a hs e =
     let brought : (y : ℕ) → list_any (λ x. is_with R x y) hs ≡ list_any (λ x. helps R m s r a x && is_with R x y) (numbers_of R) =
     λ y. ap (list_any (λ x. is_with R x y)) e ∙ any_kept (helps R m s r a) (λ x. is_with R x y) (numbers_of R) in
     λ i. filter (λ y. is_unmet R m y && brought y i) (numbers_of R)
+
+-- uses that ask the same are denied the same
+same_asked : (R : RegistrationList) (m : ℕ) (s : Scope) (r q : Refused) (o : Option Asks) → r.error.name ≡ q.error.name → r.is_there ≡ q.is_there
+    → numbers_asked R m s r o ≡ numbers_asked R m s q o
+same_asked R m s r q None name there = refl
+same_asked R m s r q (Some a) name there =
+    λ i. filter (λ y. denied R m s (record r { error = record r.error { name = name i }; is_there = there i }) a y) (numbers_of R)
+
+pub same_numbers : (R : RegistrationList) (m : ℕ) (s : Scope) (r q : Refused) → IsSameUse r q → numbers_asked R m s r r.asks ≡ numbers_asked R m s q q.asks
+same_numbers R m s r q same = same_asked R m s r q r.asks same.name same.is_there ∙ ap (numbers_asked R m s q) same.asks
+
+-- the rows of a use are those of its numbers
+pub rows_of_numbers : (R : RegistrationList) (m : ℕ) (s : Scope) (r : Refused) (o : Option Asks) → rows_asked R m s r o ≡ map (row R m r) (numbers_asked R m s r o)
+rows_of_numbers R m s r None = refl
+rows_of_numbers R m s r (Some a) = refl

@@ -2,8 +2,10 @@ pub mod Brought
 pub mod ByName
 pub mod Helping
 pub mod Kept
+pub mod Making
 pub mod Meaning
 pub mod Merging
 pub mod Places
+pub mod SameUses
 pub mod Types
 pub mod Values

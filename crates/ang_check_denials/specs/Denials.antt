@@ -1,6 +1,6 @@
 -- The rows of denials of one refused use (docs/LANGUAGE.md, "Denials"; the AngelScript manual, "Access masks and exposing different
 -- interfaces"): the hidden entries by which it would have been resolved, told by the same resolver over a larger view.
-use Rattle.std.specs.Prelude.{ℕ, ◌==◌, Bool, true, false, not, ◌&&◌, ◌||◌, List, [], map, filter, Option, Some, None}
+use Rattle.std.specs.Prelude.{ℕ, ◌≡◌, ◌==◌, Bool, true, false, not, ◌&&◌, ◌||◌, List, [], map, filter, Option, Some, None}
 use Rattle.std.specs.List.{list_any}
 use Rattle.ang_kinds.specs.declared.error.Denial.{Denial}
 use Rattle.ang_kinds.specs.declared.mask.Mask.{Mask}
@@ -16,6 +16,7 @@ use Rattle.ang_check_uses.specs.declared.uses.Called.{Called}
 use Rattle.ang_check_uses.specs.declared.uses.Called.TheVariants as calls
 use Rattle.ang_check_uses.specs.declared.uses.Resolution.{Resolution}
 use Rattle.ang_check_uses.specs.declared.uses.Resolution.TheVariants as resolution
+use Rattle.ang_names_known.specs.declared.names.Names.{Names}
 use Rattle.ang_names_known.specs.Lookup.{is_declared}
 use Rattle.ang_names_known.specs.Items.{is_empty}
 use Rattle.ang_check_uses.specs.Uses.{Scope, resolution_of, functions_of}
@@ -78,6 +79,10 @@ joins s r a x = is_call a && (is_function_entry x && not (is_empty (functions_of
 abbrev pub stays : Scope → Refused → Asks → Option Entry → Bool
 stays s r a x = is_bare a && ((is_declared s.names.declared r.error.name || r.is_there) && not (joins s r a x))
 
+-- the use is one of a bare name that the script has
+abbrev pub is_taken : Names → Refused → Asks → Bool
+is_taken names r a = is_bare a && (is_declared names.declared r.error.name || r.is_there)
+
 -- ---- the rows
 
 -- x is hidden, and with it and its types added the use means x
@@ -101,6 +106,17 @@ row R m r y = record {
   entity_mask = mask_of (entry_at R y);
   module_mask = record { 0 = m };
 }
+
+-- the numbers of the entries that a use is denied, rising
+abbrev pub numbers_asked : RegistrationList → ℕ → Scope → Refused → Option Asks → List ℕ
+numbers_asked R m s r None = []
+numbers_asked R m s r (Some a) = filter (denied R m s r a) (numbers_of R)
+
+-- Two uses ask the same of the same name: they are denied the same entries.
+pub record IsSameUse (r q : Refused) : Type 0 where
+  pub name : r.error.name ≡ q.error.name
+  pub asks : r.asks ≡ q.asks
+  pub is_there : r.is_there ≡ q.is_there
 
 abbrev pub rows_asked : RegistrationList → ℕ → Scope → Refused → Option Asks → List Denial
 rows_asked R m s r None = []

@@ -30,6 +30,21 @@ pub struct Beside {
     pub joined: bool,
     /// The object types and the enumerations of the name in the whole list, seen or hidden, by their numbers.
     pub named: Vec<u32>,
+    /// The host type that a call of the name makes objects of, or any other number.
+    pub made: u32,
+    /// The factories of that type that are seen.
+    pub makers: Rivals,
+}
+
+/// A number that no host type has.
+const NO_TYPE: u32 = u32::MAX;
+
+/// The number of the host type of this name that is seen. With any other number `makers_of` is only asked more often.
+fn type_called(scope: &Scope<'_>, name: &[u8]) -> u32 {
+    match scope.view().find_type(name) {
+        None => NO_TYPE,
+        Some(number) => number.0,
+    }
 }
 
 /// The factories of the host type of this number that are seen, as candidates. The only error is want of memory.
@@ -44,6 +59,20 @@ pub fn factories(alloc: Global, view: &View, number: u32) -> Result<Vec<Candidat
     Ok(found)
 }
 
+/// What is kept of the factories of the host type of this number that are seen.
+pub fn makers_of(
+    alloc: Global,
+    scope: &Scope<'_>,
+    number: u32,
+    types: &[ArgType],
+) -> Result<Rivals, AllocError>
+    ensures exact { IfOk result (λ makers. AreRivals makers scope.now.ancestors
+        (spec.factories scope.now.view number) types.now) }
+{
+    let seen = factories(alloc, scope.view(), number)?;
+    Rivals::of(alloc, scope.lineage(), seen.as_slice(), types)
+}
+
 /// Some candidates, for arguments of these types.
 fn of_candidates(
     alloc: Global,
@@ -52,21 +81,27 @@ fn of_candidates(
     types: Vec<ArgType>,
     joined: bool,
     named: Vec<u32>,
+    made: u32,
 ) -> Result<Beside, AllocError>
     ensures rivals { IfOk result
         (λ b. AreRivals b.rivals scope.now.ancestors candidates.now types.items) }
+    ensures makers { IfOk result (λ b. AreRivals b.makers scope.now.ancestors
+        (spec.factories scope.now.view b.made) types.items) }
     ensures types { IfOk result (λ b. b.types.items ≡ types.items) }
     ensures property { IfOk result (λ b. b.property ≡ None) }
     ensures joined { IfOk result (λ b. b.joined ≡ joined) }
     ensures named { IfOk result (λ b. b.named.items ≡ named.items) }
 {
     let rivals = Rivals::of(alloc, scope.lineage(), candidates, types.as_slice())?;
+    let makers = makers_of(alloc, scope, made, types.as_slice())?;
     Ok(Beside {
         rivals,
         types,
         property: None,
         joined,
         named,
+        made,
+        makers,
     })
 }
 
@@ -78,18 +113,23 @@ fn of_property(
     named: Vec<u32>,
 ) -> Result<Beside, AllocError>
     ensures rivals { IfOk result (λ b. AreRivals b.rivals scope.now.ancestors [] []) }
+    ensures makers { IfOk result (λ b. AreRivals b.makers scope.now.ancestors
+        (spec.factories scope.now.view b.made) []) }
     ensures types { IfOk result (λ b. b.types.items ≡ []) }
     ensures property { IfOk result (λ b. b.property ≡ property) }
     ensures joined { IfOk result (λ b. b.joined ≡ false) }
     ensures named { IfOk result (λ b. b.named.items ≡ named.items) }
 {
     let rivals = Rivals::of(alloc, scope.lineage(), &[], &[])?;
+    let makers = makers_of(alloc, scope, NO_TYPE, &[])?;
     Ok(Beside {
         rivals,
         types: Vec::new(alloc),
         property,
         joined: false,
         named,
+        made: NO_TYPE,
+        makers,
     })
 }
 
@@ -103,6 +143,8 @@ fn of_functions(
 ) -> Result<Beside, AllocError>
     ensures rivals { IfOk result (λ b. AreRivals b.rivals scope.now.ancestors
         (uses.candidates_of (uses.functions_of scope.now name.now)) args.now) }
+    ensures makers { IfOk result (λ b. AreRivals b.makers scope.now.ancestors
+        (spec.factories scope.now.view b.made) args.now) }
     ensures types { IfOk result (λ b. b.types.items ≡ args.now) }
     ensures property { IfOk result (λ b. b.property ≡ None) }
     ensures joined { IfOk result
@@ -112,7 +154,16 @@ fn of_functions(
     let functions = functions_of(alloc, scope, name)?;
     let types = Vec::from_slice(alloc, args)?;
     let joined = !functions.is_empty();
-    of_candidates(alloc, scope, functions.candidates(), types, joined, named)
+    let made = type_called(scope, name);
+    of_candidates(
+        alloc,
+        scope,
+        functions.candidates(),
+        types,
+        joined,
+        named,
+        made,
+    )
 }
 
 /// The factories of a host type.
@@ -125,6 +176,8 @@ fn of_factories(
 ) -> Result<Beside, AllocError>
     ensures rivals { IfOk result (λ b. AreRivals b.rivals scope.now.ancestors
         (spec.factories scope.now.view number) args.now) }
+    ensures makers { IfOk result (λ b. AreRivals b.makers scope.now.ancestors
+        (spec.factories scope.now.view b.made) args.now) }
     ensures types { IfOk result (λ b. b.types.items ≡ args.now) }
     ensures property { IfOk result (λ b. b.property ≡ None) }
     ensures joined { IfOk result (λ b. b.joined ≡ false) }
@@ -132,7 +185,15 @@ fn of_factories(
 {
     let candidates = factories(alloc, scope.view(), number)?;
     let types = Vec::from_slice(alloc, args)?;
-    of_candidates(alloc, scope, candidates.as_slice(), types, false, named)
+    of_candidates(
+        alloc,
+        scope,
+        candidates.as_slice(),
+        types,
+        false,
+        named,
+        NO_TYPE,
+    )
 }
 
 /// The methods of a name of a host type, on a receiver that is read only or not.
@@ -147,6 +208,8 @@ fn of_methods(
     ensures rivals { IfOk result (λ b. AreRivals b.rivals scope.now.ancestors
         (uses.candidates_of (uses.host_methods scope.now.view receiver.0 name.now))
         (Object receiver.0 receiver.1 ∷ args.now)) }
+    ensures makers { IfOk result (λ b. AreRivals b.makers scope.now.ancestors
+        (spec.factories scope.now.view b.made) (Object receiver.0 receiver.1 ∷ args.now)) }
     ensures types { IfOk result
         (λ b. b.types.items ≡ Object receiver.0 receiver.1 ∷ args.now) }
     ensures property { IfOk result (λ b. b.property ≡ None) }
@@ -156,7 +219,15 @@ fn of_methods(
     let (number, read_only) = receiver;
     let methods = host_methods(alloc, scope, number, name)?;
     let types = types_with_receiver(alloc, number, read_only, args)?;
-    of_candidates(alloc, scope, methods.candidates(), types, false, named)
+    of_candidates(
+        alloc,
+        scope,
+        methods.candidates(),
+        types,
+        false,
+        named,
+        NO_TYPE,
+    )
 }
 
 /// What is kept, for a use of this name, of what a module sees. The only error is want of memory.
@@ -169,6 +240,8 @@ pub fn beside_of(
 ) -> Result<Beside, AllocError>
     ensures rivals { IfOk result (λ b. AreRivals b.rivals scope.now.ancestors
         (spec.candidates_for scope.now name.now asks.now) (spec.types_of asks.now)) }
+    ensures makers { IfOk result (λ b. AreRivals b.makers scope.now.ancestors
+        (spec.factories scope.now.view b.made) (spec.types_of asks.now)) }
     ensures types { IfOk result (λ b. b.types.items ≡ spec.types_of asks.now) }
     ensures property { IfOk result
         (λ b. b.property ≡ spec.property_for scope.now name.now asks.now) }

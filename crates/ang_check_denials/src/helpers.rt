@@ -1,5 +1,5 @@
 //! The hidden entries that would resolve a refused use.
-ghost use Rattle.std.specs.Prelude.{◌≡◌, ◌<◌, ◌≤◌, ◌||◌, ◌++◌, [], ◌∷◌, if◌then◌else◌, filter, length, option_to_list, IfOk, OnOk};
+ghost use Rattle.std.specs.Prelude.{◌≡◌, ◌<◌, ◌≤◌, ◌||◌, ◌&&◌, ◌++◌, [], ◌∷◌, false, if◌then◌else◌, filter, length, option_to_list, IfOk, OnOk};
 ghost use Rattle.ang_view.specs.Hidden.{numbers_of};
 ghost use Rattle.ang_view.specs.Registration.{entry_at, seen};
 ghost use Rattle.ang_types.specs.Rivals.{AreRivals};
@@ -52,28 +52,26 @@ fn is_function_entry(whole: &View, number: u32) -> bool
     }
 }
 
-/// Whether the name stays the script's though an entry is added.
-#[tactic(auto, using(crate::proofs::Helping::stays_is))]
-fn stays(
-    masked: &Masked<'_>,
-    scope: &Scope<'_>,
-    refused: &Refused,
-    asks: &Asks,
-    joined: bool,
-    number: u32,
-) -> bool
-    requires joined { joined ≡ added.is_joined scope.now refused.now.error.name asks.now }
-    ensures exact { result
-        ≡ spec.stays scope.now refused.now asks.now (entry_at masked.now.list number) }
+/// Whether the name is used as a bare one, and the script has it.
+fn is_taken(names: &Names, refused: &Refused, asks: &Asks) -> bool
+    ensures exact { result ≡ spec.is_taken names.now refused.now asks.now }
+{
+    is_bare(asks) && is_own(names, refused)
+}
+
+/// Whether the name stays the script's, which has it if it is taken, though an entry is added.
+fn stays(masked: &Masked<'_>, joined: bool, taken: bool, number: u32) -> bool
+    ensures exact { result ≡ (if joined && spec.is_function_entry (entry_at masked.now.list number)
+        then false else taken) }
 {
     if joined && is_function_entry(masked.whole(), number) {
         return false;
     }
-    is_bare(asks) && is_own(scope.names(), refused)
+    taken
 }
 
 /// Whether a use means a hidden entry once it is added, with its types, to what is seen.
-#[tactic(auto, using(crate::proofs::Helping::helps_is, crate::proofs::Helping::seen_helps_not, crate::proofs::Helping::taken_helps_not))]
+#[tactic(auto, using(crate::proofs::Helping::free_helps_is, crate::proofs::Helping::seen_helps_not, crate::proofs::Helping::kept_helps_not))]
 fn helps(
     alloc: Global,
     masked: &Masked<'_>,
@@ -81,9 +79,11 @@ fn helps(
     refused: &Refused,
     asks: &Asks,
     beside: &Beside,
+    taken: bool,
     number: u32,
 ) -> Result<bool, AllocError>
     requires view { scope.now.view ≡ seen masked.now.list masked.now.mask }
+    requires taken { taken ≡ spec.is_taken scope.now.names refused.now asks.now }
     requires rivals { AreRivals beside.now.rivals scope.now.ancestors
         (added.candidates_for scope.now refused.now.error.name asks.now) beside.now.types.items }
     requires types { beside.now.types.items ≡ added.types_of asks.now }
@@ -91,6 +91,8 @@ fn helps(
         ≡ added.property_for scope.now refused.now.error.name asks.now }
     requires joined { beside.now.joined
         ≡ added.is_joined scope.now refused.now.error.name asks.now }
+    requires makers { AreRivals beside.now.makers scope.now.ancestors
+        (added.factories scope.now.view beside.now.made) beside.now.types.items }
     requires named { beside.now.named.items
         ≡ names.types_named masked.now.list refused.now.error.name }
     requires few { number < 1024 }
@@ -100,7 +102,7 @@ fn helps(
     if !masked.hides(number) {
         return Ok(false);
     }
-    if stays(masked, scope, refused, asks, beside.joined, number) {
+    if stays(masked, beside.joined, taken, number) {
         return Ok(false);
     }
     let name = refused.error.name.as_slice();
@@ -134,10 +136,12 @@ fn helper_at(
     refused: &Refused,
     asks: &Asks,
     beside: &Beside,
+    taken: bool,
     count: u32,
     number: u32,
 ) -> Result<Option<u32>, AllocError>
     requires view { scope.now.view ≡ seen masked.now.list masked.now.mask }
+    requires taken { taken ≡ spec.is_taken scope.now.names refused.now asks.now }
     requires rivals { AreRivals beside.now.rivals scope.now.ancestors
         (added.candidates_for scope.now refused.now.error.name asks.now) beside.now.types.items }
     requires types { beside.now.types.items ≡ added.types_of asks.now }
@@ -145,6 +149,8 @@ fn helper_at(
         ≡ added.property_for scope.now refused.now.error.name asks.now }
     requires joined { beside.now.joined
         ≡ added.is_joined scope.now refused.now.error.name asks.now }
+    requires makers { AreRivals beside.now.makers scope.now.ancestors
+        (added.factories scope.now.view beside.now.made) beside.now.types.items }
     requires named { beside.now.named.items
         ≡ names.types_named masked.now.list refused.now.error.name }
     requires count { count ≡ length masked.now.list }
@@ -156,7 +162,7 @@ fn helper_at(
     if number >= count {
         return Ok(None);
     }
-    let help = helps(alloc, masked, scope, refused, asks, beside, number)?;
+    let help = helps(alloc, masked, scope, refused, asks, beside, taken, number)?;
     Ok(kept(help, number))
 }
 
@@ -192,8 +198,11 @@ fn helpers_among(
         return Ok(numbers);
     }
     let beside = beside_of(alloc, masked, scope, refused.error.name.as_slice(), asks)?;
+    let taken = is_taken(scope.names(), refused, asks);
     for number in row {
-        let helper = helper_at(alloc, masked, scope, refused, asks, &beside, count, *number)?;
+        let helper = helper_at(
+            alloc, masked, scope, refused, asks, &beside, taken, count, *number,
+        )?;
         push_number(&mut numbers, helper)?;
     }
     Ok(numbers)

@@ -1,46 +1,64 @@
 //! A registration list, and what a module of a mask does not see of it.
-ghost use Rattle.std.specs.Prelude.{◌≡◌, ◌≤◌, length};
+ghost use Rattle.std.specs.Prelude.{◌≡◌, ◌≤◌, length, option_copied, IfOk};
 ghost use Rattle.ang_view.specs.Hidden as spec;
 ghost use Rattle.ang_view.specs.Registration.{entry_at};
 ghost use Rattle.ang_check_denials.specs.Denials as denials;
+ghost use Rattle.ang_check_denials.specs.Made as candidates;
 ghost use Rattle.ang_check_denials.specs.Names as names;
 
+use crate::made::{candidate_among, made};
 use ang_kinds::{EntityNo, Mask};
+use ang_names_known::Wanted;
+use ang_types::Candidate;
 use ang_view::{EntryKind, View, names_entry};
+use std::alloc::{AllocError, Global};
 use std::marker::Model;
 
 /// A registration list, and what a module of a mask does not see of it.
+///
+/// Beside it stand its functions, factories and methods as candidates, so that none is made anew for each use that looks
+/// at it.
 #[derive(Drop)]
 pub struct Masked<'a> {
     whole: &'a View,
     hidden: &'a View,
     mask: Mask,
+    made: Vec<Option<Candidate>>,
 }
 
 impl<'a> Model for Masked<'a> {
     ghost use Rattle.std.specs.Prelude.{◌≡◌};
     ghost use Rattle.ang_view.specs.Hidden as views;
+    ghost use Rattle.ang_check_denials.specs.Made as candidates;
     ghost use Rattle.ang_check_denials.specs.Masked as value;
 
     ghost Value = { value.Masked };
 
     ghost view = { λ r. record { list = r.whole.now; mask = r.mask.0 } };
 
-    ghost invariant = { λ r. r.hidden.now ≡ views.hidden r.whole.now r.mask.0 };
+    ghost invariant = { λ r. (r.hidden.now ≡ views.hidden r.whole.now r.mask.0)
+        × (r.made.items ≡ candidates.made r.whole.now) };
 }
 
 impl<'a> Masked<'a> {
-    /// Borrows a whole list, and what a module of this mask does not see of it.
-    pub fn new(whole: &'a View, hidden: &'a View, mask: Mask) -> Masked<'a>
+    /// Borrows a whole list, and what a module of this mask does not see of it. The only error is want of memory.
+    pub fn new(
+        alloc: Global,
+        whole: &'a View,
+        hidden: &'a View,
+        mask: Mask,
+    ) -> Result<Masked<'a>, AllocError>
         requires hidden { hidden.now ≡ spec.hidden whole.now mask.0 }
-        ensures list { result.list ≡ whole.now }
-        ensures mask { result.mask ≡ mask.0 }
+        ensures list { IfOk result (λ masked. masked.list ≡ whole.now) }
+        ensures mask { IfOk result (λ masked. masked.mask ≡ mask.0) }
     {
-        Masked {
+        let made = made(alloc, whole)?;
+        Ok(Masked {
             whole,
             hidden,
             mask,
-        }
+            made,
+        })
     }
 
     /// The whole list.
@@ -70,6 +88,14 @@ impl<'a> Masked<'a> {
         ensures exact { result ≡ spec.is_hidden self.now.list self.now.mask number }
     {
         self.hidden.get(EntityNo(number)).is_some()
+    }
+
+    /// The entry of this number as a candidate, where it is wanted; of a method with its receiver in front. It takes no memory.
+    pub fn candidate(&self, wanted: &Wanted<'_>, number: u32) -> Option<&Candidate>
+        ensures exact { option_copied result
+            ≡ candidates.candidate_in self.now.list number wanted.now }
+    {
+        candidate_among(self.whole, self.made.as_slice(), wanted, number)
     }
 
     /// Whether the entry of this number is there, and its own mask does not meet the module's.

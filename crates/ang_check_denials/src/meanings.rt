@@ -1,11 +1,10 @@
 //! What a use would mean, where a hidden entry is added to what a module sees.
-ghost use Rattle.std.specs.Prelude.{◌≡◌, not, ◌&&◌, length, List, IfOk};
+ghost use Rattle.std.specs.Prelude.{◌≡◌, not, ◌&&◌, length, List, IfOk, option_copied};
 ghost use Rattle.ang_types.specs.declared.asks.Asks.TheVariants as asks_of;
 ghost use Rattle.ang_types.specs.declared.candidate.Candidate.{Candidate};
 ghost use Rattle.ang_types.specs.Rivals.{AreRivals};
 ghost use Rattle.ang_view.specs.Named.{values_named};
 ghost use Rattle.ang_view.specs.Registration.{entry_at, seen};
-ghost use Rattle.ang_names_known.specs.declared.host.Wanted.TheVariants as sought;
 ghost use Rattle.ang_names_known.specs.declared.host.WantedProperty.TheVariants as sought_property;
 ghost use Rattle.ang_names_known.specs.Added.{added_property};
 ghost use Rattle.ang_names_known.specs.Host.{property_found};
@@ -13,18 +12,18 @@ ghost use Rattle.ang_names_known.specs.Items.{is_empty};
 ghost use Rattle.ang_names_known.specs.Spaces as spaces;
 ghost use Rattle.ang_check_uses.specs.Uses.{candidates_of, functions_of};
 ghost use Rattle.ang_check_denials.specs.Added as spec;
+ghost use Rattle.ang_check_denials.specs.Made as candidates;
 ghost use Rattle.ang_check_denials.specs.Names.{types_named};
 
-use crate::beside::{Beside, factories};
+use crate::beside::{Beside, makers_of};
 use crate::masked::Masked;
 use crate::named::{is_a_type_named, is_called_by, is_enumeration_named, named_with};
-use ang_check_uses::{Scope, params_with_receiver, takes_number};
+use ang_check_uses::{Scope, takes_number};
 use ang_kinds::EntityNo;
 use ang_names_known::{
-    BorrowedText, Named, Names, SeenProperty, Wanted, WantedProperty, family_of_type, found_at,
-    property_at,
+    BorrowedText, Named, Names, SeenProperty, Wanted, WantedProperty, family_of_type, property_at,
 };
-use ang_types::{ArgType, Asks, Lineage, Rivals};
+use ang_types::{ArgType, Asks, Candidate, Lineage, Rivals};
 use ang_view::{EntryKind, View};
 use std::alloc::{AllocError, Global};
 
@@ -195,52 +194,39 @@ fn is_enumeration_number(number: u32, named: Named) -> bool
     }
 }
 
-/// Whether the function or factory that is added, where it is wanted, would be the best of all.
+/// Whether a candidate that is there would be the best beside the others.
+fn is_won(
+    lineage: &Lineage,
+    candidate: Option<&Candidate>,
+    rivals: &Rivals,
+    types: &[ArgType],
+) -> bool
+    requires size { length rivals.now.0 ≡ length types.now }
+    ensures exact { (cs : List Candidate) → AreRivals rivals.now lineage.now cs types.now →
+        result ≡ candidates.is_won lineage.now cs types.now (option_copied candidate.entry) }
+{
+    match candidate {
+        None => false,
+        Some(candidate) => rivals.would_win(lineage, candidate.params.as_slice(), types),
+    }
+}
+
+/// Whether the function, factory or method that is added, where it is wanted, would be the best of all.
+#[tactic(auto, using(crate::proofs::Making::won_as))]
 fn wins(
-    alloc: Global,
     masked: &Masked<'_>,
     lineage: &Lineage,
     added: u32,
     wanted: &Wanted<'_>,
     rivals: &Rivals,
     types: &[ArgType],
-) -> Result<bool, AllocError>
+) -> bool
     requires size { length rivals.now.0 ≡ length types.now }
-    ensures exact { IfOk result (λ won. (cs : List Candidate) →
-        AreRivals rivals.now lineage.now cs types.now → won ≡ spec.wins lineage.now spec.plain
-        cs types.now (spec.found_in masked.now.list added wanted.now)) }
+    ensures exact { (cs : List Candidate) → AreRivals rivals.now lineage.now cs types.now →
+        result ≡ spec.wins lineage.now (candidates.candidate_of wanted.now) cs types.now
+        (spec.found_in masked.now.list added wanted.now) }
 {
-    match found_at(alloc, masked.whole(), wanted, EntityNo(added))? {
-        None => Ok(false),
-        Some(function) => Ok(rivals.would_win(lineage, function.params.as_slice(), types)),
-    }
-}
-
-/// Whether the method that is added, where it is wanted, would be the best of all.
-fn method_wins(
-    alloc: Global,
-    masked: &Masked<'_>,
-    lineage: &Lineage,
-    added: u32,
-    number: u32,
-    name: &[u8],
-    beside: &Beside,
-) -> Result<bool, AllocError>
-    requires size { length beside.now.rivals.0 ≡ length beside.now.types.items }
-    ensures exact { IfOk result (λ won. (cs : List Candidate) →
-        AreRivals beside.now.rivals lineage.now cs beside.now.types.items →
-        won ≡ spec.wins lineage.now (spec.with_receiver number) cs beside.now.types.items
-        (spec.found_in masked.now.list added (sought.Method number name.now))) }
-{
-    let wanted = Wanted::Method(number, BorrowedText::new(name));
-    match found_at(alloc, masked.whole(), &wanted, EntityNo(added))? {
-        None => Ok(false),
-        Some(function) => {
-            let params = params_with_receiver(function.params, number, function.read_only)?;
-            let types = beside.types.as_slice();
-            Ok(beside.rivals.would_win(lineage, params.as_slice(), types))
-        }
-    }
+    is_won(lineage, masked.candidate(wanted, added), rivals, types)
 }
 
 /// Whether the factory that is added would be the best that makes an object of the type of this number.
@@ -250,26 +236,24 @@ fn factory_wins(
     scope: &Scope<'_>,
     added: u32,
     number: u32,
-    types: &[ArgType],
+    beside: &Beside,
 ) -> Result<bool, AllocError>
+    requires makers { AreRivals beside.now.makers scope.now.ancestors
+        (spec.factories scope.now.view beside.now.made) beside.now.types.items }
     ensures exact { IfOk result (λ won. won ≡ spec.factory_wins masked.now.list scope.now
-        types.now added number (spaces.family_of_type number)) }
+        beside.now.types.items added number (spaces.family_of_type number)) }
 {
     if family_of_type(number).is_some() {
         return Ok(false);
     }
-    let seen = factories(alloc, scope.view(), number)?;
-    let rivals = Rivals::of(alloc, scope.lineage(), seen.as_slice(), types)?;
+    let types = beside.types.as_slice();
+    let lineage = scope.lineage();
     let wanted = Wanted::Factory(number);
-    wins(
-        alloc,
-        masked,
-        scope.lineage(),
-        added,
-        &wanted,
-        &rivals,
-        types,
-    )
+    if number == beside.made {
+        return Ok(wins(masked, lineage, added, &wanted, &beside.makers, types));
+    }
+    let makers = makers_of(alloc, scope, number, types)?;
+    Ok(wins(masked, lineage, added, &wanted, &makers, types))
 }
 
 /// Whether a call of a name would mean the entry that is added, which is a function, a factory or an enumeration.
@@ -284,6 +268,8 @@ fn call_wins(
     requires view { scope.now.view ≡ seen masked.now.list masked.now.mask }
     requires rivals { AreRivals beside.now.rivals scope.now.ancestors
         (candidates_of (functions_of scope.now name.now)) beside.now.types.items }
+    requires makers { AreRivals beside.now.makers scope.now.ancestors
+        (spec.factories scope.now.view beside.now.made) beside.now.types.items }
     requires named { beside.now.named.items ≡ types_named masked.now.list name.now }
     ensures exact { IfOk result (λ won. won ≡ spec.call_wins masked.now.list scope.now name.now
         beside.now.types.items added
@@ -291,20 +277,12 @@ fn call_wins(
 {
     let types = beside.types.as_slice();
     match named_with(masked, scope, added, name, beside.named.as_slice()) {
-        Named::Object(number) => factory_wins(alloc, masked, scope, added, number, types),
+        Named::Object(number) => factory_wins(alloc, masked, scope, added, number, beside),
         Named::Enumeration(number) => Ok(number == added && takes_number(types)),
         Named::Unknown => {
             let wanted = Wanted::Function(BorrowedText::new(name));
             let lineage = scope.lineage();
-            wins(
-                alloc,
-                masked,
-                lineage,
-                added,
-                &wanted,
-                &beside.rivals,
-                types,
-            )
+            Ok(wins(masked, lineage, added, &wanted, &beside.rivals, types))
         }
     }
 }
@@ -322,6 +300,8 @@ fn call_means(
     requires view { scope.now.view ≡ seen masked.now.list masked.now.mask }
     requires rivals { AreRivals beside.now.rivals scope.now.ancestors
         (candidates_of (functions_of scope.now name.now)) beside.now.types.items }
+    requires makers { AreRivals beside.now.makers scope.now.ancestors
+        (spec.factories scope.now.view beside.now.made) beside.now.types.items }
     requires named { beside.now.named.items ≡ types_named masked.now.list name.now }
     ensures exact { IfOk result (λ won. won ≡ (spec.is_called_by masked.now.list name.now added
         && spec.call_wins masked.now.list scope.now name.now beside.now.types.items added
@@ -352,6 +332,8 @@ pub fn adds(
         (spec.candidates_for scope.now name.now asks.now) beside.now.types.items }
     requires types { beside.now.types.items ≡ spec.types_of asks.now }
     requires property { beside.now.property ≡ spec.property_for scope.now name.now asks.now }
+    requires makers { AreRivals beside.now.makers scope.now.ancestors
+        (spec.factories scope.now.view beside.now.made) beside.now.types.items }
     requires named { beside.now.named.items ≡ types_named masked.now.list name.now }
     ensures exact { IfOk result (λ won. won ≡ spec.adds masked.now.list scope.now name.now added
         (spec.named_with masked.now.list masked.now.mask scope.now added name.now) asks.now) }
@@ -365,22 +347,15 @@ pub fn adds(
         Asks::Call(_) => call_means(alloc, masked, scope, added, name, beside),
         Asks::Make(number, _) | Asks::Default(number) => {
             let wanted = Wanted::Factory(*number);
-            wins(
-                alloc,
-                masked,
-                lineage,
-                added,
-                &wanted,
-                &beside.rivals,
-                types,
-            )
+            Ok(wins(masked, lineage, added, &wanted, &beside.rivals, types))
         }
         Asks::Property(number) => {
             let wanted = WantedProperty::Member(*number, BorrowedText::new(name));
             Ok(property_wins(masked, added, &wanted, beside.property))
         }
         Asks::Method(number, _, _) => {
-            method_wins(alloc, masked, lineage, added, *number, name, beside)
+            let wanted = Wanted::Method(*number, BorrowedText::new(name));
+            Ok(wins(masked, lineage, added, &wanted, &beside.rivals, types))
         }
     }
 }

@@ -9,6 +9,7 @@ ghost use Rattle.ang_check_denials.specs.Names.{HasHidden, Picked, type_numbers}
 use crate::helpers::{helpers, push_kept};
 use crate::masked::Masked;
 use crate::rising::{behind, is_first, lower_first};
+use crate::same::is_same_use;
 use crate::sought::{help_rows, type_numbers};
 use ang_check_uses::Scope;
 use ang_index::Index;
@@ -113,7 +114,56 @@ fn push_rows(
     Ok(())
 }
 
-/// Puts the rows of a refused use at the end.
+/// The numbers of the entries that a refused use is denied, rising: none where it asks nothing.
+fn numbers_asked(
+    alloc: Global,
+    masked: &Masked<'_>,
+    hidden: &Index<u32>,
+    types: &[u32],
+    scope: &Scope<'_>,
+    refused: &Refused,
+) -> Result<Vec<u32>, AllocError>
+    requires view { scope.now.view ≡ seen masked.now.list masked.now.mask }
+    requires hidden { HasHidden masked.now.list masked.now.mask hidden.now }
+    requires types { types.now ≡ type_numbers masked.now.list }
+    ensures exact { IfOk result (λ numbers. numbers.items ≡ spec.numbers_asked masked.now.list
+        masked.now.mask scope.now refused.now refused.now.asks) }
+{
+    match &refused.asks {
+        None => Ok(Vec::new(alloc)),
+        Some(asks) => denied_numbers(alloc, masked, hidden, types, scope, refused, asks),
+    }
+}
+
+/// The same of the use after another one, of which `numbers` are those: they are taken over where the two ask the same.
+#[tactic(auto, using(crate::proofs::Kept::same_numbers))]
+fn numbers_after(
+    alloc: Global,
+    masked: &Masked<'_>,
+    hidden: &Index<u32>,
+    types: &[u32],
+    scope: &Scope<'_>,
+    last: &Refused,
+    numbers: Vec<u32>,
+    refused: &Refused,
+) -> Result<Vec<u32>, AllocError>
+    requires view { scope.now.view ≡ seen masked.now.list masked.now.mask }
+    requires hidden { HasHidden masked.now.list masked.now.mask hidden.now }
+    requires types { types.now ≡ type_numbers masked.now.list }
+    requires numbers { numbers.items ≡ spec.numbers_asked masked.now.list masked.now.mask
+        scope.now last.now last.now.asks }
+    ensures exact { IfOk result (λ after. after.items ≡ spec.numbers_asked masked.now.list
+        masked.now.mask scope.now refused.now refused.now.asks) }
+{
+    if is_same_use(last, refused) {
+        return Ok(numbers);
+    }
+    numbers_asked(alloc, masked, hidden, types, scope, refused)
+}
+
+/// Puts the rows of a refused use at the end, and gives the numbers of the entries that it is denied. `numbers` are those of
+/// the use before it.
+#[tactic(auto, using(crate::proofs::Kept::rows_of_numbers))]
 fn push_denied(
     alloc: Global,
     rows: &mut Vec<Denial>,
@@ -121,25 +171,57 @@ fn push_denied(
     hidden: &Index<u32>,
     types: &[u32],
     scope: &Scope<'_>,
+    last: &Refused,
+    numbers: Vec<u32>,
     refused: &Refused,
-) -> Result<(), AllocError>
+) -> Result<Vec<u32>, AllocError>
     requires view { scope.now.view ≡ seen masked.now.list masked.now.mask }
     requires hidden { HasHidden masked.now.list masked.now.mask hidden.now }
     requires types { types.now ≡ type_numbers masked.now.list }
+    requires numbers { numbers.items ≡ spec.numbers_asked masked.now.list masked.now.mask
+        scope.now last.now last.now.asks }
     ensures pushed { OnOk result (rows.new.items ≡ rows.old.items
         ++ spec.rows_for masked.now.list masked.now.mask scope.now refused.now) }
+    ensures exact { IfOk result (λ after. after.items ≡ spec.numbers_asked masked.now.list
+        masked.now.mask scope.now refused.now refused.now.asks) }
 {
-    let Some(asks) = &refused.asks else {
-        return Ok(());
-    };
-    let numbers = denied_numbers(alloc, masked, hidden, types, scope, refused, asks)?;
-    push_rows(rows, masked, refused, numbers.as_slice())
+    let numbers = numbers_after(alloc, masked, hidden, types, scope, last, numbers, refused)?;
+    push_rows(rows, masked, refused, numbers.as_slice())?;
+    Ok(numbers)
+}
+
+/// The rows of these refused uses. `first` is whichever use is looked at before them.
+fn denied_after(
+    alloc: Global,
+    masked: &Masked<'_>,
+    scope: &Scope<'_>,
+    first: &Refused,
+    refused: &[Refused],
+) -> Result<Vec<Denial>, AllocError>
+    requires view { scope.now.view ≡ seen masked.now.list masked.now.mask }
+    ensures exact { IfOk result (λ rows. rows.items ≡ flat_map
+        (spec.rows_for masked.now.list masked.now.mask scope.now) refused.now) }
+{
+    let hidden = help_rows(alloc, masked)?;
+    let all_types = type_numbers(alloc, masked)?;
+    let types = all_types.as_slice();
+    let mut rows = Vec::new(alloc);
+    let mut last = first;
+    let mut numbers = numbers_asked(alloc, masked, &hidden, types, scope, first)?;
+    for one in refused {
+        numbers = push_denied(
+            alloc, &mut rows, masked, &hidden, types, scope, last, numbers, one,
+        )?;
+        last = one;
+    }
+    Ok(rows)
 }
 
 /// The rows of these refused uses, where `scope` has what the module sees of the list and what its scripts declare: of each
 /// in turn one row for each entry that is denied, in the order of entries.
 ///
-/// The only error is want of memory.
+/// Uses that follow one another and ask the same are looked at once; each of the others looks at each hidden entry by whose
+/// name it could mean that. A row has 24 bytes. The only error is want of memory.
 pub fn denied(
     alloc: Global,
     masked: &Masked<'_>,
@@ -150,19 +232,8 @@ pub fn denied(
     ensures exact { IfOk result (λ rows. rows.items ≡ flat_map
         (spec.rows_for masked.now.list masked.now.mask scope.now) refused.now) }
 {
-    let hidden = help_rows(alloc, masked)?;
-    let types = type_numbers(alloc, masked)?;
-    let mut rows = Vec::new(alloc);
-    for one in refused {
-        push_denied(
-            alloc,
-            &mut rows,
-            masked,
-            &hidden,
-            types.as_slice(),
-            scope,
-            one,
-        )?;
+    match refused {
+        [] => Ok(Vec::new(alloc)),
+        [first, ..] => denied_after(alloc, masked, scope, first, refused),
     }
-    Ok(rows)
 }

@@ -1,3 +1,4 @@
+pub mod Contending
 pub mod Families
 pub mod Operands
 pub mod Passing

@@ -9,9 +9,9 @@ ghost use Rattle.ang_check_uses.specs.Uses as uses;
 ghost use Rattle.ang_names_known.specs.Spaces as spaces;
 
 use crate::called::{CallSite, called_bare, called_own};
-use ang_check_context::{BodyContext, Locals, makers, resolved, types_of};
+use ang_check_context::{BodyContext, Locals, best_maker, resolved, types_of};
 use ang_check_operators::{Operand, TypingError};
-use ang_check_uses::{Resolution, best_of_those};
+use ang_check_uses::Resolution;
 use ang_kinds::{ErrorKind, List};
 use ang_lex::Token;
 use ang_names_known::family_of_type;
@@ -31,8 +31,7 @@ fn maker_meant(
         (all_types (view_operands operands.now))) }
 {
     let types = types_of(alloc, operands)?;
-    let callables = makers(alloc, context, number)?;
-    Ok(best_of_those(context.lineage(), unviable, callables, types.as_slice()))
+    best_maker(alloc, context, unviable, number, types.as_slice())
 }
 
 fn made_by(

@@ -1,23 +1,35 @@
 //! Methods of the scripts.
-ghost use Rattle.std.specs.Prelude.{◌≡◌, ◌++◌, ◌∷◌, IfOk, OnOk, map as list_map};
+ghost use Rattle.std.specs.Prelude.{◌≡◌, ◌∷◌, false, slice_get, IfOk, OnOk, map as list_map};
 ghost use Rattle.std.specs.List.{flat_map};
 ghost use Rattle.ang_check_operators.specs.Refusals.{Gives};
 ghost use Rattle.ang_check_operators.specs.View.{view_operand, view_operands};
 ghost use Rattle.ang_check_typing.specs.Calls as spec;
 ghost use Rattle.ang_check_typing.specs.Methods as methods_spec;
 ghost use Rattle.ang_check_context.specs.Operands.{types_of as all_types};
+ghost use Rattle.ang_check_uses.specs.Contest as contests;
 ghost use Rattle.ang_check_uses.specs.Uses as uses;
+ghost use Rattle.ang_types.specs.Best.{best_of};
+ghost use Rattle.ang_types.specs.declared.arg_type.ArgType.TheVariants.{Object};
 
 use crate::called::{CallSite, called_own, with_receiver};
 use ang_check_context::{BodyContext, Receiver, types_of};
 use ang_check_operators::{Operand, TypingError};
-use ang_check_uses::{Callable, Callables, Called, Reach, Resolution, best_method};
-use ang_kinds::{List, Pass};
+use ang_check_uses::{Callable, Called, Contender, Contest, Outcome, Reach, Resolution, called_at};
+use ang_kinds::{ErrorKind, List, Pass};
 use ang_lex::Token;
 use ang_names_known::{FoundMethod, ScriptMethod, parameters_of};
 use ang_typed::TypedCallee;
 use ang_types::{ArgType, Candidate, Lineage};
 use std::alloc::{AllocError, Global};
+
+/// How a method is called.
+#[derive(Clone, Copy)]
+pub enum Dispatch {
+    /// By its slot: what runs is the method of the object's class there.
+    Virtual,
+    /// As its class has it, whatever the object's class. One without a body can't be called so.
+    Direct,
+}
 
 /// The parameters of a method, with its receiver in front.
 fn method_parameters(
@@ -57,94 +69,239 @@ fn method_called(
     })
 }
 
-/// Each method as it is called on an object: that of the object's class in the slot.
-fn virtual_methods(
-    alloc: Global,
-    number: u32,
-    methods: &[FoundMethod<'_>],
-) -> Result<Callables, AllocError>
-    ensures exact { IfOk result (λ c. c ≡ list_map (spec.virtual_method number) methods.now) }
+/// What a call of a method runs, where it can be called so.
+fn callee_of(dispatch: Dispatch, method: &ScriptMethod) -> Option<TypedCallee>
+    ensures exact { result ≡ methods_spec.callee_of dispatch method.now }
 {
-    let mut callables = Callables::new(alloc);
-    for method in methods {
-        let callee = TypedCallee::Chosen(method.method().slot);
-        let callable = method_called(alloc, callee, number, method)?;
-        callables.push(callable)?;
+    match dispatch {
+        Dispatch::Virtual => Some(TypedCallee::Chosen(method.slot)),
+        Dispatch::Direct => {
+            let body = method.body?;
+            Some(TypedCallee::Own(body))
+        }
     }
-    Ok(callables)
 }
 
-fn push_direct(
+/// A method as a function that a call can mean, where it can be called so.
+fn callable_as(
     alloc: Global,
-    callables: &mut Callables,
+    dispatch: Dispatch,
     number: u32,
     found: &FoundMethod<'_>,
-) -> Result<(), AllocError>
-    ensures pushed { OnOk result
-        (callables.new ≡ callables.old ++ spec.direct_method number found.now) }
+) -> Result<Option<Callable>, AllocError>
+    ensures exact { IfOk result (λ c. c ≡ methods_spec.callable_as dispatch number found.now) }
 {
-    if let Some(body) = found.method().body {
-        let callable = method_called(alloc, TypedCallee::Own(body), number, found)?;
-        callables.push(callable)?;
-    }
-    Ok(())
+    let Some(callee) = callee_of(dispatch, found.method()) else {
+        return Ok(None);
+    };
+    let callable = method_called(alloc, callee, number, found)?;
+    Ok(Some(callable))
 }
 
-/// Each method as its class has it, whatever the object's class. One without a body is left out.
-fn direct_methods(
+/// Takes in the method of a place, where it can be called so. Its parameters are looked at where they lie.
+fn enter(
+    alloc: Global,
+    contest: &mut Contest,
+    lineage: &Lineage,
+    args: &[ArgType],
+    dispatch: Dispatch,
+    number: u32,
+    place: usize,
+    found: &FoundMethod<'_>,
+) -> Result<(), AllocError>
+    ensures entered { OnOk result (contest.new ≡ contests.after lineage.now args.now contest.old
+        (contests.entry_in (Contender.Method place)
+        (methods_spec.callable_as dispatch number found.now))) }
+{
+    let method = found.method();
+    if callee_of(dispatch, method).is_none() {
+        return Ok(());
+    }
+    let receiver = ArgType::Object {
+        number,
+        read_only: method.read_only,
+    };
+    let contender = Contender::Method(place);
+    contest.enter_method(alloc, lineage, args, contender, receiver, &method.function)
+}
+
+/// These methods, as they are taken in for arguments of these types. The receiver's is the first of these.
+fn methods_entered(
+    alloc: Global,
+    lineage: &Lineage,
+    methods: &[FoundMethod<'_>],
+    dispatch: Dispatch,
+    number: u32,
+    args: &[ArgType],
+) -> Result<Contest, AllocError>
+    ensures entered { IfOk result (λ contest. contest ≡ contests.after lineage.now args.now
+        contests.fresh (methods_spec.method_entries dispatch number 0 methods.now)) }
+{
+    let mut contest = Contest::new(alloc);
+    for place in 0..methods.len() {
+        let found = &methods[place];
+        enter(
+            alloc,
+            &mut contest,
+            lineage,
+            args,
+            dispatch,
+            number,
+            place,
+            found,
+        )?;
+    }
+    Ok(contest)
+}
+
+/// The method of a place as a function that a call can mean.
+fn method_at(
+    alloc: Global,
+    methods: &[FoundMethod<'_>],
+    dispatch: Dispatch,
+    number: u32,
+    place: usize,
+) -> Result<Option<Callable>, AllocError>
+    ensures exact { IfOk result
+        (λ c. c ≡ methods_spec.method_at dispatch number (slice_get methods.now place)) }
+{
+    match methods.get(place) {
+        None => Ok(None),
+        Some(found) => callable_as(alloc, dispatch, number, found),
+    }
+}
+
+/// The method that a contender names, as a function that a call can mean.
+fn method_named(
+    alloc: Global,
+    methods: &[FoundMethod<'_>],
+    dispatch: Dispatch,
+    number: u32,
+    contender: Contender,
+) -> Result<Option<Callable>, AllocError>
+    ensures exact { IfOk result
+        (λ c. c ≡ methods_spec.method_by dispatch number methods.now contender) }
+{
+    match contender {
+        Contender::Method(place) => method_at(alloc, methods, dispatch, number, place),
+        Contender::Function(_)
+        | Contender::Import(_)
+        | Contender::Entry(_)
+        | Contender::Constructor(_) => Ok(None),
+    }
+}
+
+/// The types of a receiver and of the operands after it.
+fn types_on(
     alloc: Global,
     number: u32,
-    methods: &[FoundMethod<'_>],
-) -> Result<Callables, AllocError>
-    ensures exact { IfOk result (λ c. c ≡ flat_map (spec.direct_method number) methods.now) }
+    read_only: bool,
+    operands: &[Operand],
+) -> Result<Vec<ArgType>, AllocError>
+    ensures exact { IfOk result (λ types. types.items
+        ≡ Object number read_only ∷ all_types (view_operands operands.now)) }
 {
-    let mut callables = Callables::new(alloc);
-    for method in methods {
-        push_direct(alloc, &mut callables, number, method)?;
-    }
-    Ok(callables)
+    let mut types = types_of(alloc, operands)?;
+    types.insert(0, ArgType::Object { number, read_only })?;
+    Ok(types)
 }
 
-/// The best of some methods on this receiver, for these operands.
+/// Whether no method takes the operands on a receiver that may be changed.
+#[tactic(auto, using(crate::proofs::Contending::viable_is))]
+fn takes_none_changed(
+    alloc: Global,
+    lineage: &Lineage,
+    methods: &[FoundMethod<'_>],
+    dispatch: Dispatch,
+    number: u32,
+    operands: &[Operand],
+) -> Result<bool, AllocError>
+    ensures exact { IfOk result (λ none. none ≡ uses.is_none_viable (best_of lineage.now
+        (uses.candidates_of (methods_spec.callables_as dispatch number methods.now))
+        (Object number false ∷ all_types (view_operands operands.now)))) }
+{
+    let types = types_on(alloc, number, false, operands)?;
+    let contest = methods_entered(alloc, lineage, methods, dispatch, number, types.as_slice())?;
+    Ok(contest.outcome().is_none_viable())
+}
+
+/// Why no method takes the operands on this receiver.
+fn unmatched(
+    alloc: Global,
+    lineage: &Lineage,
+    methods: &[FoundMethod<'_>],
+    dispatch: Dispatch,
+    on: Receiver,
+    operands: &[Operand],
+) -> Result<ErrorKind, AllocError>
+    ensures exact { IfOk result (λ kind. kind ≡ uses.unmatched lineage.now
+        (methods_spec.callables_as dispatch on.number methods.now) on.number on.read_only
+        (all_types (view_operands operands.now))) }
+{
+    if !on.read_only {
+        return Ok(ErrorKind::NoMatch);
+    }
+    if takes_none_changed(alloc, lineage, methods, dispatch, on.number, operands)? {
+        Ok(ErrorKind::NoMatch)
+    } else {
+        Ok(ErrorKind::Const)
+    }
+}
+
+/// What an outcome among these methods means.
+fn picked(
+    alloc: Global,
+    lineage: &Lineage,
+    methods: &[FoundMethod<'_>],
+    dispatch: Dispatch,
+    on: Receiver,
+    operands: &[Operand],
+    outcome: Outcome,
+) -> Result<Resolution, AllocError>
+    ensures exact { IfOk result (λ r. r
+        ≡ contests.meant_by (methods_spec.method_by dispatch on.number methods.now)
+        (uses.unmatched lineage.now (methods_spec.callables_as dispatch on.number methods.now)
+        on.number on.read_only (all_types (view_operands operands.now))) outcome) }
+{
+    match outcome {
+        Outcome::NoViable => {
+            let kind = unmatched(alloc, lineage, methods, dispatch, on, operands)?;
+            Ok(Resolution::Refused(kind))
+        }
+        Outcome::Ambiguous => Ok(Resolution::Refused(ErrorKind::Ambiguous)),
+        Outcome::Best(contender) => {
+            let callable = method_named(alloc, methods, dispatch, on.number, contender)?;
+            Ok(called_at(callable))
+        }
+    }
+}
+
+/// The best of some methods on this receiver, for these operands. Each is looked at once, and only the best is copied.
+#[tactic(auto, using(crate::proofs::Contending::no_method, crate::proofs::Contending::method_is))]
 fn best_on(
     alloc: Global,
     lineage: &Lineage,
-    callables: Callables,
-    on: Receiver,
-    operands: &[Operand],
-) -> Result<Resolution, AllocError>
-    ensures exact { IfOk result (λ r. r ≡ uses.best_method lineage.now callables on.number
-        on.read_only (all_types (view_operands operands.now))) }
-{
-    let types = types_of(alloc, operands)?;
-    let Receiver { number, read_only } = on;
-    best_method(
-        alloc,
-        lineage,
-        callables,
-        number,
-        read_only,
-        types.as_slice(),
-    )
-}
-
-/// What a call of one of these methods on a receiver means, for these operands.
-fn virtual_meant(
-    alloc: Global,
-    lineage: &Lineage,
     methods: &[FoundMethod<'_>],
+    dispatch: Dispatch,
     on: Receiver,
     operands: &[Operand],
 ) -> Result<Resolution, AllocError>
     ensures exact { IfOk result (λ r. r ≡ uses.best_method lineage.now
-        (list_map (spec.virtual_method on.number) methods.now) on.number on.read_only
+        (methods_spec.callables_as dispatch on.number methods.now) on.number on.read_only
         (all_types (view_operands operands.now))) }
 {
-    let callables = virtual_methods(alloc, on.number, methods)?;
-    best_on(alloc, lineage, callables, on, operands)
+    let Receiver { number, read_only } = on;
+    let types = types_on(alloc, number, read_only, operands)?;
+    let contest = methods_entered(alloc, lineage, methods, dispatch, number, types.as_slice())?;
+    if contest.is_empty() {
+        return Ok(Resolution::Refused(ErrorKind::UnknownName));
+    }
+    let outcome = contest.outcome();
+    picked(alloc, lineage, methods, dispatch, on, operands, outcome)
 }
 
-/// The same of the methods as their class has them.
+/// What a call of one of these methods on a receiver means, for these operands: each as its class has it, whatever the
+/// object's class. One without a body is left out.
 pub fn direct_meant(
     alloc: Global,
     lineage: &Lineage,
@@ -156,8 +313,7 @@ pub fn direct_meant(
         (flat_map (spec.direct_method on.number) methods.now) on.number on.read_only
         (all_types (view_operands operands.now))) }
 {
-    let callables = direct_methods(alloc, on.number, methods)?;
-    best_on(alloc, lineage, callables, on, operands)
+    best_on(alloc, lineage, methods, Dispatch::Direct, on, operands)
 }
 
 /// A call on this receiver that was resolved among methods of the scripts.
@@ -199,7 +355,13 @@ pub fn own_method(
         (list_map (spec.virtual_method on.number) methods.now)
         on.number on.read_only (all_types (view_operands operands.items)))) }
 {
-    let lineage = context.lineage();
-    let resolution = virtual_meant(alloc, lineage, methods, on, operands.as_slice())?;
+    let resolution = best_on(
+        alloc,
+        context.lineage(),
+        methods,
+        Dispatch::Virtual,
+        on,
+        operands.as_slice(),
+    )?;
     called_on(alloc, context, name, receiver, operands, resolution)
 }

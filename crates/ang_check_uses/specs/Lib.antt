@@ -1,3 +1,6 @@
 pub mod CallableKinds
 pub mod Callables
+pub mod Choosing
+pub mod Contest
+pub mod Scores
 pub mod Uses

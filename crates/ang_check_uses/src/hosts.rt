@@ -66,7 +66,7 @@ fn host_callable(asked: HostEntity, gives: ArgType, params: List<(ArgType, Pass)
 /// A function of the host as one that a call can mean.
 ///
 /// The only error is want of memory.
-fn callable_as(usage: HostCallKind, function: SeenFunction) -> Result<Callable, AllocError>
+pub fn callable_as(usage: HostCallKind, function: SeenFunction) -> Result<Callable, AllocError>
     ensures exact { IfOk result (λ c. c ≡ kinds.host_callable_as usage function) }
 {
     let SeenFunction {
@@ -124,24 +124,6 @@ pub fn push_wanted(
 {
     let hosts = host_where(alloc, view, wanted)?;
     push_hosts(found, usage, hosts)
-}
-
-/// The factories of the host type of this number, each as what makes an object.
-///
-/// The only error is want of memory.
-pub fn factories_of(alloc: Global, view: &View, number: u32) -> Result<Callables, AllocError>
-    ensures exact { IfOk result (λ c. c ≡ spec.factories_of view.now number) }
-{
-    let mut found = Callables::new(alloc);
-    let wanted = Wanted::Factory(number);
-    push_wanted(
-        alloc,
-        &mut found,
-        view,
-        &wanted,
-        HostCallKind::Maker(number),
-    )?;
-    Ok(found)
 }
 
 /// The methods of this name of the host type of this number, each with its receiver in front.

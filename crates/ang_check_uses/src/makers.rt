@@ -6,13 +6,9 @@ ghost use Rattle.ang_check_uses.specs.CallableKinds as kinds;
 ghost use Rattle.ang_check_uses.specs.Uses as spec;
 
 use crate::callables::{Callables, push_callable};
-use crate::hosts::factories_of;
-use crate::scope::Scope;
 use crate::uses::{Callable, Called};
 use ang_kinds::{List, Pass};
-use ang_names_known::{
-    Default, Family, ScriptConstructor, default_of, family_of_type, parameters_of,
-};
+use ang_names_known::{Default, Family, ScriptConstructor, default_of, parameters_of};
 use ang_types::{ArgType, Candidate};
 use std::alloc::{AllocError, Global};
 
@@ -44,7 +40,7 @@ fn default_maker(alloc: Global, family: usize, number: u32, default: Default) ->
     }
 }
 
-fn constructor_of(
+pub fn constructor_of(
     alloc: Global,
     family: usize,
     number: u32,
@@ -95,7 +91,7 @@ fn default_makers(
 
 /// The constructors of a class, or the default one where it has none; an interface has none.
 #[tactic(auto, using(ang_names_known::proofs::Kin::empty_is))]
-fn makers_in(
+pub fn makers_in(
     alloc: Global,
     families: &[Family],
     family: usize,
@@ -116,18 +112,5 @@ fn makers_in(
         default_makers(alloc, families, family, number)
     } else {
         constructors_of(alloc, family, number, constructors)
-    }
-}
-
-/// All that makes an object of the type of this number.
-///
-/// The only error is want of memory.
-#[tactic(auto, unfolding(crate::specs::Uses::makers_of))]
-pub fn makers_of(alloc: Global, scope: &Scope<'_>, number: u32) -> Result<Callables, AllocError>
-    ensures exact { IfOk result (λ c. c ≡ spec.makers_of scope.now number) }
-{
-    match family_of_type(number) {
-        None => factories_of(alloc, scope.view(), number),
-        Some(family) => makers_in(alloc, scope.names().families(), family, number),
     }
 }

@@ -5,11 +5,9 @@ ghost use Rattle.ang_names_known.specs.Host as host;
 ghost use Rattle.ang_names_known.specs.Spaces as spaces;
 ghost use Rattle.ang_check_uses.specs.Uses as spec;
 
-use crate::hosts::{entity_of, factories_of, host_methods};
-use crate::makers::makers_of;
-use crate::picking::{best_function, best_method, best_of_those};
+use crate::choosing::{factory_meant, function_meant, host_method_meant, maker_meant};
+use crate::hosts::entity_of;
 use crate::scope::Scope;
-use crate::scripts::functions_of;
 use crate::uses::Resolution;
 use crate::values::{enumeration_called, value_meant};
 use ang_kinds::ErrorKind;
@@ -140,15 +138,9 @@ fn called_name(
     ensures exact { IfOk result (λ r. r ≡ spec.called_name scope.now name.now args.now) }
 {
     match type_named(scope, name) {
-        Named::Object(number) => {
-            let makers = makers_of(alloc, scope, number)?;
-            Ok(best_of_those(scope.lineage(), ErrorKind::NoMatch, makers, args))
-        }
+        Named::Object(number) => maker_meant(alloc, scope, ErrorKind::NoMatch, number, args),
         Named::Enumeration(number) => Ok(enumeration_called(number, args)),
-        Named::Unknown => {
-            let functions = functions_of(alloc, scope, name)?;
-            Ok(best_function(scope.lineage(), functions, args))
-        }
+        Named::Unknown => function_meant(alloc, scope, name, args),
     }
 }
 
@@ -163,8 +155,7 @@ fn made(
     ensures exact { IfOk result (λ r. r ≡ spec.best_of_those scope.now.ancestors unviable
         (spec.factories_of scope.now.view number) args.now) }
 {
-    let factories = factories_of(alloc, scope.view(), number)?;
-    Ok(best_of_those(scope.lineage(), unviable, factories, args))
+    factory_meant(alloc, scope, unviable, number, args)
 }
 
 /// The best method of a host type on a receiver that is read only or not, for arguments of these types.
@@ -179,8 +170,7 @@ fn method_meant(
         (spec.host_methods scope.now.view receiver.0 name.now) receiver.0 receiver.1 args.now) }
 {
     let (number, read_only) = receiver;
-    let methods = host_methods(alloc, scope, number, name)?;
-    best_method(alloc, scope.lineage(), methods, number, read_only, args)
+    host_method_meant(alloc, scope, number, name, read_only, args)
 }
 
 /// What a use of this name means, where no local and no member of a script's class has it.

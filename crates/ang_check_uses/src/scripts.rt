@@ -33,7 +33,7 @@ fn called_in(declared: FunctionList, number: usize) -> Called
     }
 }
 
-fn script_callable(
+pub fn script_callable(
     alloc: Global,
     declared: FunctionList,
     functions: &[ScriptFunction],

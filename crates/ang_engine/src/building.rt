@@ -28,7 +28,9 @@ ghost use Rattle.ang_engine_modules.specs.World.{module_at, module_in, left_to};
 use crate::budget::may_run;
 use crate::ending::end_globals;
 use ang_engine_build::{NoProgram, Program, build_sections};
-use ang_engine_modules::{LoadedModule, Module, ModuleList, Modules, Refusal, find, put_globals};
+use ang_engine_modules::{
+    KeptTree, LoadedModule, Module, ModuleList, Modules, Refusal, WholeModule, find, put_globals,
+};
 use ang_host::{Driver, EventBuffer};
 use ang_kinds::{Denial, Error, Fault, List, Mask};
 use ang_meaning::{Routine, Slot};
@@ -89,7 +91,7 @@ fn with_view(
     name: &[u8],
     view: View,
     program: Program,
-) -> Result<LoadedModule, AllocError>
+) -> Result<WholeModule, AllocError>
     ensures name { IfOk result (λ l. l.name ≡ name.now) }
     ensures view { IfOk result (λ l. l.view ≡ view) }
     ensures program { IfOk result (λ l. resolved_in l ≡ resolved_of program) }
@@ -98,13 +100,14 @@ fn with_view(
     let name = List::from_vec(Vec::from_slice(alloc, name)?);
     let Program { names, tree } = program;
     let links = List::from_vec(unbound_links(alloc, tree.imports.as_slice())?);
-    Ok(LoadedModule {
+    let loaded = LoadedModule {
         name,
         names,
         view,
-        tree,
+        tree: KeptTree::of(alloc, &tree)?,
         links,
-    })
+    };
+    Ok(WholeModule::new(loaded, tree))
 }
 
 /// What the sections build to over what the mask sees.
@@ -114,7 +117,7 @@ fn compile(
     name: &[u8],
     mask: Mask,
     sections: &[List<u8>],
-) -> Result<LoadedModule, NoProgram>
+) -> Result<WholeModule, NoProgram>
     requires few { length sections.now < 2 ^ 32 }
     ensures compiled { IsCompiled result
         (build_of (seen registry.now.entries mask.0) sections.now) }
@@ -142,7 +145,7 @@ fn compile_waiting(
     alloc: Global,
     registry: &Registry,
     from: &mut Module,
-) -> Result<LoadedModule, NoProgram>
+) -> Result<WholeModule, NoProgram>
     ensures compiled { IsCompiled result
         (build_of (seen registry.now.entries from.old.mask.0) from.old.sections.items) }
     ensures denials { HasDenials result
@@ -174,7 +177,7 @@ fn load(
     alloc: Global,
     code: &mut Modules,
     home: u32,
-    loaded: LoadedModule,
+    loaded: WholeModule,
 ) -> Result<Vec<Slot>, AllocError>
     requires sound { SoundProgram loaded.view (view_typed loaded.tree) }
     requires unbound { loaded.links ≡ list_map (λ h. None) loaded.tree.imports }
@@ -200,7 +203,7 @@ fn start(
     machine: &mut Machine,
     events: &mut EventBuffer,
     home: u32,
-    loaded: LoadedModule,
+    loaded: WholeModule,
     budget: u64,
 ) -> Result<(), BuildRefused>
     requires sound { SoundProgram loaded.view (view_typed loaded.tree) }
@@ -248,7 +251,7 @@ fn compile_place(
     alloc: Global,
     registry: &Registry,
     place: &mut Option<Module>,
-) -> Result<LoadedModule, NoProgram>
+) -> Result<WholeModule, NoProgram>
     requires there { IsSome place.old }
     ensures compiled { (l : Option LoadedModule) → IsCompiled result
         (build_of (seen registry.now.entries (module_in (place_of place.old l)).mask)

@@ -11,6 +11,7 @@ use Rattle.ang_meaning.specs.declared.routine.Routine.{Routine}
 use Rattle.ang_meaning.specs.declared.routine.Passing.{Passing}
 use Rattle.ang_typed.specs.declared.program.Heading.{Heading}
 use Rattle.ang_typed.specs.Typed as tree
+use Rattle.ang_typed.specs.declared.program.Typed.{Typed}
 use Rattle.ang_typed.specs.View.{view_typed}
 use Rattle.ang_source.specs.Meaning.{nothing, heading_among, initializers_from, passings_of, passings_in, results_in, routine}
 use Rattle.ang_source.specs.Sound.{SoundProgram}
@@ -67,6 +68,26 @@ coded m c b codes name bodies imports bound entities classes slots params result
   slots = slots;
   sound = sound;
 }
+
+-- the same by a tree that is the module's
+pub coded_by : (m : ℕ) (c : ModuleCode) (b : LoadedModule) (p : Typed) (codes : List RoutineCode) → p ≡ b.tree
+    → c.name.items ≡ b.name → c.bodies.items ≡ codes
+    → list_map (λ y. y.params.items) c.imports.items ≡ headings_in p.imports → list_map (λ y. y.bound) c.imports.items ≡ list_map (λ h. None) p.imports
+    → c.entities.items ≡ uses_of b.view
+    → list_map class_of c.classes.items ≡ classes_from m p.classes 0 p.classes → list_map (λ y. y.items) c.slots.items ≡ headings_in p.methods
+    → list_map (λ x. x.params.items) codes ≡ passings_in (view_typed p) → list_map (λ x. x.result) codes ≡ results_in (view_typed p) → IsCompiled (view_typed p) codes → SoundProgram b.view (view_typed b.tree)
+    → b.links ≡ list_map (λ h. None) b.tree.imports → IsCodeOf m (Some c) (module_of (Some b))
+coded_by m c b p codes same name bodies imports bound entities classes slots params results compiled sound unbound =
+    coded m c b codes name bodies
+    (subst (λ t. list_map (λ y. y.params.items) c.imports.items ≡ headings_in t.imports) same imports)
+    (subst (λ t. list_map (λ y. y.bound) c.imports.items ≡ list_map (λ h. None) t.imports) same bound)
+    entities
+    (subst (λ t. list_map class_of c.classes.items ≡ classes_from m t.classes 0 t.classes) same classes)
+    (subst (λ t. list_map (λ y. y.items) c.slots.items ≡ headings_in t.methods) same slots)
+    (subst (λ t. list_map (λ x. x.params.items) codes ≡ passings_in (view_typed t)) same params)
+    (subst (λ t. list_map (λ x. x.result) codes ≡ results_in (view_typed t)) same results)
+    (subst (λ t. IsCompiled (view_typed t) codes) same compiled)
+    sound unbound
 
 -- ---- all places
 

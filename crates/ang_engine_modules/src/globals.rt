@@ -3,7 +3,6 @@ ghost use Rattle.std.specs.Prelude.{◌≡◌, IfOk, map as list_map};
 ghost use Rattle.ang_source.specs.Meaning.{default_in};
 
 use ang_meaning::Slot;
-use ang_typed::Global as GlobalVariable;
 use ang_types::ArgType;
 use std::alloc::{AllocError, Global};
 
@@ -21,17 +20,16 @@ fn default_in(ty: ArgType) -> Slot
     }
 }
 
-/// 0, `false` or null for each global.
+/// 0, `false` or null for each global of these types.
 ///
 /// # Errors
 /// Want of memory.
-pub fn defaults(alloc: Global, globals: &[GlobalVariable]) -> Result<Vec<Slot>, AllocError>
-    ensures exact { IfOk result
-        (λ values. values.items ≡ list_map (λ g. default_in g.ty) globals.now) }
+pub fn defaults(alloc: Global, globals: &[ArgType]) -> Result<Vec<Slot>, AllocError>
+    ensures exact { IfOk result (λ values. values.items ≡ list_map default_in globals.now) }
 {
     let mut values = Vec::with_capacity(alloc, globals.len())?;
-    for global in globals {
-        values.push(default_in(global.ty))?;
+    for ty in globals {
+        values.push(default_in(*ty))?;
     }
     Ok(values)
 }

@@ -17,15 +17,16 @@ ghost use Rattle.ang_engine_modules.specs.Loaded.{loaded_at, modules_of, linked_
 ghost use Rattle.ang_engine_modules.specs.Modules.{module_at, result_at, LinkFits, TakesSoMany, AreDriversThere, AgreesWith, IsAskedIn};
 
 use crate::globals::defaults;
+use crate::kept::KeptTree;
 use crate::links::{bind_import, unbind_codes, unbind_places};
 use crate::runs::{body_count, run_initializers};
 use crate::tables::{code_of, no_code};
+use crate::whole::WholeModule;
 use ang_gen::generate;
 use ang_host::{Driver, EventBuffer};
 use ang_kinds::{Fault, List, Value};
 use ang_meaning::{Routine, Slot};
 use ang_names_known::Names;
-use ang_typed::Typed;
 use ang_view::View;
 use ang_vm::{Machine, Table, run};
 use ang_vm_stack::table::ModuleCode;
@@ -41,8 +42,8 @@ pub struct LoadedModule {
     pub names: Names,
     /// What it sees of the host.
     pub view: View,
-    /// Its resolved tree.
-    pub tree: Typed,
+    /// Its resolved tree, for clauses, and what runs read of it.
+    pub tree: KeptTree,
     /// By the number of an import, the function that it is bound to, if any.
     pub links: List<Option<Routine>>,
 }
@@ -50,8 +51,8 @@ pub struct LoadedModule {
 /// The modules of an engine, by number, each with its compiled code where it is built. Contracts
 /// see the list of what is built.
 ///
-/// Names, views and trees are kept beside the code. No run reads them: contracts speak of them, and
-/// a call by declaration looks names and view up ([`Modules::loaded`]).
+/// Names and views are kept beside the code. No run reads them: contracts speak of them, and a call by
+/// declaration looks both up ([`Modules::loaded`]). Of trees only what runs read is kept.
 #[derive(Drop)]
 pub struct Modules {
     table: Table,
@@ -144,20 +145,21 @@ impl Modules {
     ///
     /// # Errors
     /// Want of memory.
-    pub fn load(&mut self, alloc: Global, home: u32, loaded: LoadedModule) -> Result<(), AllocError>
+    pub fn load(&mut self, alloc: Global, home: u32, loaded: WholeModule) -> Result<(), AllocError>
         requires sound { SoundProgram loaded.view (view_typed loaded.tree) }
         requires unbound { loaded.links ≡ list_map (λ h. None) loaded.tree.imports }
         requires empty { loaded_at self.old home ≡ None }
         ensures placed { OnOk result (self.new ≡ slice_set self.old home (Some loaded)) }
         ensures unchanged { OnErr result (self.new ≡ self.old) }
     {
-        let generated = generate(alloc, &loaded.tree)?;
+        let (loaded, tree) = loaded.into_parts();
+        let generated = generate(alloc, &tree)?;
         let code = code_of(
             alloc,
             home,
             loaded.name.as_slice(),
             &loaded.view,
-            &loaded.tree,
+            &tree,
             generated,
         )?;
         put_code(&mut self.table.modules, home, code);
@@ -218,7 +220,7 @@ impl Modules {
             (λ values. values.items ≡ first_globals (module_at (modules_of self.now) home).tree) }
     {
         match self.loaded(home) {
-            Some(loaded) => defaults(alloc, loaded.tree.globals.as_slice()),
+            Some(loaded) => defaults(alloc, loaded.tree.globals()),
             None => Ok(Vec::new(alloc)),
         }
     }
@@ -228,7 +230,7 @@ impl Modules {
         ensures exact { result ≡ length (module_at (modules_of self.now) home).tree.functions }
     {
         match self.loaded(home) {
-            Some(loaded) => loaded.tree.functions.as_slice().len(),
+            Some(loaded) => loaded.tree.function_count(),
             None => 0,
         }
     }

@@ -22,7 +22,7 @@ use std::alloc::{AllocError, Global};
 fn bodies_of(alloc: Global, codes: Vec<RoutineCode>) -> Result<Vec<LoadedBody>, AllocError>
     ensures same { IfOk result (λ bodies. bodies.items ≡ codes.items) }
 {
-    let mut bodies = Vec::new(alloc);
+    let mut bodies = Vec::with_capacity(alloc, codes.len())?;
     for code in codes {
         bodies.push(LoadedBody::new(alloc, code)?)?;
     }

@@ -48,6 +48,6 @@ pub fn generate(alloc: Global, program: &Typed) -> Result<Code, AllocError>
         ≡ results_in (view_typed program.now)) }
 {
     let bodies = lower(alloc, program)?;
-    let codes = generate_module(alloc, bodies.as_slice())?;
+    let codes = generate_module(alloc, bodies)?;
     Ok(code_of(codes))
 }

@@ -87,16 +87,16 @@ fn generate_body(alloc: Global, body: &CoreBody) -> Result<RoutineCode, AllocErr
 
 /// Generates the code of one module's bodies, one code for each body, in their order: its instructions, how
 /// its parameters take their arguments, the primitive type of its value, and the least number of values above
-/// the parameters within which it always stays.
+/// the parameters within which it always stays. Each body is let go once its code is made.
 ///
 /// # Errors
 /// Want of memory.
-pub fn generate_module(alloc: Global, bodies: &[CoreBody]) -> Result<Vec<RoutineCode>, AllocError>
-    ensures codes { IfOk result (λ codes. AllZip IsBodyCode bodies.now codes.items) }
+pub fn generate_module(alloc: Global, bodies: Vec<CoreBody>) -> Result<Vec<RoutineCode>, AllocError>
+    ensures codes { IfOk result (λ codes. AllZip IsBodyCode bodies.items codes.items) }
 {
-    let mut codes = Vec::new(alloc);
+    let mut codes = Vec::with_capacity(alloc, bodies.len())?;
     for body in bodies {
-        let code = generate_body(alloc, body)?;
+        let code = generate_body(alloc, &body)?;
         codes.push(code)?;
     }
     Ok(codes)

@@ -98,7 +98,7 @@ impl InstructionBuffer {
         self.marks.end(written, outer)
     }
 
-    /// The instructions in their order, and which of them are those of which statement.
+    /// The instructions in their order, with room for no more, and which of them are those of which statement.
     ///
     /// # Errors
     /// Want of memory.
@@ -111,6 +111,7 @@ impl InstructionBuffer {
         } = self;
         let marks = marks.in_order(alloc, reversed.len())?;
         reversed.reverse();
+        reversed.shrink_to_fit();
         Ok((reversed, marks))
     }
 }

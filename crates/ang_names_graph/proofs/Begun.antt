@@ -16,6 +16,10 @@ use Rattle.ang_names_graph.proofs.Rings.{any_numbers, edge_shown, or_false}
 pub row_more : (p : ℕ → Bool) (j : ℕ) → row_below p (j + 1) ≡ row_below p j ++ p j ∷ []
 row_more p j = map-range_with_len_more p 0 j j (omega arith)
 
+-- an entry of a row, whatever stands for those past its end
+pub row_entry : (p : ℕ → Bool) (n j : ℕ) (row : List Bool) (none : Bool) → row ≡ row_below p n → j < n → slice_index_or row j none ≡ p j
+row_entry p n j row none is jn = ap (λ xs. slice_index_or xs j none) is ∙ get_or-map-range_with_len p 0 n j j none jn (omega arith)
+
 -- one entry more after what was there
 pub pushed_more : (p : ℕ → Bool) (was t now : List Bool) (j : ℕ) (b : Bool) → t ≡ was ++ row_below p j → now ≡ t ++ b ∷ [] → b ≡ p j
     → now ≡ was ++ row_below p (j + 1)

@@ -37,12 +37,29 @@ pub fn push_joined_row(
     ensures pushed { OnOk result (table.new.items
         ≡ table.old.items ++ tables.row_below (tables.is_reached marks.now n places.now) n) }
 {
-    let mut row = unmarked(*table.allocator(), n)?;
+    let row = joined_rows(*table.allocator(), marks, n, places)?;
+    table.extend_from_slice(&row)?;
+    Ok(())
+}
+
+/// A row with all marks that these places have in their rows of a table.
+pub(crate) fn joined_rows(
+    alloc: Global,
+    marks: &[bool],
+    n: usize,
+    places: &[usize],
+) -> Result<Vec<bool>, AllocError>
+    requires small { n ≤ 256 }
+    requires size { length marks.now ≡ n * n }
+    ensures size { IfOk result (λ row. length row.items ≡ n) }
+    ensures exact { IfOk result (λ row. row.items
+        ≡ tables.row_below (tables.is_reached marks.now n places.now) n) }
+{
+    let mut row = unmarked(alloc, n)?;
     for place in places {
         join_row(&mut row, marks, n, *place);
     }
-    table.extend_from_slice(&row)?;
-    Ok(())
+    Ok(row)
 }
 
 /// Puts the marks that a place has in its row of a table into a row.

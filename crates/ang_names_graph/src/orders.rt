@@ -5,6 +5,7 @@ ghost use Rattle.ang_names_graph.specs.Graphs.{leads, numbers_below};
 ghost use Rattle.ang_names_graph.specs.Tables.{Shows, edges_of, is_next};
 ghost use Rattle.ang_names_graph.specs.Tables as tables;
 
+use crate::making::joined_rows;
 use std::alloc::{AllocError, Global};
 
 /// All places that place `i` leads to, rising, by a table that `close` has closed.
@@ -98,7 +99,8 @@ pub(crate) fn unmarked(alloc: Global, n: usize) -> Result<Vec<bool>, AllocError>
     vec![in alloc; false; n]
 }
 
-/// The places that an edge from the last ring leads to and that were not reached before, rising. It marks them.
+/// The places that an edge from the last ring leads to and that were not reached before, rising. It marks them, and looks
+/// through the rows of the ring alone.
 fn next_ring(
     alloc: Global,
     edges: &[bool],
@@ -115,23 +117,15 @@ fn next_ring(
     ensures marked { OnOk result ((j : ℕ) → j < n → slice_index_or near.new j false
         ≡ (slice_index_or near.old j false || tables.is_reached edges.now n ring.now j)) }
 {
+    let reached = joined_rows(alloc, edges, n, ring)?;
     let mut next = Vec::new(alloc);
     for j in 0..n {
-        if !near[j] && is_reached(edges, n, ring, j) {
+        if reached[j] && !near[j] {
             near[j] = true;
             next.push(j)?;
         }
     }
     Ok(next)
-}
-
-/// Whether an edge leads from one of these places to place `j`.
-fn is_reached(edges: &[bool], n: usize, ring: &[usize], j: usize) -> bool
-    requires small { n ≤ 256 }
-    requires size { length edges.now ≡ n * n }
-    ensures exact { result ≡ tables.is_reached edges.now n ring.now j }
-{
-    ring.iter().any(|k| has_edge(edges, n, *k, j))
 }
 
 /// Whether an edge leads from `i` to `j`, by a table of `n` rows. It takes no memory.

@@ -81,8 +81,8 @@ fn enumeration_type(view: &View, name: &[u8]) -> Option<ArgType>
     Some(ArgType::Enumeration { number })
 }
 
-/// The type that a host's declaration names, if the module sees it.
-fn host_type(view: &View, ty: &TypeRef) -> Option<ArgType>
+/// The type that a host's declaration names, if the module sees it. It takes no memory.
+pub fn host_type(view: &View, ty: &TypeRef) -> Option<ArgType>
     ensures exact { result ≡ spec.host_type view.now ty.now }
 {
     match ty {

@@ -24,8 +24,8 @@ pub use borrowed::BorrowedText;
 pub use family_types::{FIRST_FAMILY, family_of_type, family_type};
 pub use functions::parameters_of;
 pub use host::{
-    SeenFunction, SeenProperty, Wanted, WantedProperty, found_at, host_where, property_at,
-    property_where,
+    SeenFunction, SeenProperty, Wanted, WantedProperty, found_at, host_type, host_where,
+    property_at, property_where,
 };
 pub use indexed::IndexedNames as Names;
 pub use lineage::lineage_of;

@@ -23,5 +23,5 @@ pub use candidate::{Candidate, Pick};
 pub use integers::common;
 pub use lineage::Lineage;
 pub use overloads::resolve;
-pub use ranks::rank;
+pub use ranks::{rank, rank_of_argument};
 pub use rivals::Rivals;

@@ -111,8 +111,9 @@ fn greatest_of(form: u8, constness: Option<u8>, class: Option<u8>) -> Option<u8>
     Some(form.max(constness?.max(class?)))
 }
 
-/// The rank of an argument for a parameter of this type and passing.
-pub(crate) fn rank_of_argument(
+/// The rank of an argument for a parameter of this type and passing: from the argument to the parameter, and for `&out` from
+/// the parameter to the variable. `None` where it does not convert. It takes no memory.
+pub fn rank_of_argument(
     lineage: &Lineage,
     param: ArgType,
     pass: Pass,

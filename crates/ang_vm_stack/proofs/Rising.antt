@@ -1,14 +1,16 @@
 -- Methods whose slots rise: which part of them has a slot, and what a stable sort and the first one of each slot leave.
-use Rattle.std.proofs.Common.{◌≡◌, ◌<◌, ◌≤◌, ℕ, zero, suc, List, [], ◌∷◌, length, get_or, ◌++◌, refl, sym, ap, ◌∙◌, subst, arith, Option, Some, None, cond}
+use Rattle.std.proofs.Common.{◌≡◌, ◌<◌, map as list_map, ◌≤◌, ℕ, zero, suc, List, [], ◌∷◌, length, get_or, ◌++◌, refl, sym, ap, ◌∙◌, subst, arith, Option, Some, None, cond}
 use Rattle.std.specs.Prelude.{◌≢◌, Bool, true, false, not, ◌&&◌, ◌==◌, nat_eq, slice_get, option_map, find, ⊤}
 use Rattle.std.specs.List.{dedup, dedup_from, filter}
 use Rattle.std.specs.List.Sorted.{IsNonDecreasingBy, IsStableByKey, ties}
 use Rattle.std.specs.Ordering.{nat_cmp, is_lt}
 use Rattle.std.proofs.lemmas.Bool.{eq-eqb, eqb-true}
 use Rattle.std.proofs.lemmas.Bool.Decides.{nat_tests}
+use Rattle.std.proofs.lemmas.List.{get_or-map, length-map}
 use Rattle.ang_meaning.specs.declared.routine.Routine.{Routine}
 use Rattle.ang_vm_stack.specs.declared.methods.MethodEntry.{MethodEntry}
-use Rattle.ang_vm_stack.specs.Slots.{RiseFrom}
+use Rattle.ang_vm_stack.specs.declared.methods.MethodRow.{MethodRow}
+use Rattle.ang_vm_stack.specs.Slots.{RiseFrom, entry_of}
 use Rattle.ang_vm_stack.specs.Tables.{method_in}
 
 -- ---- where a slot is
@@ -82,6 +84,12 @@ at_place s n i [] y r lt is at = absurd (omega arith)
 at_place s n zero (x ∷ xs) y r lt is at = subst (λ (z : MethodEntry). method_in (z ∷ xs) s ≡ Some y.function) is (taken s y xs at)
 at_place s n (suc i) (x ∷ xs) y r lt is at =
     skipped s x xs (λ e. omega (arith, place_least (suc x.slot) i xs y r.1 (omega arith) is)) ∙ at_place s (suc x.slot) i xs y r.1 (omega arith) is at
+
+-- the same of a row
+pub at_row : (s home i : ℕ) (rows : List MethodRow) (y : MethodRow) → RiseFrom 0 (list_map (entry_of home) rows) → i < length rows → y ≡ get_or rows i y → y.slot ≡ s → method_in (list_map (entry_of home) rows) s ≡ Some (entry_of home y).function
+at_row s home i rows y r lt is at =
+    let entry = entry_of home in
+    at_place s 0 i (list_map entry rows) (entry y) r (omega (arith, lt, length-map rows entry)) (ap entry is ∙ sym (get_or-map entry rows i y (entry y) lt)) at
 
 -- ---- a stable sort by slot
 

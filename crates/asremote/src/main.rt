@@ -16,13 +16,13 @@ mod turns;
 use crate::command::RemoteOptions;
 use crate::conversation::converse;
 use crate::echo::Echo;
-use crate::posted::{posted_in, read_profile};
+use crate::posted::{numbers_for, posted_in};
 use crate::shared::Shared;
 use ang_host::Driver;
 use ang_remote::Remote;
 use asrun_session::{
-    ProgramExit, SessionEnd, Status, exit_status, outcome_of, print_no_memory, print_outcome,
-    print_profile_line,
+    BoundedText, MOST_PROFILE, ProgramExit, SessionEnd, Status, exit_status, outcome_of,
+    print_long_profile, print_no_memory, print_outcome, print_profile_line, read_text,
 };
 use std::alloc::AllocError;
 use std::fs::File;
@@ -32,20 +32,21 @@ use std::{env, io};
 /// The program's name, which stands in front of what it says on standard error.
 const NAME: &str = "asremote";
 
-/// The text of the profile, or how the program ends without it, which it says on standard error.
+/// The text of the profile, or how the program ends without it, which it says: on standard output that the profile is too
+/// long, and on standard error all else.
 fn read_or_say(rt: &HostRuntime, path: &str) -> Result<Vec<u8>, ProgramExit> {
     let Ok(mut file) = File::open(rt, path) else {
         let _ = eprintln!(rt; "asremote: cannot open {path}");
         return Err(ProgramExit::CannotOpen);
     };
-    match read_profile(rt.alloc(), &mut file) {
-        Ok(text) => Ok(text),
-        Err(stop) => {
-            let outcome = outcome_of(Err(stop));
-            print_outcome(rt, NAME, outcome);
-            Err(ProgramExit::Ran(outcome))
-        }
-    }
+    let ended = match read_text(rt.alloc(), &mut file, MOST_PROFILE) {
+        Ok(BoundedText::Whole(text)) => return Ok(text),
+        Ok(BoundedText::TooLong) => print_long_profile(&mut rt.stdout()),
+        Err(stop) => Err(stop),
+    };
+    let outcome = outcome_of(ended);
+    print_outcome(rt, NAME, outcome);
+    Err(ProgramExit::Ran(outcome))
 }
 
 /// Reads the profile, tells each driver which of its functions are posted, and holds the conversation. The commands and
@@ -59,11 +60,12 @@ fn run_file(rt: &HostRuntime, options: &RemoteOptions) -> Result<ProgramExit, Al
         Err(ending) => return Ok(ending),
     };
     let alloc = rt.alloc();
+    let functions = posted_in(alloc, &text)?;
     let shared = Shared::new(alloc, rt.stdin())?;
     let mut boxes: Vec<Box<dyn Driver>> = Vec::new(alloc);
     for number in 0..options.drivers {
         let input = Echo::new(shared.share()?, rt.stdout(), options.echo);
-        let posted = posted_in(alloc, number, &text)?;
+        let posted = numbers_for(alloc, number, &functions)?;
         boxes.push(Box::new(
             alloc,
             Remote::new(alloc, number, posted, input, rt.stdout()),

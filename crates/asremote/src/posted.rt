@@ -1,122 +1,94 @@
-//! The text of a profile, and which functions it has posted.
-ghost use Rattle.std.specs.Prelude.{◌≡◌, ◌++◌, IfOk, OnOk};
+//! Which functions a profile has posted.
+ghost use Rattle.std.specs.Prelude.{◌≡◌, ◌++◌, flat_map, IfOk, OnOk};
 ghost use Rattle.asrun_lines.specs.Lines.{lines_of};
 ghost use Rattle.asrun_lines.specs.ProfileLines.{entry_of};
-ghost use Rattle.asremote.specs.Posted.{posted_by, posted_in};
+ghost use Rattle.asremote.specs.Posted.{posted_by, posted_in, number_for};
 
 use asrun_lines::{ProfileLine, first_line, profile_line, shown};
-use asrun_session::{IoFault, SessionError};
 use std::alloc::{AllocError, Global};
-use std::io::Read;
 
-/// The most bytes of a profile.
-const MOST_PROFILE: usize = 1_048_576;
-
-/// The most calls of `read` that a profile may take.
-const MOST_READS: u32 = 1_048_576;
-
-/// Reads a profile to its end, or as far as shows that it is too long.
-///
-/// # Errors
-/// A read fault, also after 1,048,576 calls of `read`; and want of memory.
-pub fn read_profile<R: Read>(alloc: Global, reader: &mut R) -> Result<Vec<u8>, SessionError> {
-    let mut text = Vec::new(alloc);
-    let mut chunk = [0; 4096];
-    for _ in 0..MOST_READS {
-        match reader.read(&mut chunk) {
-            Ok(0) => return Ok(text),
-            Ok(count) => text.extend_from_slice(&chunk[..count])?,
-            Err(_) => return Err(SessionError::Fault(IoFault::Read)),
-        }
-        if MOST_PROFILE < text.len() {
-            return Ok(text);
-        }
-    }
-    Err(SessionError::Fault(IoFault::Read))
+/// A function whose calls are posted.
+#[derive(Clone, Copy)]
+pub struct PostedFunction {
+    /// The driver that is told.
+    pub driver: u32,
+    /// The driver's number of the function.
+    pub f: u32,
 }
 
-/// Puts the function that the line has posted to the driver, if there is one, after the others.
-fn push_posted(posted: &mut Vec<u32>, driver: u32, line: &[u8]) -> Result<(), AllocError>
+/// Puts the function that the line has posted, if there is one, after the others.
+fn push_posted(posted: &mut Vec<PostedFunction>, line: &[u8]) -> Result<(), AllocError>
     ensures added { OnOk result
-        (posted.new.items ≡ posted.old.items ++ posted_by driver (entry_of line.now)) }
+        (posted.new.items ≡ posted.old.items ++ posted_by (entry_of line.now)) }
 {
-    match profile_line(line) {
-        Some(
-            ProfileLine::Posted {
-                driver: own,
-                f,
-                decl: _,
-            },
-        ) => {
-            if own != driver {
-                return Ok(());
-            }
-            posted.push(f)?;
+    let Some(line) = profile_line(line) else {
+        return Ok(());
+    };
+    match line {
+        ProfileLine::Posted { driver, f, decl: _ } => {
+            posted.push(PostedFunction { driver, f })?;
             Ok(())
         }
-        Some(ProfileLine::Mask(_)) => Ok(()),
-        Some(ProfileLine::Limit(_)) => Ok(()),
-        Some(ProfileLine::HostType { name: _, driver: _ }) => Ok(()),
-        Some(
-            ProfileLine::Factory {
-                type_name: _,
-                f: _,
-                decl: _,
-            },
-        ) => Ok(()),
-        Some(
-            ProfileLine::Method {
-                type_name: _,
-                f: _,
-                decl: _,
-            },
-        ) => Ok(()),
-        Some(
-            ProfileLine::Property {
-                type_name: _,
-                f: _,
-                decl: _,
-            },
-        ) => Ok(()),
-        Some(
-            ProfileLine::Function {
-                driver: _,
-                f: _,
-                decl: _,
-            },
-        ) => Ok(()),
-        Some(
-            ProfileLine::Global {
-                driver: _,
-                f: _,
-                decl: _,
-            },
-        ) => Ok(()),
-        Some(ProfileLine::Enumeration { name: _ }) => Ok(()),
-        Some(
-            ProfileLine::EnumValue {
-                enumeration: _,
-                name: _,
-                value: _,
-            },
-        ) => Ok(()),
-        Some(ProfileLine::Blank) => Ok(()),
-        None => Ok(()),
+        ProfileLine::Mask(_)
+        | ProfileLine::Limit(_)
+        | ProfileLine::HostType { .. }
+        | ProfileLine::Factory { .. }
+        | ProfileLine::Method { .. }
+        | ProfileLine::Property { .. }
+        | ProfileLine::Function { .. }
+        | ProfileLine::Global { .. }
+        | ProfileLine::Enumeration { .. }
+        | ProfileLine::EnumValue { .. }
+        | ProfileLine::Blank => Ok(()),
     }
 }
 
-/// The numbers of the functions that the profile has posted to a driver, in the order of their lines.
+/// The functions that the profile has posted, in the order of their lines.
 ///
 /// # Errors
 /// A growth of memory was refused.
-pub fn posted_in(alloc: Global, driver: u32, text: &[u8]) -> Result<Vec<u32>, AllocError>
-    ensures exact { IfOk result (λ posted. posted.items ≡ posted_in driver (lines_of text.now)) }
+pub fn posted_in(alloc: Global, text: &[u8]) -> Result<Vec<PostedFunction>, AllocError>
+    ensures exact { IfOk result (λ posted. posted.items ≡ posted_in (lines_of text.now)) }
 {
     let mut posted = Vec::new(alloc);
     let mut rest = text;
     while let Some((line, after)) = first_line(rest) {
-        push_posted(&mut posted, driver, shown(line))?;
+        push_posted(&mut posted, shown(line))?;
         rest = after;
     }
     Ok(posted)
+}
+
+/// Puts the number of a function after others, if it is posted to this driver.
+fn push_number(
+    numbers: &mut Vec<u32>,
+    driver: u32,
+    posted: &PostedFunction,
+) -> Result<(), AllocError>
+    ensures added { OnOk result
+        (numbers.new.items ≡ numbers.old.items ++ number_for driver posted.now) }
+{
+    if posted.driver == driver {
+        numbers.push(posted.f)?;
+    }
+    Ok(())
+}
+
+/// The numbers of those of these functions that are posted to a driver, in their order.
+///
+/// # Errors
+/// A growth of memory was refused.
+pub fn numbers_for(
+    alloc: Global,
+    driver: u32,
+    functions: &[PostedFunction],
+) -> Result<Vec<u32>, AllocError>
+    ensures exact { IfOk result
+        (λ numbers. numbers.items ≡ flat_map (number_for driver) functions.now) }
+{
+    let mut numbers = Vec::new(alloc);
+    for function in functions {
+        push_number(&mut numbers, driver, function)?;
+    }
+    Ok(numbers)
 }

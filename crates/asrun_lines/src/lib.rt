@@ -17,5 +17,5 @@ pub use limits::{LimitKind, LimitLine, limit};
 pub use lines::{first_line, first_lines, is_skipped, shown};
 pub use profile_lines::{ProfileLine, profile_line};
 pub use session_lines::{LineError, SessionLine, is_header, session_line};
-pub use texts::{push_key, push_number, push_object, push_signed, push_text};
+pub use texts::{push_key, push_number, push_object, push_signed, push_spaced_number, push_text};
 pub use values::value;

@@ -1,6 +1,6 @@
 //! Texts that are put together piece by piece. Where a growth of memory is refused, nothing is promised of what was put
 //! together until then.
-ghost use Rattle.std.specs.Prelude.{◌≡◌, ◌<◌, ◌++◌, OnOk, decimal};
+ghost use Rattle.std.specs.Prelude.{◌≡◌, ◌<◌, ◌++◌, OnOk, codes, decimal};
 ghost use Rattle.std.specs.Fmt.{signed_decimal};
 ghost use Rattle.asrun_lines.specs.Texts.{key_text, object_text};
 
@@ -31,7 +31,24 @@ pub fn push_number(out: &mut Vec<u8>, n: u64) -> Result<(), AllocError>
     push_digits(out, n)
 }
 
-/// The same of a number of any length. It stands apart, so that one digit takes no buffer.
+/// A number in decimal digits and a blank behind it, put after what stands in `out`.
+///
+/// # Errors
+/// A growth of memory was refused.
+#[tactic(auto, using(crate::proofs::Joined::texts))]
+#[inline(always)]
+pub fn push_spaced_number(out: &mut Vec<u8>, n: u64) -> Result<(), AllocError>
+    ensures added { OnOk result (out.new.items ≡ out.old.items ++ (decimal n ++ codes " ")) }
+{
+    if n < 10 {
+        out.extend_from_slice(&[b'0' + n as u8, b' '])?;
+        return Ok(());
+    }
+    push_digits(out, n)?;
+    push_text(out, " ")
+}
+
+/// A number of any length, as `push_number` puts it. It stands apart, so that one digit takes no buffer.
 #[inline(never)]
 fn push_digits(out: &mut Vec<u8>, n: u64) -> Result<(), AllocError>
     ensures added { OnOk result (out.new.items ≡ out.old.items ++ decimal n) }
@@ -47,8 +64,19 @@ fn push_digits(out: &mut Vec<u8>, n: u64) -> Result<(), AllocError>
 pub fn push_signed(out: &mut Vec<u8>, n: i64) -> Result<(), AllocError>
     ensures added { OnOk result (out.new.items ≡ out.old.items ++ signed_decimal n) }
 {
-    let mut buffer = Buffer::new();
-    push_text(out, buffer.format(n))
+    match u64::try_from(n) {
+        Ok(positive) => push_number(out, positive),
+        Err(_) => push_negative(out, n),
+    }
+}
+
+/// The same of a number that may be negative. It stands apart, so that one digit takes no buffer.
+#[inline(never)]
+fn push_negative(out: &mut Vec<u8>, n: i64) -> Result<(), AllocError>
+    ensures added { OnOk result (out.new.items ≡ out.old.items ++ signed_decimal n) }
+{
+    let mut digits = Buffer::new();
+    push_text(out, digits.format(n))
 }
 
 /// `#KEY`, put after what stands in `out`.

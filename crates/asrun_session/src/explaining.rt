@@ -7,14 +7,9 @@ ghost use Rattle.asrun_session.specs.Whole.{fresh};
 use crate::action::read_act;
 use crate::forms::{NO_RESULT, profile_form, registration_form, session_form};
 use crate::profile::{LoadedProfile, ProfileFault, ProfileStop, load};
+use crate::reading::{MOST_PROFILE, MOST_SESSION};
 use asrun_lines::{LineError, first_line, first_lines, is_skipped, shown};
 use std::alloc::{AllocError, Global};
-
-/// The most bytes of a profile.
-const MOST_PROFILE: usize = 1_048_576;
-
-/// The most bytes of a session, and so of its lines.
-const MOST_SESSION: usize = 16_777_216;
 
 /// The bytes of a line that are shown.
 const MOST_SHOWN: usize = 80;
@@ -60,8 +55,12 @@ fn passed<'a>(alloc: Global, line: &[u8], after: &'a [u8]) -> Result<(u64, &'a [
     Ok((act.lines.saturating_add(1), act.rest))
 }
 
-/// The number of the first line of a session that is of another form. None also where memory was refused.
+/// The number of the first line of a session that is of another form. None also where the session is too long, which
+/// ended the run before any line did, and where memory was refused.
 fn bad_line(alloc: Global, text: &[u8]) -> Option<u64> {
+    if MOST_SESSION < text.len() {
+        return None;
+    }
     let mut rest = text;
     let mut number: u64 = 1;
     for _ in 0..MOST_SESSION {
@@ -148,7 +147,7 @@ pub fn print_profile_line(rt: &impl Eprint, alloc: Global, program: &str, text: 
     print_line(rt, alloc, program, "profile", number, line, wanted);
 }
 
-/// The same of a line of a session.
+/// Says on standard error which line of a session ended the run, as `print_profile_line` does of a profile.
 pub fn print_session_line(rt: &impl Eprint, alloc: Global, program: &str, text: &[u8]) {
     let Some(number) = bad_line(alloc, text) else {
         return;

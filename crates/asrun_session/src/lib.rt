@@ -29,8 +29,10 @@ pub use kept::Kept;
 pub use limits::{limited_engine, with_limit};
 pub use printing::{ReplyBuffer, print_bad_line, print_held};
 pub use profile::LoadedProfile;
+pub use reading::{BoundedText, MOST_PROFILE, read_text};
 pub use run::perform;
 pub use whole::{
-    SessionEnd, load_profile, outcome_of, print_drivers_error, print_no_driver, session,
+    SessionEnd, load_profile, outcome_of, print_drivers_error, print_long_profile, print_no_driver,
+    session,
 };
 pub use writing::write_text;

@@ -94,7 +94,7 @@ fn gives_none(registry: &Registry, number: EntityNo) -> bool
     }
 }
 
-/// How line `number` ends that posts a function, of which this is the registration's answer.
+/// How line `number`, which posts a function, ends, of which this is the registration's answer.
 fn judged_posted(
     registry: &Registry,
     number: u64,

@@ -8,6 +8,12 @@ use crate::ending::{IoFault, SessionError};
 use std::alloc::Global;
 use std::io::Read;
 
+/// The most bytes of a profile.
+pub const MOST_PROFILE: usize = 1_048_576;
+
+/// The most bytes of a session.
+pub const MOST_SESSION: usize = 16_777_216;
+
 /// The most calls of `read` that one text may take.
 const MOST_READS: u32 = 1_048_576;
 

@@ -11,26 +11,20 @@ ghost use Rattle.asrun_lines.specs.Lines.{lines_of};
 ghost use Rattle.asrun_session.specs.Limits.{limits_of};
 ghost use Rattle.asrun_session.specs.Profile.{loaded};
 ghost use Rattle.asrun_session.specs.Reading.{unread, IsReadThrough};
-ghost use Rattle.asrun_session.specs.Whole.{registered_by, most_profile, most_session, start_of, Starts, Tells, StartStops, Ends, Stops, Unread, outcome_of, fresh};
+ghost use Rattle.asrun_session.specs.Whole.{registered_by, most_profile, most_session, long_profile_text, start_of, Starts, Tells, StartStops, Ends, Stops, Unread, outcome_of, fresh};
 ghost use Rattle.asrun_session.specs.Writing.{HasFront, unwritten};
 
 use crate::ending::{IoFault, SessionError, Status};
 use crate::limits::limited_engine;
 use crate::printing::{ReplyBuffer, print_profile_fault};
 use crate::profile::{LoadedProfile, ProfileStop, load};
-use crate::reading::{BoundedText, read_text};
+use crate::reading::{BoundedText, MOST_PROFILE, MOST_SESSION, read_text};
 use crate::run::run_session;
 use crate::writing::write_text;
 use ang_engine::{Engine, NewError, NewRefused};
 use ang_host::{Driver, Drivers, DriversError};
 use std::alloc::Global;
 use std::io::{Read, Write};
-
-/// The most bytes of a profile.
-const MOST_PROFILE: usize = 1_048_576;
-
-/// The most bytes of a session.
-const MOST_SESSION: usize = 16_777_216;
 
 /// How a run ended.
 pub struct SessionEnd {
@@ -70,6 +64,22 @@ fn load_text<W: Write>(
     }
 }
 
+/// Prints that the profile is too long.
+///
+/// # Errors
+/// A write fault.
+pub fn print_long_profile<W: Write>(writer: &mut W) -> Result<Status, SessionError>
+    ensures whole { OnOk result
+        (Appends (W.contents writer.old) (W.contents writer.new) long_profile_text) }
+    ensures status { IfOk result (λ status. status ≡ Status.BadInput) }
+    ensures front { OnErr result
+        (HasFront (W.contents writer.old) (W.contents writer.new) long_profile_text) }
+    ensures fault { IfErr result (λ e. e ≢ unread) }
+{
+    write_text(writer, b"profile 0 TooLong\n")?;
+    Ok(Status::BadInput)
+}
+
 /// Reads the profile whole, registers what it says and sets its limits. False where it was not taken, which is printed
 /// then.
 pub fn load_profile<R: Read, W: Write>(
@@ -98,7 +108,7 @@ pub fn load_profile<R: Read, W: Write>(
     match read_text(alloc, reader, MOST_PROFILE)? {
         BoundedText::Whole(text) => load_text(writer, buffer, profile, &text),
         BoundedText::TooLong => {
-            write_text(writer, b"profile 0 TooLong\n")?;
+            print_long_profile(writer)?;
             Ok(false)
         }
     }

@@ -7,10 +7,11 @@ ghost use Rattle.asrun_text.specs.Text.{value_text, values_text, fault_text, mad
 use ang_engine::{Outcome, Refusal, Reply};
 use ang_host::{Answer, EventLog, EventRef, HostReply, Made};
 use ang_kinds::{Denial, Error, ErrorKind, Fault, Mask, Place, Value};
-use asrun_lines::{push_key, push_number, push_object, push_signed, push_text};
+use asrun_lines::{push_key, push_number, push_object, push_signed, push_spaced_number, push_text};
 use std::alloc::AllocError;
 
 #[tactic(auto, using(crate::proofs::Texts::texts), unfolding(crate::specs::Text::value_text))]
+#[inline(always)]
 fn push_value(out: &mut Vec<u8>, value: Value) -> Result<(), AllocError>
     ensures added { OnOk result (out.new.items ≡ out.old.items ++ value_text value) }
 {
@@ -181,10 +182,8 @@ fn push_asked(
     ensures added { OnOk result (out.new.items ≡ out.old.items
         ++ (decimal entity ++ codes " " ++ decimal driver ++ codes " " ++ object_text object)) }
 {
-    push_number(out, u64::from(entity))?;
-    push_text(out, " ")?;
-    push_number(out, u64::from(driver))?;
-    push_text(out, " ")?;
+    push_spaced_number(out, u64::from(entity))?;
+    push_spaced_number(out, u64::from(driver))?;
     push_object(out, object)
 }
 
@@ -263,8 +262,7 @@ fn push_mask(out: &mut Vec<u8>, mask: Mask) -> Result<(), AllocError>
     ensures added { OnOk result (out.new.items ≡ out.old.items ++ mask_text mask.0) }
 {
     for byte in mask.0.to_be_bytes() {
-        out.push(hex_digit(byte / 16))?;
-        out.push(hex_digit(byte % 16))?;
+        out.extend_from_slice(&[hex_digit(byte / 16), hex_digit(byte % 16)])?;
     }
     Ok(())
 }

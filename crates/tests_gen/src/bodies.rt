@@ -211,8 +211,7 @@ fn bodies(alloc: Global) -> Result<Vec<CoreBody>, AllocError> {
 }
 
 fn codes_of(alloc: Global) -> Result<Vec<RoutineCode>, AllocError> {
-    let bodies = bodies(alloc)?;
-    generate_module(alloc, &bodies)
+    generate_module(alloc, bodies(alloc)?)
 }
 
 fn first_wrong(alloc: Global) -> Result<Option<usize>, AllocError> {

@@ -112,8 +112,7 @@ fn module(alloc: Global) -> Result<Typed, AllocError> {
 
 /// The code of a module that is not used again.
 fn codes_of(alloc: Global, module: Typed) -> Result<Vec<RoutineCode>, AllocError> {
-    let bodies = lower(alloc, &module)?;
-    generate_module(alloc, &bodies)
+    generate_module(alloc, lower(alloc, &module)?)
 }
 
 /// How code takes its arguments, the primitive type of its value, its height, and its instructions.

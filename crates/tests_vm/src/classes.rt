@@ -1,11 +1,13 @@
 //! A module of script classes.
 use crate::entities::{GET, NEW_CELL, NEW_COUNTER, PRINT, VALUE};
+use crate::operators::{ADD, DIVIDE, PLUS};
 use crate::program::{ClassRow, Module, Text};
 use ang_code::Instruction;
 use ang_code::Instruction::{
     Apply, Drop, DropUnder, Enter, Leave, Load, PushBits, PushNull, Return, Store, SwapField,
 };
-use ang_kinds::{Operator, Prim};
+use ang_kinds::Prim;
+use ang_kinds::Prim::I8;
 use ang_meaning::{Callee, Operation, Passing, Slot, Update, ValueKind};
 
 /// The module `c`, with one global.
@@ -37,22 +39,19 @@ const ROWS: &[ClassRow] = &[
     (5, &[HANDLE, HANDLE], &[4], &[]),
 ];
 
-const ADD: Instruction = Apply(Operation::Binary(Operator::Add, Prim::I32));
-
-const DIVIDE: Instruction = Apply(Operation::Binary(Operator::Divide, Prim::I32));
-
 /// `+= n` on an `int8`.
-const PLUS: Update = Update {
-    operator: Operator::Add,
-    at: Prim::I32,
-    to: Prim::I8,
-    old: false,
-};
+const PLUS_8: Update = Update { to: I8, ..PLUS };
 
-const ADD_TO_0: Instruction = Apply(Operation::FieldChange(PLUS, 0));
+const ADD_TO_0: Instruction = Apply(Operation::FieldChange(PLUS_8, 0));
 
 /// `++` after the field, before the 1 and the object.
-const RAISE_0: Instruction = Apply(Operation::FieldChange(Update { old: true, ..PLUS }, 0));
+const RAISE_0: Instruction = Apply(Operation::FieldChange(
+    Update {
+        old: true,
+        ..PLUS_8
+    },
+    0,
+));
 
 /// The bodies by number.
 const TEXTS: &[Text] = list! {
@@ -111,7 +110,7 @@ const TEXTS: &[Text] = list! {
     // 17: void fill() { give(cell, x); }
     (&[Passing::Object], 4, &[PushNull, PushBits(0), Enter(Callee::Own(16)),
         SwapField { to: None, under: 2, object: 3, field: 1 },
-        SwapField { to: Some(Prim::I8), under: 1, object: 3, field: 0 }, DropUnder(2), Drop,
+        SwapField { to: Some(I8), under: 1, object: 3, field: 0 }, DropUnder(2), Drop,
         PushBits(0), Return(0)]),
     // 18: int m() { N n; @n.cell = Cell(1); n.fill(); print(n.x); return n.cell.get(); }
     (&[], 4, &[Apply(Operation::Make(3)), PushBits(1), NEW_CELL, Load(1), Apply(Operation::FieldSet(1)),

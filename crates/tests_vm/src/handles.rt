@@ -2,6 +2,7 @@
 use crate::entities::{
     BUMP, CELL_ABOVE, FAIL, GET, NEW_CELL, NEW_COUNTER, PICK, PRINT, SET, STEP, SUM, VALUE,
 };
+use crate::operators::{DIVIDE, PLUS};
 use crate::program::{Module, Text};
 use ang_code::Instruction;
 use ang_code::Instruction::{
@@ -34,16 +35,6 @@ pub const EXPORTER: Module = Module {
     classes: &[],
     slots: &[],
     globals: &[],
-};
-
-const DIVIDE: Instruction = Apply(Operation::Binary(Operator::Divide, Prim::I32));
-
-/// `+= n` on an `int`.
-const PLUS: Update = Update {
-    operator: Operator::Add,
-    at: Prim::I32,
-    to: Prim::I32,
-    old: false,
 };
 
 /// `c.step += n`

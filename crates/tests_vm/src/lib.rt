@@ -28,6 +28,8 @@ mod machine;
 #[cfg(test)]
 mod numbers;
 #[cfg(test)]
+mod operators;
+#[cfg(test)]
 mod program;
 #[cfg(test)]
 mod runs;

@@ -1,13 +1,14 @@
 //! A module of numbers.
 use crate::entities::{FAIL, PRINT, REGISTER, SMALL_SUM, SUM};
+use crate::operators::{ADD, DIVIDE, LATER, PLUS, SUBTRACT};
 use crate::program::{Module, Text};
 use ang_code::Instruction;
 use ang_code::Instruction::{
     Apply, Drop, DropUnder, Enter, JumpIfFalse, Load, LoopBack, PushBits, Return, Store, Swap,
     Tick, Update as Changed,
 };
-use ang_kinds::{Comparison, Operator, Prim};
-use ang_meaning::{Callee, Operation, Passing, Slot, Update};
+use ang_kinds::{Comparison, Prim};
+use ang_meaning::{Callee, Operation, Passing, Slot};
 
 /// The module `m`, with two globals.
 pub const NUMBERS: Module = Module {
@@ -20,30 +21,8 @@ pub const NUMBERS: Module = Module {
     globals: &[Slot::Bits(0), Slot::Bits(0)],
 };
 
-/// An addition of a number, whose value is the one before.
-const INCREMENT: Update = Update {
-    operator: Operator::Add,
-    at: Prim::I64,
-    to: Prim::I64,
-    old: true,
-};
-
-const ADD: Instruction = Apply(Operation::Binary(Operator::Add, Prim::I32));
-
-const SUBTRACT: Instruction = Apply(Operation::Binary(Operator::Subtract, Prim::I32));
-
-const DIVIDE: Instruction = Apply(Operation::Binary(Operator::Divide, Prim::I32));
-
 /// Adds an `int` to the register; its value is the new one.
-const ADD_TO_REG: Instruction = Apply(Operation::Alter(
-    REGISTER,
-    Update {
-        operator: Operator::Add,
-        at: Prim::I32,
-        to: Prim::I32,
-        old: false,
-    },
-));
+const ADD_TO_REG: Instruction = Apply(Operation::Alter(REGISTER, PLUS));
 
 /// The bodies by number.
 const TEXTS: &[Text] = list! {
@@ -54,7 +33,7 @@ const TEXTS: &[Text] = list! {
     // 1: int64 i = 0; for (; i < 10; i++) {} return i;
     (&[], 3, &[PushBits(0), Tick, Load(0), PushBits(10),
         Apply(Operation::Compare(Comparison::Less, true)), JumpIfFalse(4), PushBits(1),
-        Changed(INCREMENT, 0), Drop, LoopBack(7), Load(0), Return(1)]),
+        Changed(LATER, 0), Drop, LoopBack(7), Load(0), Return(1)]),
     // 2: int d() { return d(); }
     (&[], 1, &[Enter(Callee::Own(2)), Return(0)]),
     // 3: 7 - sum(30, 2), after a note of 5.

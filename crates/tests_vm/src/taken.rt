@@ -2,6 +2,7 @@
 ghost use Rattle.std.specs.Prelude.{◌<◌, ◌^◌, length};
 
 use crate::known::KNOWN;
+use crate::operators::{LATER, PLUS};
 use ang_code::Instruction;
 use ang_code::Instruction::{
     Apply, Drop, DropUnder, Enter, JumpIfFalse, Leave, Load, LoopBack, PushBits, PushNull, Return,
@@ -25,13 +26,6 @@ const SUBTRACT: Operator = Operator::Subtract;
 const I64: Prim = Prim::I64;
 
 const U64: Prim = Prim::U64;
-
-const LATER: Update = Update {
-    operator: Operator::Add,
-    at: Prim::I64,
-    to: Prim::I64,
-    old: true,
-};
 
 /// A step on a stack of four where 5 and 3 are in use, with nine ticks, which it leaves: the place after it from place 7
 /// on, how many values are in use then, and the first three of them.
@@ -315,12 +309,7 @@ const DIFFER: Update = Update {
 };
 
 /// A change of an `int` by `+`.
-const COUNTED: Update = Update {
-    operator: Operator::Add,
-    at: Prim::I32,
-    to: Prim::I32,
-    old: true,
-};
+const COUNTED: Update = Update { old: true, ..PLUS };
 
 /// Two operators that stand together, values that are given up at a loop's end, and such that are given up below the top
 /// one or change places, one after the other; at the end the top one is given up after those below it.
@@ -482,38 +471,21 @@ const OUT_STEPS: [(usize, Option<Step>); 6] = [
 
 /// A change of a `uint64` by `^`.
 const DIFFER_64: Update = Update {
-    operator: Operator::BitXor,
     at: U64,
     to: U64,
-    old: false,
+    ..DIFFER
 };
 
 /// A hash in 64 bits: a multiplication by a number of more than 32 bits, and shifts to both sides.
-const HASHING: &[Instruction] = &[
-    Load(1),
-    Load(1),
-    PushBits(255),
-    Apply(Operation::Binary(Operator::BitAnd, U64)),
-    Apply(Operation::Binary(Operator::BitXor, U64)),
-    PushBits(0x1_0000_01B3),
-    Apply(Operation::Binary(Operator::Multiply, U64)),
-    Store(0),
-    Drop,
-    PushBits(0x1_0000_01B3),
-    Apply(Operation::Binary(Operator::Multiply, U64)),
-    PushBits(0x1_0000_01B3),
-    Apply(Operation::Binary(ADD, U64)),
-    Load(1),
-    PushBits(13),
-    Apply(Operation::Binary(Operator::ShiftLeft, U64)),
-    Changed(DIFFER_64, 0),
-    Drop,
-    Load(1),
-    PushBits(7),
-    Apply(Operation::Binary(Operator::ShiftRight, U64)),
-    Changed(DIFFER_64, 0),
-    Drop,
-];
+const HASHING: &[Instruction] = list! {
+    Load(1), Load(1), PushBits(255), Apply(Operation::Binary(Operator::BitAnd, U64)),
+    Apply(Operation::Binary(Operator::BitXor, U64)), PushBits(0x1_0000_01B3),
+    Apply(Operation::Binary(Operator::Multiply, U64)), Store(0), Drop, PushBits(0x1_0000_01B3),
+    Apply(Operation::Binary(Operator::Multiply, U64)), PushBits(0x1_0000_01B3),
+    Apply(Operation::Binary(ADD, U64)), Load(1), PushBits(13),
+    Apply(Operation::Binary(Operator::ShiftLeft, U64)), Changed(DIFFER_64, 0), Drop, Load(1),
+    PushBits(7), Apply(Operation::Binary(Operator::ShiftRight, U64)), Changed(DIFFER_64, 0), Drop,
+};
 
 /// The steps of the hash. The mask is of the type of the `^` after it.
 const HASHED: [(usize, Option<Step>); 8] = [

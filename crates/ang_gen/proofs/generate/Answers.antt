@@ -1,7 +1,5 @@
 use Rattle.std.proofs.Common.{sym, subst}
-use Rattle.std.specs.List.{AllZip}
 use Rattle.ang_typed.specs.View.{view_typed}
-use Rattle.ang_gen.specs.Programs.{IsBodyCode}
 use Rattle.ang_gen.specs.Compiled.{IsCompiled}
 use Rattle.ang_gen.proofs.Composed.{takes, gives, means}
 use Rattle.ang_gen.proofs.generate.Goals as goal
@@ -11,13 +9,12 @@ code_of-requires c =
     let p = view_typed c.args.program.now in
     let codes = c.in_ok-codes.codes.items in
     let bodies = c.in_ok-bodies.bodies.items in
-    let all : AllZip IsBodyCode bodies codes = subst (λ bs. AllZip IsBodyCode bs codes) c.as_slice.ensures.value c.in_ok-codes.ensures.codes in
     record {
       well_formed = record {
         view = c.requires.sound.0;
         program = p;
         sound = c.requires.sound.1;
-        compiled = record { bodies = bodies; lowered = c.in_ok-bodies.ensures.exact; code = all };
+        compiled = record { bodies = bodies; lowered = c.in_ok-bodies.ensures.exact; code = c.in_ok-codes.ensures.codes };
       };
     }
 
@@ -26,7 +23,6 @@ returns c =
     let p = view_typed c.args.program.now in
     let codes = c.in_ok-codes.codes.items in
     let bodies = c.in_ok-bodies.bodies.items in
-    let all : AllZip IsBodyCode bodies codes = subst (λ bs. AllZip IsBodyCode bs codes) c.as_slice.ensures.value c.in_ok-codes.ensures.codes in
-    let made : IsCompiled p codes = record { bodies = bodies; lowered = c.in_ok-bodies.ensures.exact; code = all } in
+    let made : IsCompiled p codes = record { bodies = bodies; lowered = c.in_ok-bodies.ensures.exact; code = c.in_ok-codes.ensures.codes } in
     let is : IsCompiled p c.code_of.result = subst (IsCompiled p) (sym c.code_of.ensures.same) made in
     record { means = means p c.code_of.result is; code = is; params = takes p c.code_of.result is; results = gives p c.code_of.result is }

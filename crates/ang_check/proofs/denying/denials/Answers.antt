@@ -35,7 +35,7 @@ returns-in-None c =
       exact =
           found_as (λ rows. rows.items) _ _ c.rows_of_phases.result c.rows_of_phases.ensures.exact
           (phase_rows R c.args.mask.0 ss (option_copied c.args.names) c.args.errors.now _ _ _ c.requires.errors none
-          (c.new-masked.ensures.list ∙ c.in_ok-whole.ensures.exact) c.new-masked.ensures.mask c.in_ok-view.ensures.exact);
+          (c.in_ok-masked.ensures.list ∙ c.in_ok-whole.ensures.exact) c.in_ok-masked.ensures.mask c.in_ok-view.ensures.exact);
     }
 
 pub returns : goal.returns
@@ -47,5 +47,5 @@ returns c =
       exact =
           found_as (λ rows. rows.items) _ _ c.rows_of_bodies.result c.rows_of_bodies.ensures.exact
           (body_rows R c.args.mask.0 ss (option_copied c.args.names) c.in-Some.names.now c.args.errors.now _ _ _ c.requires.errors some
-          (c.new-masked.ensures.list ∙ c.in_ok-whole.ensures.exact) c.new-masked.ensures.mask c.in_ok-view.ensures.exact);
+          (c.in_ok-masked.ensures.list ∙ c.in_ok-whole.ensures.exact) c.in_ok-masked.ensures.mask c.in_ok-view.ensures.exact);
     }

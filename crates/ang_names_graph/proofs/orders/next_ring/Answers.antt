@@ -1,30 +1,35 @@
 use Rattle.std.specs.Prelude.{◌≡◌, ◌<◌}
 use Rattle.ang_names_graph.specs.Graphs.{numbers_below}
-use Rattle.ang_names_graph.specs.Tables.{is_next}
+use Rattle.ang_names_graph.specs.Tables.{is_next, is_reached}
 use Rattle.std.proofs.Common.{rules, ap, subst, sym, ◌∙◌}
+use Rattle.ang_names_graph.proofs.Begun.{row_entry}
 use Rattle.ang_names_graph.proofs.Rings.{part_start, part_near, part_far, part_found}
 use Rattle.ang_names_graph.proofs.orders.next_ring.Goals as goal
-use Rattle.ang_names_graph.proofs.orders.next_ring.Goals.{then-not-near-j+then-is_reached+in_ok-push, else-not-near-j, else-not-near-j-via-then-not-near-j+else-is_reached, else-not-near-j-via-else-not-near-j}
+use Rattle.ang_names_graph.proofs.orders.next_ring.Goals.{then-index+then-not-near-j+in_ok-push, else-index, else-index-via-then-index+else-not-near-j, else-index-via-else-index}
 
 pub loop-j-init : goal.loop-j-init
 loop-j-init c = rw c.new-next.ensures.items (part_start c.args.edges.now c.args.n c.args.near.now c.args.ring.now c.requires.marks)
 
 pub loop-j-preserved : goal.loop-j-preserved
 loop-j-preserved c =
-    elim c.if-not-near-j.branch [
-      | then-not-near-j+then-is_reached+in_ok-push w ↦
+    let reached = is_reached c.args.edges.now c.args.n c.args.ring.now in
+    let is : c.index.result.now ≡ reached c.loop-j.j
+    = c.index.ensures
+    ∙ row_entry reached c.args.n c.loop-j.j c.in_ok-reached.reached.items c.index.result.now c.in_ok-reached.ensures.exact c.loop-j-test.true in
+    elim c.if-index.branch [
+      | then-index+then-not-near-j+in_ok-push w ↦
           rw (w.near-is, w.next-is, w.in_ok-push.ensures.items) (
           part_found c.args.edges.now c.args.n c.args.near.now c.args.ring.now c.loop-j.j c.loop-j.near c.loop-j.next.items c.loop-j.invariant c.loop-j-test.true
-          (search rules) (search rules))
-      | else-not-near-j w ↦ elim w.else-not-near-j.branch [
-        | else-not-near-j-via-then-not-near-j+else-is_reached x ↦
-            rw (w.near-is, w.next-is) (
-            part_far c.args.edges.now c.args.n c.args.near.now c.args.ring.now c.loop-j.j c.loop-j.near c.loop-j.next.items c.loop-j.invariant c.loop-j-test.true
-            (search rules))
-        | else-not-near-j-via-else-not-near-j x ↦
+          (search rules) (sym is ∙ search rules))
+      | else-index w ↦ elim w.else-index.branch [
+        | else-index-via-then-index+else-not-near-j x ↦
             rw (w.near-is, w.next-is) (
             part_near c.args.edges.now c.args.n c.args.near.now c.args.ring.now c.loop-j.j c.loop-j.near c.loop-j.next.items c.loop-j.invariant c.loop-j-test.true
             (search rules))
+        | else-index-via-else-index x ↦
+            rw (w.near-is, w.next-is) (
+            part_far c.args.edges.now c.args.n c.args.near.now c.args.ring.now c.loop-j.j c.loop-j.near c.loop-j.next.items c.loop-j.invariant c.loop-j-test.true
+            (sym is ∙ search rules))
       ]
     ]
 

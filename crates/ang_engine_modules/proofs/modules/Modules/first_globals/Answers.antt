@@ -10,10 +10,10 @@ use Rattle.ang_engine_modules.proofs.modules.Modules.first_globals.Goals as goal
 
 pub returns-in-Some : goal.returns-in-Some
 returns-in-Some c =
-    let same : list_map (λ g. default_in g.ty) c.as_slice.result.now ≡ first_globals (module_at (modules_of c.args.self.now) c.args.home).tree =
-    globals_begin c.args.self.now c.args.home c.in-Some.loaded.now c.as_slice.result.now c.as_slice.ensures.same
+    let same : list_map default_in c.globals.result.now ≡ first_globals (module_at (modules_of c.args.self.now) c.args.home).tree =
+    globals_begin c.args.self.now c.args.home c.in-Some.loaded.now c.globals.result.now c.globals.ensures.exact
     (sym (ap option_copied c.in-Some.is) ∙ c.loaded.ensures.exact) in
     record {
-      exact = IfOk-weaker c.defaults.result (λ v. v.items ≡ list_map (λ g. default_in g.ty) c.as_slice.result.now)
+      exact = IfOk-weaker c.defaults.result (λ v. v.items ≡ list_map default_in c.globals.result.now)
           (λ v. v.items ≡ first_globals (module_at (modules_of c.args.self.now) c.args.home).tree) (λ v is. is ∙ same) c.defaults.ensures.exact;
     }

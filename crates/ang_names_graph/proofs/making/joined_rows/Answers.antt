@@ -1,9 +1,9 @@
-use Rattle.std.specs.Prelude.{ℕ, false, ◌≡◌, ◌<◌, ◌≤◌, ◌||◌, ◌++◌, length, slice_index_or}
-use Rattle.std.proofs.Common.{rules, ap, ◌∙◌}
+use Rattle.std.specs.Prelude.{ℕ, false, ◌≡◌, ◌<◌, ◌≤◌, ◌||◌, length, slice_index_or}
+use Rattle.std.proofs.Common.{rules}
 use Rattle.ang_names_graph.specs.Tables.{edges_of}
 use Rattle.ang_names_graph.proofs.Begun.{joined_start, joined_more, joined_end}
 use Rattle.ang_names_graph.proofs.Rings.{written_back}
-use Rattle.ang_names_graph.proofs.making.push_joined_row.Goals as goal
+use Rattle.ang_names_graph.proofs.making.joined_rows.Goals as goal
 
 pub loop-place-init : goal.loop-place-init
 loop-place-init c = rw c.in_ok-row.ensures.exact (joined_start c.args.marks.now c.args.n)
@@ -22,5 +22,7 @@ loop-place-preserved c =
 pub returns : goal.returns
 returns c =
     let le : length c.args.places.now ≤ c.loop-place.place-index = search rules in
-    let all = joined_end c.args.marks.now c.args.n c.loop-place.place-index c.args.places.now c.loop-place.row.items le c.loop-place.invariant in
-    record { pushed = c.in_ok-extend_from_slice.ensures.items ∙ ap (λ xs. c.args.table.now.items ++ xs) (c.deref.ensures.value ∙ all) }
+    record {
+      size = c.loop-place.invariant.size;
+      exact = joined_end c.args.marks.now c.args.n c.loop-place.place-index c.args.places.now c.loop-place.row.items le c.loop-place.invariant;
+    }
