@@ -3,6 +3,7 @@
 
     python3 tools/play.py [SCRIPT..] [--profile PROFILE] [--mask MASK] [--call CALL]..
                           [--host FILE] [--engine PATH] [--shell] [--watch] [--json]
+    python3 tools/play.py --web [SCRIPT..] [--profile PROFILE] [--mask MASK] [--engine PATH] [--port PORT]
 
 SCRIPT is a file of script, each a section of one module. PROFILE says what the host registers, and how much scripts may
 hold (docs/FORMATS.md, "Profile"). The module's mask is MASK, 00000001 if none is named. Each CALL is then made in order:
@@ -22,6 +23,11 @@ Without SCRIPT, or with --shell, lines are read: script, and commands (`:help` l
 when a file changes. With --json each happening is a JSON object on a line; `column` counts bytes from 1, and `character`
 characters from 0.
 
+With --web it serves a page, on this machine alone, and prints its link: who sees what under which mask, editors with
+errors and denials, calls with their events, and all of it as a profile and a session that asrun runs to the same lines.
+Host calls are answered there by drivers as asrun has them, or with 0, false, null and new objects. It begins with the
+profile and the script that are named, or with a sample.
+
 The status is 0 where all was done, 1 where a build or a call was refused or ended with a fault, 2 where a file, an option
 or the engine is wrong, 3 where the engine ended or took too long, and 130 after Ctrl-C.
 """
@@ -35,15 +41,19 @@ from typing import Any, List, Optional
 sys.dont_write_bytecode = True
 sys.path.append(os.path.join(os.path.dirname(os.path.abspath(__file__)), os.pardir, "clients", "python"))
 from bustlebrick import CommandTimeout, EngineLost, Refused  # noqa: E402
+from playing import commands  # noqa: E402
 from playing.answers import BadHost  # noqa: E402
 from playing.declared import NotCalled, call_of  # noqa: E402
+from playing.operations import Beginning  # noqa: E402
 from playing.printing import printer  # noqa: E402
 from playing.shell import Shell, changed_at, mask_of, read_source  # noqa: E402
 from playing.sources import Source  # noqa: E402
-from playing.stage import CantStart, Options, Stage  # noqa: E402
+from playing.stage import PROGRAM, CantStart, Options, Stage, read_profile_text  # noqa: E402
+from playing.web import serve  # noqa: E402
 
 DONE, NOT_DONE, WRONG, LOST, STOPPED = 0, 1, 2, 3, 130
 MODULE = "main"
+BUDGET = 1_000_000
 
 
 def arguments() -> argparse.Namespace:
@@ -54,13 +64,21 @@ def arguments() -> argparse.Namespace:
     words.add_argument("--call", action="append", default=[], help="a call, as 'int main()'; may be given again")
     words.add_argument("--host", metavar="FILE", help="the Python file that answers host calls")
     words.add_argument("--engine", metavar="PATH", help="the program asremote")
-    words.add_argument("--budget", type=int, default=1_000_000, help="the ticks that a build or a call may take (1000000)")
-    words.add_argument("--timeout", type=float, default=60.0, help="the seconds that it may take (60)")
+    words.add_argument("--budget", type=int, default=BUDGET, help="the ticks that a build or a call may take (1000000)")
+    words.add_argument("--timeout", type=float, help="the seconds that it may take (60; 10 with --web)")
     words.add_argument("--no-ticks", action="store_true", help="ticks are not counted")
     words.add_argument("--shell", action="store_true", help="goes on with the shell")
     words.add_argument("--watch", action="store_true", help="does it again when a file changes")
+    words.add_argument("--web", action="store_true", help="serves a page on this machine")
+    words.add_argument("--port", type=int, default=0, help="the port of the page (any)")
     words.add_argument("--json", action="store_true", help="prints a JSON object for each happening")
-    return words.parse_args()
+    given = words.parse_args()
+    apart = given.shell or given.watch or given.json or given.call or given.host or given.no_ticks or given.budget != BUDGET
+    if given.web and apart:
+        words.error("--web goes with scripts, --profile, --mask, --engine, --timeout and --port alone")
+    if given.timeout is None:
+        given.timeout = 10.0 if given.web else 60.0
+    return given
 
 
 def options_of(given: argparse.Namespace) -> Options:
@@ -100,10 +118,21 @@ def play_once(given: argparse.Namespace, show: Any) -> int:
         stage.close()
 
 
+def show_page(given: argparse.Namespace) -> int:
+    """Serves the page, which begins with what was named."""
+    texts = [read_source(it).text for it in given.scripts]
+    profile = read_profile_text(given.profile) if given.profile else "" if texts else None
+    lines = [f"module {MODULE} {mask_of(given.mask):08x}", *(commands.section(MODULE, it) for it in texts)]
+    lines += [f"build {MODULE}"] if texts else []
+    session = "".join(f"{it}\n" for it in lines)
+    serve(given.engine or PROGRAM, given.timeout, given.port, Beginning(profile, session))
+    return DONE
+
+
 def status_of(given: argparse.Namespace, show: Any) -> int:
     """The status of one time, where what goes wrong is told."""
     try:
-        return play_once(given, show)
+        return show_page(given) if given.web else play_once(given, show)
     except CantStart:
         return WRONG
     except BrokenPipeError:

@@ -161,7 +161,7 @@ class Replay:
     """Answers as was answered before."""
 
     def __init__(self) -> None:
-        self.left: Iterator[Answered] = iter(())
+        self.left: Iterator[Any] = iter(())
 
     def answering(self, kind: str, registered: Registered) -> Callable[..., Any]:
         return lambda *values: next(self.left, Answered(None, Fault(1))).again()

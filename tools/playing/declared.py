@@ -5,6 +5,7 @@ from typing import Iterable, List, NamedTuple
 
 HIDING = re.compile(r"//[^\n]*|/\*.*?(?:\*/|\Z)|\"[^\"\n]*\"", re.DOTALL)
 FUNCTION = re.compile(r"\b((?:const\s+)?[A-Za-z_]\w*(?:\s*@\s*(?:const\b\s*)?|\s+))([A-Za-z_]\w*)\s*\(([^()]*)\)\s*\{")
+IMPORT = re.compile(r"\bimport\s+([^;{}]{1,1000}?)\s*\bfrom\b")
 WITH_VALUES = re.compile(r"\(([^()]*)\) ?(.*\(.*\))")
 SHORT = re.compile(r"([A-Za-z_]\w*) ?\((.*)\)")
 
@@ -14,6 +15,12 @@ class Declared(NamedTuple):
     name: str
     declaration: str
     parameters: List[str]
+
+
+class Imported(NamedTuple):
+    """A function that a script imports, and the text after `from`."""
+    declaration: str
+    exporter: str
 
 
 class Called(NamedTuple):
@@ -47,6 +54,16 @@ def _declared(result: str, name: str, listed: str) -> Declared:
     return Declared(name, f"{result} {name}({', '.join(parameters)})", parameters)
 
 
+def imports(texts: Iterable[str]) -> List[Imported]:
+    """What a script's sections import, in the order of their numbers."""
+    found = []
+    for text in texts:
+        for match in IMPORT.finditer(bare(text)):
+            quoted = re.match(r'\s*"([^"\n]*)"', text[match.end() :])
+            found.append(Imported(" ".join(match[1].split()), quoted[1] if quoted else ""))
+    return found
+
+
 def is_whole(text: str) -> bool:
     """Whether what was typed can be a section: each bracket is closed, and the last token ends a declaration."""
     if any(it[0].startswith("/*") and not (it[0].endswith("*/") and len(it[0]) > 3) for it in HIDING.finditer(text)):
@@ -70,7 +87,7 @@ def _short_call(name: str, listed: str, known: List[Declared]) -> Called:
     named = [it for it in known if it.name == name]
     fitting = [it for it in named if len(it.parameters) == len(values)]
     if len(fitting) == 1:
-        return Called(",".join(map(_value, values, fitting[0].parameters)), fitting[0].declaration)
+        return Called(",".join(map(value_for, values, fitting[0].parameters)), fitting[0].declaration)
     listed = "; ".join(it.declaration for it in fitting or named or known)
     if fitting:
         raise NotCalled(f"several functions are called '{name}', write the values before one of them: {listed}")
@@ -78,7 +95,7 @@ def _short_call(name: str, listed: str, known: List[Declared]) -> Called:
     raise NotCalled(f"the script has no function {number}" + (f"; it has {listed}" if listed else ""))
 
 
-def _value(text: str, parameter: str) -> str:
+def value_for(text: str, parameter: str) -> str:
     """A value as the engine wants it for a parameter: unsigned ones end in u."""
     unsigned = re.match(r"(const )?uint", parameter) and text.isdigit()
     return f"{text}u" if unsigned else text.replace(" ", "")

@@ -1,7 +1,7 @@
 """Profiles as files: what a host registers, for the client, with the numbers of entries and drivers that the file says."""
 
 import re
-from typing import Any, Callable, Dict, List, NamedTuple, Set
+from typing import Any, Callable, Dict, List, NamedTuple
 
 from bustlebrick import Entry, Profile
 
@@ -157,11 +157,21 @@ def name_in(entry: Entry) -> str:
 
 
 def seen(profile: Profile, mask: int) -> List[Entry]:
-    """The entries that a module of a mask sees: those that it meets, as it meets each type that their declaration names."""
-    hidden = {it.declaration for it in profile.entries if it.line.startswith(("type ", "enum ")) and not it.mask & mask}
-    return [it for it in profile.entries if it.mask & mask and it.line != "blank" and not hidden & _types_in(it)]
+    """The entries that a module of a mask sees: those of which it meets all masks."""
+    return [it for it, masks in zip(profile.entries, masks_of(profile)) if masks and all(mask & other for other in masks)]
 
 
-def _types_in(entry: Entry) -> Set[str]:
-    """Words of which the types are some that an entry names."""
-    return {*re.findall(r"\w+", entry.declaration), entry.line.split(" ")[1]}
+def masks_of(profile: Profile) -> List[List[int]]:
+    """The masks that a module has to meet to see each entry: its own, and that of each type that it names. A blank has none."""
+    types = {it.declaration: it.mask for it in profile.entries if it.line.startswith(("type ", "enum "))}
+    named = [[types[name] for name in _types_in(it) if name in types] for it in profile.entries]
+    return [[it.mask, *masks] if it.line != "blank" else [] for it, masks in zip(profile.entries, named)]
+
+
+def _types_in(entry: Entry) -> List[str]:
+    """The types that an entry names: that of which it is, and those of its declaration."""
+    word, *rest = entry.line.split(" ")
+    if word in ("type", "enum"):
+        return []
+    parts = re.split(r"[(,]", plain(entry.declaration).partition(")")[0]) if word != "value" else []
+    return sorted({*re.findall(r"^(?:const )?(\w+)", "\n".join(parts).replace("\n ", "\n"), re.MULTILINE), rest[0]})

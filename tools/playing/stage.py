@@ -8,7 +8,7 @@ from typing import Any, Callable, Dict, Iterator, List, NamedTuple, Optional, Tu
 
 from bustlebrick import BuildError, Conversation, Engine, EngineLost, Held, Refused, Reply
 from playing import profiles
-from playing.answers import Answered, Host, host_file
+from playing.answers import Answered, Host, Replay, host_file
 from playing.declared import Called, Declared, functions
 from playing.hints import Known, hidden, hints
 from playing.sentences import error_sentence, fault_sentence, refusal_sentence
@@ -62,7 +62,7 @@ class Stage:
         self._counter: Optional[Counter] = None
         names = host_file(options.host) if options.host else {}
         self._host = Host(names, options.host or "", tell)
-        self._text = _read(options.profile) if options.profile else ""
+        self._text = read_profile_text(options.profile) if options.profile else ""
         self._read = self._profile(self._host.answering)
         self._limits: Dict[str, Any] = dict(self._read.limits)
         self.engine = self._engine(self._read)
@@ -272,11 +272,16 @@ class Stage:
         if outcome == "fault Budget":
             return {"ticks": self.budget}
         if self._counter is None:
-            self._counter = Counter(self.options.program or PROGRAM, self._profile, _deaf_to_interrupts)
+            self._counter = Counter(self._counting_engine)
         low, high = self._counter.ticks(self.history, list(self.parts), self.budget)
         if low + 1 == high:
             return {"ticks": high}
         return {"ticks": low, "bound": "more than "} if low else {}
+
+    def _counting_engine(self, replay: Replay) -> Engine:
+        profile, program = self._profile(replay.answering).profile, self.options.program or PROGRAM
+        with _deaf_to_interrupts():
+            return Engine(profile, program, events=None, slots=None, objects=None)
 
     # ---- the engine
 
@@ -331,7 +336,8 @@ def _field(text: str) -> str:
     return text
 
 
-def _read(path: str) -> str:
+def read_profile_text(path: str) -> str:
+    """A file of registrations, as much of it as an engine takes."""
     with open(path, encoding="utf-8", newline="") as file:
         return file.read(1 << 20)
 

@@ -3,19 +3,18 @@
 import time
 from typing import Any, Callable, List, Optional, Sequence, Tuple
 
-from bustlebrick import Engine, EngineLost
+from bustlebrick import EngineLost
 from playing.answers import Replay
 
 SECONDS = 3.0  # that a count may take
 
 
 class Counter:
-    """An engine that does again what another one did."""
+    """An engine that does again what another one did. `start` makes it, with what answers its host calls."""
 
-    def __init__(self, program: str, profile: Callable[..., Any], starting: Callable[[], Any]) -> None:
-        self._program, self._starting, self._replay = program, starting, Replay()
-        self._read = profile(self._replay.answering)
-        self._engine: Optional[Engine] = None
+    def __init__(self, start: Callable[[Replay], Any]) -> None:
+        self._start, self._replay = start, Replay()
+        self._engine: Optional[Any] = None
 
     def ticks(self, history: Sequence[Any], modules: Sequence[str], budget: int) -> Tuple[int, int]:
         """A budget that is too small for the last command, and one that suffices: where they are neighbours, the ticks."""
@@ -42,14 +41,13 @@ class Counter:
             engine.command(f"discard {name}")
         return outcome != "fault Budget"
 
-    def _started(self, until: float) -> Engine:
+    def _started(self, until: float) -> Any:
         if self._engine is None:
-            with self._starting():
-                self._engine = Engine(self._read.profile, self._program, events=None, slots=None, objects=None)
+            self._engine = self._start(self._replay)
         self._engine.timeout = max(0.1, until - time.monotonic())
         return self._engine
 
-    def _tell(self, engine: Engine, text: str, answers: List[Any]) -> str:
+    def _tell(self, engine: Any, text: str, answers: List[Any]) -> str:
         self._replay.left = iter(answers)
         return engine.command(text).outcome
 

@@ -10,10 +10,11 @@ import os
 import sys
 
 HERE = os.path.dirname(os.path.abspath(__file__))
-sys.path[:0] = [HERE, os.path.join(HERE, "..", "..", "clients", "python")]
-import sample_drivers  # noqa: E402
+TOP = os.path.join(HERE, "..", "..")
+sys.path[:0] = [HERE, os.path.join(TOP, "tools"), os.path.join(TOP, "clients", "python")]
 from bustlebrick import Conversation, EngineLost  # noqa: E402
 from compared import SECONDS, Trial, commands  # noqa: E402
+from playing import sample_drivers  # noqa: E402
 
 
 def remote(program, profile, session):

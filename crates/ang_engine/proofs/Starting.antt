@@ -165,6 +165,7 @@ module _ {V : Type 0} {P : V → Type 0} (m : Meanings P) (ms : List RunModule) 
       heard = refl;
       limits = refl;
       within = λ r n k o a w. record { slots = w.slots; events = w.events; objects = w.objects };
+      made = λ n l h. h;
     };
     ready = λ r. ready_with s gs r;
     counted = λ h. subst (λ q. IsCounted [] (record (world_of m s) { globals = q })) (sym e) (begun_counted i l (world_of m s) none empty h);

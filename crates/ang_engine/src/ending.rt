@@ -59,7 +59,7 @@ fn take_globals(alloc: Global, globals: &mut Globals, home: usize) -> Vec<Slot>
     ensures none { values_in globals.new ≡ slice_set (values_in globals.old) home [] }
 {
     if home < globals.modules.len() {
-        return mem::replace(&mut globals.modules[home], Vec::new(alloc));
+        return mem::replace(&mut *globals.modules[home], Vec::new(alloc));
     }
     Vec::new(alloc)
 }

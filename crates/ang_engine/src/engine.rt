@@ -32,7 +32,7 @@ use ang_engine_modules::{
     Command, MOST_MODULES, ModuleList, Modules, Outcome, Refusal, Reply, add_module, add_section,
     find, remove_module, set_mask, unbind,
 };
-use ang_heap::{Globals, Heap, Held, Limits, Store, held, set_limits};
+use ang_heap::{Globals, Heap, Held, Limits, Store, begin_command, held, set_limits};
 use ang_host::{Driver, Drivers, EventBuffer};
 use ang_kinds::{EntityNo, List, Mask, Value};
 use ang_registry::Registry;
@@ -103,6 +103,8 @@ fn machine_of(alloc: Global, drivers: Drivers) -> Machine
             live: 0,
             spent: false,
             limits: Limits::none(),
+            made: 0,
+            made_at: 0,
         },
     }
 }
@@ -282,6 +284,21 @@ impl Engine {
 
     /// Does one command, with events that can be read afterwards or are counted alone.
     fn finish(&mut self, command: Command, heard: bool) -> Finished
+        requires sound { IsSound ⟦<dyn Driver as Driver>⟧ self.old }
+        ensures applied { HasApplied ⟦<dyn Driver as Driver>⟧ self.old command (reply_in result)
+            self.new }
+        ensures heard { is_heard result.events ≡ heard }
+        ensures within { StaysWithin ⟦<dyn Driver as Driver>⟧ self.old.machine.store
+            (reply_in result).events self.new.machine.store }
+        ensures sound { IsSound ⟦<dyn Driver as Driver>⟧ self.new }
+        ensures registrations { registrations self.new ≡ registrations self.old }
+    {
+        begin_command(&mut self.machine.store);
+        self.dispatch(command, heard)
+    }
+
+    /// Does one command that has begun, each by its function.
+    fn dispatch(&mut self, command: Command, heard: bool) -> Finished
         requires sound { IsSound ⟦<dyn Driver as Driver>⟧ self.old }
         ensures applied { HasApplied ⟦<dyn Driver as Driver>⟧ self.old command (reply_in result)
             self.new }
@@ -582,6 +599,8 @@ impl Engine {
             live: _,
             spent: _,
             limits: _,
+            made: _,
+            made_at: _,
         } = store;
         end_all(
             alloc,

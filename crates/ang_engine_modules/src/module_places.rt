@@ -65,7 +65,7 @@ pub fn put_globals(globals: &mut Globals, home: u32, values: Vec<Slot>)
 {
     let home = home as usize;
     if home < globals.modules.len() {
-        globals.modules[home] = values;
+        *globals.modules[home] = values;
     }
 }
 
@@ -84,9 +84,10 @@ fn push_place(alloc: Global, list: &mut ModuleList, globals: &mut Globals) -> Re
 {
     list.places.reserve(1)?;
     globals.modules.reserve(1)?;
+    let values = Box::new(alloc, Vec::new(alloc))?;
     list.code.add(alloc)?;
     list.places.push_reserved(None);
-    globals.modules.push_reserved(Vec::new(alloc));
+    globals.modules.push_reserved(values);
     Ok(())
 }
 

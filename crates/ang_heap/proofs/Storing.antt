@@ -90,7 +90,7 @@ on_false (Err e) h p = p
 -- ---- pieces of a run
 
 pub moves_none : {V : Type 0} {P : V → Type 0} (m : Meanings P) (roles : List Role) (s : Store V P) → StoreMoves m roles s s
-moves_none m roles s = record { parts = parts_none m roles (members s.drivers) (listed_in s.events); ready = λ r. r; heard = refl; limits = refl; within = λ r n k o a h. h }
+moves_none m roles s = record { parts = parts_none m roles (members s.drivers) (listed_in s.events); ready = λ r. r; heard = refl; limits = refl; within = λ r n k o a h. h; made = λ n l h. h }
 
 pub moves_join : {V : Type 0} {P : V → Type 0} (m : Meanings P) (roles : List Role) (s t u : Store V P) → StoreMoves m roles s t → StoreMoves m roles t u → StoreMoves m roles s u
 moves_join m roles s t u p q = record {
@@ -99,6 +99,7 @@ moves_join m roles s t u p q = record {
   heard = q.heard ∙ p.heard;
   limits = q.limits ∙ p.limits;
   within = λ r n k o a h. q.within (p.ready r) n k o (subst (AllowAtMost n k o) (sym p.limits) a) (p.within r n k o a h);
+  made = λ n l h. q.made n (subst (λ x. x.slots ≤ n) (sym p.limits) l) (p.made n l h);
 }
 
 -- its script objects alone are others, which take more slots than before only within the limit
@@ -110,4 +111,16 @@ moves_objects m roles s h tallied grown = record {
   heard = refl;
   limits = refl;
   within = λ r n k o a w. record { slots = grown n w.slots a.slots; events = w.events; objects = w.objects };
+  made = λ n l h. h;
+}
+
+-- an object was made while so many ticks were left
+pub moves_made : {V : Type 0} {P : V → Type 0} (m : Meanings P) (roles : List Role) (s : Store V P) (made ticks : ℕ) → made ≤ s.limits.slots → StoreMoves m roles s (record s { made = made; made_at = ticks })
+moves_made m roles s made ticks few = record {
+  parts = parts_none m roles (members s.drivers) (listed_in s.events);
+  ready = λ r. record { kept = record { drivers = r.kept.drivers; alive = r.kept.alive; none = r.kept.none; due = r.kept.due; tallied = r.kept.tallied }; room = r.room };
+  heard = refl;
+  limits = refl;
+  within = λ r n k o a w. record { slots = w.slots; events = w.events; objects = w.objects };
+  made = λ n l h. omega (arith, few, l);
 }

@@ -1,5 +1,5 @@
 -- The world of a store, and what a piece of a run leaves of it.
-use Rattle.std.specs.Prelude.{◌≡◌, ◌≤◌, ◌+◌, true, List, [], ℕ}
+use Rattle.std.specs.Prelude.{◌≡◌, ◌≤◌, ◌+◌, nat_eq, true, if◌then◌else◌, List, [], ℕ}
 use Rattle.ang_host.specs.Logs.{listed_in, is_heard, log_len, log_capacity}
 use Rattle.ang_host.specs.declared.event.Role.{Role}
 use Rattle.ang_host.specs.Meanings.{Meanings}
@@ -47,9 +47,19 @@ pub record IsWithin {V : Type 0} {P : V → Type 0} (n k o : ℕ) (s : Store V P
   pub events : log_len s.events + s.live ≤ k
   pub objects : s.live ≤ o
 
+-- how many slots of script objects the command has made while so many ticks were left
+abbrev pub made_while : {V : Type 0} {P : V → Type 0} → ℕ → Store V P → ℕ
+made_while ticks s = if nat_eq s.made_at ticks then s.made else 0
+
+-- While so many ticks were left an object of so many fields was made. It was counted among what was
+-- made while as many were left, and all of that is no more than the limit.
+pub record HasMade {V : Type 0} {P : V → Type 0} (ticks fields : ℕ) (s t : Store V P) : Type 0 where
+  pub counted : made_while ticks t ≡ made_while ticks s + (1 + fields)
+  pub few : made_while ticks t ≤ s.limits.slots
+
 -- A piece of a run: the drivers follow what it listed and keep their places, and all is ready again.
 -- Whether its events can be read stays, and the limits stay, and so does each bound that is no lower
--- than these.
+-- than these; what one tick made is bounded by the slots that may be held.
 pub record StoreMoves {V : Type 0} {P : V → Type 0} (m : Meanings P) (roles : List Role)
     (s t : Store V P) : Type 0 where
   pub parts :
@@ -60,6 +70,7 @@ pub record StoreMoves {V : Type 0} {P : V → Type 0} (m : Meanings P) (roles : 
   pub limits : t.limits ≡ s.limits
   pub within : IsReady m s → (n k o : ℕ) → AllowAtMost n k o s.limits → IsWithin n k o s
       → IsWithin n k o t
+  pub made : (n : ℕ) → s.limits.slots ≤ n → s.made ≤ n → t.made ≤ n
 
 -- the same, whatever roles entities have
 abbrev pub HasMoved : {V : Type 0} {P : V → Type 0} → Meanings P → Store V P → Store V P → Type 0

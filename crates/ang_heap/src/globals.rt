@@ -7,8 +7,9 @@ use ang_meaning::Slot;
 /// The values of all globals, by module and number.
 #[derive(Drop)]
 pub struct Globals {
-    /// The values of each module's globals.
-    pub modules: Vec<Vec<Slot>>,
+    /// The values of each module's globals. Each list has a box, so that its place is found without a product, which the
+    /// loop over a body's steps would carry through all of them.
+    pub modules: Vec<Box<Vec<Slot>>>,
 }
 
 impl Globals {

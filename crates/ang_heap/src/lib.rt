@@ -15,4 +15,4 @@ pub use ang_meaning::Slot;
 pub use globals::Globals;
 pub use heap::{Heap, Tally};
 pub use limits::{Held, Limits};
-pub use store::{Store, give, held, hold, set_limits};
+pub use store::{Store, begin_command, give, held, hold, made_with, set_limits};

@@ -9,6 +9,7 @@ pub struct Limits {
     /// asked that would have it list more.
     pub events: usize,
     /// The most slots of the script objects of all modules: an object is one slot, and each of its fields is one.
+    /// No more are made before the next tick either, even if they are given up at once.
     pub slots: usize,
     /// The most host objects that may live.
     pub objects: usize,

@@ -96,6 +96,23 @@ fn number_at(values: &[Slot], index: usize) -> Option<u64>
     None
 }
 
+/// Puts a number in the place of a number, of which the bits alone are written. False where none stands there, and then
+/// nothing is done.
+#[inline(always)]
+fn put_number_in_slot(slot: &mut Slot, value: u64) -> bool
+    ensures exact { result ≡ is_some (number_in slot.old) }
+    ensures put { IsTrue result → slot.new ≡ Bits value }
+    ensures kept { result ≡ false → slot.new ≡ slot.old }
+{
+    match slot {
+        Slot::Bits(bits) => {
+            *bits = value;
+            true
+        }
+        Slot::Script(_) | Slot::Host(_, _) => false,
+    }
+}
+
 /// Puts a number in the place of the number at an index. False where none stands there, and then nothing is
 /// done.
 #[inline(always)]
@@ -107,14 +124,7 @@ fn put_number_at(values: &mut Vec<Slot>, index: usize, value: u64) -> bool
     ensures kept { result ≡ false → values.new ≡ values.old }
 {
     if index < values.len() {
-        match values[index] {
-            Slot::Bits(_) => {
-                values[index] = Slot::Bits(value);
-                return true;
-            }
-            Slot::Script(_) => return false,
-            Slot::Host(_, _) => return false,
-        }
+        return put_number_in_slot(&mut values[index], value);
     }
     false
 }

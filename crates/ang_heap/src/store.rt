@@ -1,5 +1,5 @@
 //! What lies outside the stack of a run, as one thing.
-ghost use Rattle.std.specs.Prelude.{◌≡◌, ◌<◌, ℕ, ◌∷◌, false, [], Option, Some};
+ghost use Rattle.std.specs.Prelude.{◌≡◌, ◌<◌, ◌≤◌, ◌+◌, ℕ, ◌∷◌, false, [], Option, Some, IfSome, IfNone, max};
 ghost use Rattle.ang_host.specs.State.{count_at};
 ghost use Rattle.ang_host.specs.Laws.{IsFull};
 ghost use Rattle.ang_host.specs.Members.{state_at};
@@ -9,7 +9,7 @@ ghost use Rattle.ang_meaning.specs.Counting.{CanGive, HasKey};
 ghost use Rattle.ang_heap.specs.Heaps.{objects_of};
 ghost use Rattle.ang_heap.specs.Slots.{slots_of};
 ghost use Rattle.ang_heap.specs.Parts.{IsTallyFull, states_among, counts_among, live_among};
-ghost use Rattle.ang_heap.specs.Stores.{world_of, IsKept, IsReady, StoreTold, HasMoved, StoreBecomes};
+ghost use Rattle.ang_heap.specs.Stores.{world_of, IsKept, IsReady, StoreTold, HasMoved, StoreBecomes, made_while};
 
 use crate::globals::Globals;
 use crate::heap::{Heap, lower_shared, raise};
@@ -39,6 +39,10 @@ pub struct Store {
     pub spent: bool,
     /// How much scripts may hold. Where less is allowed than is held already, that stays, and nothing is added.
     pub limits: Limits,
+    /// How many slots of script objects this command has made while `made_at` ticks were left.
+    pub made: usize,
+    /// The ticks that were left when a script object was made last.
+    pub made_at: u64,
 }
 
 /// From now on these are the limits. Whatever is held already stays.
@@ -50,6 +54,46 @@ pub fn set_limits(store: &mut Store, limits: Limits)
     ensures set { store.new ≡ record store.old { limits = limits } }
 {
     store.limits = limits;
+}
+
+/// A command begins, which has made nothing yet. All that it runs is counted together.
+pub fn begin_command(store: &mut Store)
+    requires kept { IsKept ⟦<dyn Driver as Driver>⟧ store.old }
+    ensures kept { IsKept ⟦<dyn Driver as Driver>⟧ store.new }
+    ensures world { world_of ⟦<dyn Driver as Driver>⟧ store.new
+        ≡ world_of ⟦<dyn Driver as Driver>⟧ store.old }
+    ensures set { store.new ≡ record store.old { made = 0 } }
+{
+    store.made = 0;
+}
+
+/// How many slots were made while so many ticks were left.
+#[inline(always)]
+fn made_while(store: &Store, ticks: u64) -> usize
+    ensures exact { result ≡ made_while ticks store.now }
+{
+    if store.made_at == ticks {
+        return store.made;
+    }
+    0
+}
+
+/// How many slots were made while so many ticks were left, if one object more of so many fields is made. None where it
+/// may not be made: either the objects that live or those made in this tick would take more slots than the limit.
+#[inline(always)]
+pub fn made_with(store: &Store, fields: usize, ticks: u64) -> Option<usize>
+    ensures counted { IfSome result (λ n. n ≡ made_while ticks store.now + (1 + fields)) }
+    ensures held { IfSome result (λ n. store.now.heap.slots + (1 + fields) ≤ store.now.limits.slots) }
+    ensures few { IfSome result (λ n. n ≤ store.now.limits.slots) }
+    ensures refused { IfNone result (store.now.limits.slots
+        < max store.now.heap.slots (made_while ticks store.now) + (1 + fields)) }
+{
+    let most = store.limits.slots;
+    let made = made_while(store, ticks);
+    if made < most && fields < most - made && store.heap.has_slots(fields, most) {
+        return Some(made + 1 + fields);
+    }
+    None
 }
 
 /// How much scripts hold.

@@ -95,6 +95,9 @@ fn word(posted: bool) -> &'static str
     if posted { "post " } else { "ask " }
 }
 
+/// Most lines have no more bytes than this, so that room is made once.
+const USUAL: usize = 64;
+
 /// `ask DRIVER KIND F OBJECT (V,V)`, as a line; where it is posted, the same with `post`.
 ///
 /// # Errors
@@ -112,7 +115,7 @@ pub fn ask_line(
     ensures exact { IfOk result
         (λ r. r.items ≡ line_text posted driver kind f object values.now) }
 {
-    let mut out = Vec::new(alloc);
+    let mut out = Vec::with_capacity(alloc, USUAL)?;
     push_text(&mut out, word(posted))?;
     push_number(&mut out, u64::from(driver))?;
     push_text(&mut out, " ")?;

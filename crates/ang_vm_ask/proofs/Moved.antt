@@ -82,6 +82,7 @@ module _ {V : Type 0} {P : V → Type 0} (m : Meanings P) where
             heard = heard;
             limits = refl;
             within = λ r n k o a w. record { slots = w.slots; events = omega (arith, w.events, len); objects = w.objects };
+            made = λ n l h. h;
           })
 
       module _ (ds : Drivers V P) (es : EventBuffer) (event : HostEvent) (d : ℕ) (ask : Ask)
@@ -106,6 +107,7 @@ module _ {V : Type 0} {P : V → Type 0} (m : Meanings P) where
                 heard = heard;
                 limits = refl;
                 within = λ rd n k o a w. record { slots = w.slots; events = omega (arith, limit, a.events); objects = w.objects };
+                made = λ n l h. h;
               };
               ready = readied;
               same = answer_length _ _ _ _ _ d ask r moved;
@@ -138,6 +140,7 @@ module _ {V : Type 0} {P : V → Type 0} (m : Meanings P) where
                   events = omega (arith, limit, a.events, born_as r, born_one r);
                   objects = omega (arith, few, a.objects, born_as r, born_one r);
                 };
+                made = λ n l h. h;
               };
               ready = readied;
               same = made_length _ _ _ _ _ d r moved;

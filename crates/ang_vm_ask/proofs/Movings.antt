@@ -19,6 +19,7 @@ moves_globals m roles s gs = record {
   heard = refl;
   limits = refl;
   within = λ r n k o a w. record { slots = w.slots; events = w.events; objects = w.objects };
+  made = λ n l h. h;
 }
 
 -- a heap that counts what its objects take still does so, and they take more only within the limit

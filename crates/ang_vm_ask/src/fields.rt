@@ -2,7 +2,7 @@
 //!
 //! Here they are done on the store, without a stack. `fields.rt` of `ang_vm_steps` does the same as single instructions,
 //! with their operands on the stack, and that of `ang_vm_fields` does several of these instructions at once.
-ghost use Rattle.std.specs.Prelude.{◌≡◌, ℕ, Bool, ◌∷◌, nat_eq, List, []};
+ghost use Rattle.std.specs.Prelude.{◌≡◌, ℕ, Bool, ◌∷◌, nat_eq, List, [], IfOk, length};
 ghost use Rattle.std.specs.List.{list_any};
 ghost use Rattle.ang_host.specs.declared.event.HostEvent.{HostEvent};
 ghost use Rattle.ang_meaning.specs.declared.operation.Operation.TheVariants.{Make, FieldGet, FieldSet, FieldChange, Cast};
@@ -11,13 +11,13 @@ ghost use Rattle.ang_meaning.specs.Environment.{Environment, class_at as class_o
 ghost use Rattle.ang_meaning.specs.Perform.{perform, may_take as may_take_in, member_or, member_put};
 ghost use Rattle.ang_heap.specs.Heaps.{objects_of};
 ghost use Rattle.ang_heap.specs.Parts.{world_by};
-ghost use Rattle.ang_heap.specs.Stores.{world_of, IsReady, StoreTold, HasMoved, StoreBecomes};
+ghost use Rattle.ang_heap.specs.Stores.{world_of, IsReady, StoreTold, HasMoved, HasMade, StoreBecomes};
 ghost use Rattle.ang_vm_stack.specs.Tables.{setting_of};
 ghost use Rattle.ang_vm_stack.specs.Arms.{done};
 ghost use Rattle.ang_vm_ask.specs.Counts.{StandCounted};
 ghost use Rattle.ang_vm_ask.specs.Fields.{number_in, is_lower_rank, is_class_under};
 
-use ang_heap::{Heap, Store, give, hold};
+use ang_heap::{Heap, Store, give, hold, made_with};
 use ang_host::Driver;
 use ang_kinds::Fault;
 use ang_meaning::{Class, Slot, Update};
@@ -84,23 +84,29 @@ pub fn trade_member(store: &mut Store, object: Slot, index: usize, value: Slot) 
     value
 }
 
-/// A new object of a class.
+/// A new object of a class, made while so many ticks are left.
 ///
 /// # Errors
-/// `Memory` where there is none for it, or where it would take more slots than script objects may.
-pub fn make(store: &mut Store, class: &Class) -> Result<Slot, Fault>
+/// `Memory` where there is none for it, or where it would take more slots than script objects may, or than one tick may
+/// make of them.
+pub fn make(store: &mut Store, class: &Class, ticks: u64) -> Result<Slot, Fault>
     requires ready { IsReady ⟦<dyn Driver as Driver>⟧ store.old }
     ensures told { (z : Environment) (home number : ℕ) → class_of_number z home number ≡ class.now
         → StoreTold ⟦<dyn Driver as Driver>⟧ (perform z home (Make number) []) store.old
         (done result) store.new }
+    ensures made { IfOk result
+        (λ v. HasMade ticks (length class.now.fields) store.old store.new) }
     ensures moves { HasMoved ⟦<dyn Driver as Driver>⟧ store.old store.new }
 {
-    let count = class.fields.as_slice().len();
-    if !store.heap.has_slots(count, store.limits.slots) {
+    let Some(made) = made_with(store, class.fields.as_slice().len(), ticks) else {
         return Err(Fault::Memory);
-    }
+    };
     match store.heap.make(class) {
-        Ok(number) => Ok(Slot::Script(Some(number))),
+        Ok(number) => {
+            store.made = made;
+            store.made_at = ticks;
+            Ok(Slot::Script(Some(number)))
+        }
         Err(_) => Err(Fault::Memory),
     }
 }

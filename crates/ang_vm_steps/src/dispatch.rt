@@ -1,8 +1,9 @@
 //! `Apply`: each operation by its function.
-ghost use Rattle.std.specs.Prelude.{◌≡◌, ◌<◌, ◌≤◌, List, length};
+ghost use Rattle.std.specs.Prelude.{◌≡◌, ℕ, ◌<◌, ◌≤◌, List, length, IfOk};
 ghost use Rattle.ang_host.specs.Boxes.{members};
 ghost use Rattle.ang_code.specs.declared.instruction.Instruction.TheVariants.{Apply};
-ghost use Rattle.ang_heap.specs.Stores.{world_of, IsReady};
+ghost use Rattle.ang_heap.specs.Stores.{world_of, IsReady, HasMade};
+ghost use Rattle.ang_meaning.specs.declared.operation.Operation.TheVariants.{Make};
 ghost use Rattle.ang_vm_ask.specs.Entities.{DriversThere};
 ghost use Rattle.ang_vm_steps.specs.Turns.{Turned, IsNext};
 ghost use Rattle.ang_vm_ask.specs.Askings.{HasMovedOver};
@@ -41,6 +42,8 @@ pub fn do_operation(
     ensures turned { IsNext table.now body here (Apply operation.now) size
         → Turned table.now body room here stack.old (world_of ⟦<dyn Driver as Driver>⟧ store.old)
         result stack.new (world_of ⟦<dyn Driver as Driver>⟧ store.new) }
+    ensures made { (class : ℕ) → operation.now ≡ Make class
+        → IfOk result (λ next. (fields : ℕ) × HasMade here.ticks fields store.old store.new) }
     ensures moves { HasMovedOver ⟦<dyn Driver as Driver>⟧ table.now store.old store.new }
     ensures ready { IsReady ⟦<dyn Driver as Driver>⟧ store.new }
     ensures count { length (members store.new.drivers) ≡ length (members store.old.drivers) }
@@ -67,7 +70,7 @@ pub fn do_operation(
         Operation::Make(class) => {
             next(
                 here,
-                make_object(table, body, stack, store, top, room, class),
+                make_object(table, body, stack, store, top, room, class, here.ticks),
             )
         }
         Operation::FieldGet(number) => next(here, get_field(stack, store, top, room, number)),

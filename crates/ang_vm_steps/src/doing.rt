@@ -1,5 +1,5 @@
 //! `Apply`: operations take their operands from the stack and put their value there.
-ghost use Rattle.std.specs.Prelude.{◌≡◌, ℕ, ◌+◌, ◌-◌, ◌<◌, ◌≤◌, ◌∷◌, List, length, IfOk, Err};
+ghost use Rattle.std.specs.Prelude.{◌≡◌, ℕ, ◌+◌, ◌-◌, ◌<◌, ◌≤◌, ◌∷◌, List, length, IfOk, is_ok, Err};
 ghost use Rattle.ang_kinds.specs.declared.fault.Fault.{Fault as FaultOf};
 ghost use Rattle.ang_meaning.specs.declared.routine.Routine.{Routine};
 ghost use Rattle.ang_meaning.specs.declared.operation.Operation.TheVariants.{Binary, Compare, Convert, Negate, Complement, Not};
@@ -38,6 +38,7 @@ pub(crate) fn put_answer(
         (λ v u. At f (pc + 1) room (v ∷ drop_some count (values stack.old top)) fr t u)
         ≡ went result f pc room stack.new top fr t w }
     ensures in_room { IfOk result (λ n. n ≤ top - count + 1) }
+    ensures ok { is_ok result ≡ is_ok answer }
     ensures fails { (x : FaultOf) → result ≡ Err (Fails x)
         → (answer ≡ Err x) × (stack.new ≡ stack.old) }
 {

@@ -5,7 +5,7 @@
 ghost use Rattle.std.specs.Prelude.{◌≡◌, ℕ, ◌≤◌, ◌∷◌, List, [], length, IfOk};
 ghost use Rattle.ang_meaning.specs.declared.operation.Operation.TheVariants.{Make, FieldGet, FieldSet, FieldChange, Cast};
 ghost use Rattle.ang_code.specs.declared.instruction.Instruction.TheVariants.{Apply};
-ghost use Rattle.ang_heap.specs.Stores.{IsReady, HasMoved};
+ghost use Rattle.ang_heap.specs.Stores.{IsReady, HasMoved, HasMade};
 ghost use Rattle.ang_vm_steps.specs.Arms.{AreCounted, ActsOn, TableActs};
 
 use crate::doing::put_answer;
@@ -17,7 +17,7 @@ use ang_vm_stack::stack::peek;
 use ang_vm_stack::stop::Trap;
 use ang_vm_stack::table::{Table, class_at};
 
-/// `Make`: a new object of a class of the running module goes on top.
+/// `Make`: a new object of a class of the running module goes on top, made while so many ticks are left.
 pub(crate) fn make_object(
     table: &Table,
     body: Routine,
@@ -26,6 +26,7 @@ pub(crate) fn make_object(
     top: usize,
     room: usize,
     class: usize,
+    ticks: u64,
 ) -> Result<usize, Trap>
     requires in_room { top ≤ room }
     requires within { room ≤ length stack.old }
@@ -34,6 +35,8 @@ pub(crate) fn make_object(
     ensures acts { TableActs ⟦<dyn Driver as Driver>⟧ table.now body (Apply (Make class)) room top
         stack.old store.old result stack.new store.new }
     ensures in_room { IfOk result (λ n. n ≤ room) }
+    ensures made { IfOk result
+        (λ n. (fields : ℕ) × HasMade ticks fields store.old store.new) }
     ensures moves { HasMoved ⟦<dyn Driver as Driver>⟧ store.old store.new }
 {
     let found = match class_at(table, body.home, class) {
@@ -43,7 +46,7 @@ pub(crate) fn make_object(
     if top >= room {
         return Err(Trap::Stuck);
     }
-    let answer = make(store, found);
+    let answer = make(store, found, ticks);
     put_answer(stack, top, 0, answer)
 }
 

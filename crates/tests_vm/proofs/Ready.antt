@@ -8,6 +8,7 @@ use Rattle.std.specs.Ordering.{nat_cmp}
 use Rattle.std.specs.FinMap as map
 use Rattle.std.specs.FinMap.{len-empty, get-empty}
 use Rattle.std.specs.declared.alloc.Global.{Global}
+use Rattle.std.specs.declared.boxed.Box.{Box}
 use Rattle.ang_kinds.specs.declared.fault.Fault.{Fault}
 use Rattle.ang_kinds.specs.declared.fault.Fault.TheVariants.{Null}
 use Rattle.ang_kinds.specs.declared.primitive.Primitive.{Primitive}
@@ -102,13 +103,13 @@ empty_values x [] h = refl
 empty_values x (v ∷ vs) h =
     omega (arith, one_empty x v (both_left (names_nothing v) (list_all names_nothing vs) h), empty_values x vs (both_right (names_nothing v) (list_all names_nothing vs) h))
 
-pub empty_globals : (x : Thing) (gs : List (Vec Slot Global)) → list_all (λ v. list_all names_nothing v.items) gs ≡ true → in_lists x (list_map (λ v. v.items) gs) ≡ 0
+pub empty_globals : (x : Thing) (gs : List (Box (Vec Slot Global) Global)) → list_all (λ b. list_all names_nothing b.value.items) gs ≡ true → in_lists x (list_map (λ b. b.value.items) gs) ≡ 0
 empty_globals x [] h = refl
-empty_globals x (v ∷ gs) h =
+empty_globals x (b ∷ gs) h =
     omega (
       arith,
-      empty_values x v.items (both_left (list_all names_nothing v.items) (list_all (λ v. list_all names_nothing v.items) gs) h),
-      empty_globals x gs (both_right (list_all names_nothing v.items) (list_all (λ v. list_all names_nothing v.items) gs) h),
+      empty_values x b.value.items (both_left (list_all names_nothing b.value.items) (list_all (λ b. list_all names_nothing b.value.items) gs) h),
+      empty_globals x gs (both_right (list_all names_nothing b.value.items) (list_all (λ b. list_all names_nothing b.value.items) gs) h),
     )
 
 -- ---- after a run

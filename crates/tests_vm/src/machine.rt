@@ -71,18 +71,18 @@ fn are_empty(globals: &Vec<Slot>) -> bool
 }
 
 /// Whether no global of any module holds an object.
-fn all_are_empty(modules: &Vec<Vec<Slot>>) -> bool
+fn all_are_empty(modules: &Vec<Box<Vec<Slot>>>) -> bool
     ensures exact { result ≡ list_all
-        (λ globals. list_all names_nothing globals.items) modules.now.items }
+        (λ globals. list_all names_nothing globals.value.items) modules.now.items }
 {
     modules.iter().all(|globals| are_empty(globals))
 }
 
 /// A machine on these drivers, with such globals.
-fn machine_of(alloc: Global, drivers: Drivers, modules: Vec<Vec<Slot>>) -> Machine
+fn machine_of(alloc: Global, drivers: Drivers, modules: Vec<Box<Vec<Slot>>>) -> Machine
     requires fresh { AreFresh (states_of ⟦<dyn Driver as Driver>⟧ (members drivers)) }
     requires empty { IsTrue (list_all
-        (λ globals. list_all names_nothing globals.items) modules.items) }
+        (λ globals. list_all names_nothing globals.value.items) modules.items) }
     ensures rest { IsAtRest ⟦<dyn Driver as Driver>⟧ result }
 {
     let heap = Heap::new(alloc);
@@ -97,6 +97,8 @@ fn machine_of(alloc: Global, drivers: Drivers, modules: Vec<Vec<Slot>>) -> Machi
             live: 0,
             spent: false,
             limits: Limits::none(),
+            made: 0,
+            made_at: 0,
         },
     }
 }
@@ -131,6 +133,8 @@ pub fn end(machine: Machine) {
         live: _,
         spent: _,
         limits: _,
+        made: _,
+        made_at: _,
     } = store;
     drop(drivers.into_boxes());
 }

@@ -140,10 +140,10 @@ pub fn table(alloc: Global) -> Result<Table, AllocError> {
 }
 
 /// What the globals of all modules hold at first.
-pub fn first_globals(alloc: Global) -> Result<Vec<Vec<Slot>>, AllocError> {
+pub fn first_globals(alloc: Global) -> Result<Vec<Box<Vec<Slot>>>, AllocError> {
     let mut globals = Vec::new(alloc);
     for written in &MODULES {
-        globals.push(Vec::from_slice(alloc, written.globals)?)?;
+        globals.push(Box::new(alloc, Vec::from_slice(alloc, written.globals)?)?)?;
     }
     Ok(globals)
 }

@@ -25,4 +25,5 @@ returns-clause-moves g c = λ roles. record {
     events = omega (arith, w.events, r.kept.alive, c.end_module.ensures.level, c.end_module.ensures.fewer, c.len.ensures.exact, c.len-before.ensures.exact);
     objects = omega (arith, w.objects);
   };
+  made = λ n l h. h;
 }

@@ -32,6 +32,7 @@ returns-then-release-clause-moves g c = λ roles. record {
   within = λ r n k o a w.
       let ended = subst (λ b. log_len c.release.new.events ≡ log_len c.args.store.now.events + one_if b) c.if-release.true c.release.ensures.ended in
       record { slots = w.slots; events = omega (arith, w.events, r.kept.alive, c.release.ensures.level, ended); objects = omega (arith, w.objects) };
+  made = λ n l h. h;
 }
 
 pub returns-else-release-clause-given : goal.returns-else-release-clause-given
@@ -57,4 +58,5 @@ returns-else-release-clause-moves g c = λ roles. record {
   within = λ r n k o a w.
       let ended = subst (λ b. log_len c.release.new.events ≡ log_len c.args.store.now.events + one_if b) c.if-release.false c.release.ensures.ended in
       record { slots = w.slots; events = omega (arith, w.events, r.kept.alive, c.release.ensures.level, ended); objects = omega (arith, w.objects) };
+  made = λ n l h. h;
 }

@@ -28,4 +28,5 @@ returns-clause-moves g c = λ roles. record {
     events = omega (arith, w.events, r.kept.alive, c.give_up.ensures.level, c.give_up.ensures.fewer);
     objects = omega (arith, w.objects);
   };
+  made = λ n l h. h;
 }

@@ -33,6 +33,7 @@ returns-then-add-clause-moves g c = λ roles. record {
   heard = refl;
   limits = refl;
   within = λ r n k o a w. record { slots = w.slots; events = w.events; objects = w.objects };
+  made = λ n l h. h;
 }
 
 pub returns-clause-told : goal.returns-clause-told
@@ -60,4 +61,5 @@ returns-clause-moves g c = λ roles. record {
   heard = refl;
   limits = refl;
   within = λ r n k o a w. record { slots = w.slots; events = w.events; objects = w.objects };
+  made = λ n l h. h;
 }

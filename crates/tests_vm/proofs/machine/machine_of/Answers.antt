@@ -25,7 +25,7 @@ returns g c = record {
           room = room;
         };
         counted = nothing_counted
-            (record { objects = objects_of c.new-heap.result; hosts = counts_by ss; globals = list_map (λ v. v.items) c.args.modules.items; events = listed_in events; spent = false; inputs = [] })
+            (record { objects = objects_of c.new-heap.result; hosts = counts_by ss; globals = list_map (λ b. b.value.items) c.args.modules.items; events = listed_in events; spent = false; inputs = [] })
             c.new-heap.ensures.empty (no_counts ss c.requires.fresh) (λ x. empty_globals x c.args.modules.items c.requires.empty);
       };
 }
