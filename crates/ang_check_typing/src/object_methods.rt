@@ -53,7 +53,7 @@ fn script_method(
     own_method(
         alloc,
         context,
-        methods.as_slice(),
+        &methods,
         on,
         name,
         object,
