@@ -126,6 +126,29 @@ fn enter(
     contest.enter_method(alloc, lineage, args, contender, receiver, &method.function)
 }
 
+/// The same by the place alone.
+fn enter_alone(
+    alloc: Global,
+    contest: &mut Contest,
+    lineage: &Lineage,
+    args: &[ArgType],
+    methods: &FoundMethods<'_>,
+    dispatch: Dispatch,
+    number: u32,
+    place: usize,
+) -> Result<(), AllocError>
+    ensures entered { OnOk result (contest.new ≡ contests.after lineage.now args.now contest.old
+        (contests.entry_in (Contender.Method place)
+        (methods_spec.method_at dispatch number (slice_get methods.now.methods place)))) }
+{
+    match methods.get(place) {
+        None => Ok(()),
+        Some(found) => enter(
+            alloc, contest, lineage, args, dispatch, number, place, &found,
+        ),
+    }
+}
+
 /// These methods, as each is taken in by itself for arguments of these types.
 fn methods_one_by_one(
     alloc: Global,
@@ -140,18 +163,16 @@ fn methods_one_by_one(
 {
     let mut contest = Contest::new(alloc);
     for place in 0..methods.len() {
-        if let Some(found) = methods.get(place) {
-            enter(
-                alloc,
-                &mut contest,
-                lineage,
-                args,
-                dispatch,
-                number,
-                place,
-                &found,
-            )?;
-        }
+        enter_alone(
+            alloc,
+            &mut contest,
+            lineage,
+            args,
+            methods,
+            dispatch,
+            number,
+            place,
+        )?;
     }
     Ok(contest)
 }
@@ -193,7 +214,10 @@ fn enter_told(
     }
     match methods.row(place) {
         None => Ok(()),
-        Some(row) => contest.enter_told(alloc, told, Contender::Method(place), row),
+        Some(row) => {
+            contest.enter_told(alloc, told, Contender::Method(place), row)?;
+            Ok(())
+        }
     }
 }
 

@@ -1,5 +1,5 @@
 -- The ranks of the arguments of a call for all kinds of parameters.
-use Rattle.std.specs.Prelude.{ℕ, ◌≡◌, ◌×◌, Bool, true, false, ◌&&◌, List, [], ◌∷◌, map, slice_get, Option, Some, None, option_and_then}
+use Rattle.std.specs.Prelude.{ℕ, ◌×◌, Bool, false, ◌&&◌, ◌||◌, if◌then◌else◌, List, [], ◌∷◌, map, slice_get, Option, Some, None}
 use Rattle.ang_types.specs.declared.arg_type.ArgType.{ArgType}
 use Rattle.ang_types.specs.Ranks.{Ancestors, argument_rank}
 use Rattle.ang_names_known.specs.Kinds.{Kind}
@@ -37,10 +37,17 @@ ranks_at [] (n ∷ ns) = None
 ranks_at (row ∷ rows) [] = None
 ranks_at (row ∷ rows) (n ∷ ns) = with_rank (rank_in row n) (ranks_at rows ns)
 
--- a comparison says what these ranks are beside the least ones; of no ranks it says that there are none
-abbrev pub Compares : Comparison → Option (List ℕ) → List ℕ → Type 0
-Compares c None least = c.is_viable ≡ false
-Compares c (Some ranks) least = (c.is_viable ≡ true) × (c.is_lower ≡ has_lower ranks least) × (c.is_higher ≡ has_lower least ranks)
+-- what ranks are beside the least ones: whether some rank is lower, and whether some is higher, or was so before
+abbrev pub compared_after : Bool → Bool → Option (List ℕ) → List ℕ → Option (Bool × Bool)
+compared_after lower higher None least = None
+compared_after lower higher (Some ranks) least = Some (lower || has_lower ranks least, higher || has_lower least ranks)
+
+abbrev pub comparison_of : Option (List ℕ) → List ℕ → Option (Bool × Bool)
+comparison_of ranks least = compared_after false false ranks least
+
+-- what a comparison says: nothing of a candidate that is not viable
+abbrev pub said_by : Comparison → Option (Bool × Bool)
+said_by c = if c.is_viable then Some (c.is_lower, c.is_higher) else None
 
 -- some rank is lower, and each argument has one
 abbrev pub is_lower_too : Comparison → Bool

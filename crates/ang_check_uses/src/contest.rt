@@ -158,11 +158,13 @@ impl Contest {
             ≡ spec.entered told.now.ancestors told.now.args self.old contender params) }
     {
         if !self.score.is_viable {
-            return self.enter_anew(alloc, told, contender, numbers);
+            self.enter_anew(alloc, told, contender, numbers)?;
+            return Ok(());
         }
         let comparison = told.compare(numbers, self.score.least.as_slice());
         if comparison.is_viable && comparison.is_lower {
-            return self.enter_anew(alloc, told, contender, numbers);
+            self.enter_anew(alloc, told, contender, numbers)?;
+            return Ok(());
         }
         self.score.keep(contender, comparison);
         Ok(())
@@ -184,7 +186,8 @@ impl Contest {
         self.ranks.clear();
         let is_viable = told.rank(numbers, &mut self.ranks)?;
         self.score
-            .enter(alloc, contender, is_viable, self.ranks.as_slice())
+            .enter(alloc, contender, is_viable, self.ranks.as_slice())?;
+        Ok(())
     }
 
     /// Whether none was taken in. It takes no memory.

@@ -2,7 +2,7 @@
 ghost use Rattle.std.specs.Prelude.{◌≡◌, ℕ, List, Option, true, false, OnOk, IfOk};
 ghost use Rattle.ang_check_uses.specs.Contest as spec;
 ghost use Rattle.ang_check_uses.specs.Scores.{ranks_if, standing};
-ghost use Rattle.ang_check_uses.specs.Told.{Compares, is_lower_too};
+ghost use Rattle.ang_check_uses.specs.Told.{comparison_of, is_lower_too, said_by};
 
 use crate::told::Comparison;
 use ang_kinds::EntityNo;
@@ -196,7 +196,7 @@ impl Score {
     pub fn keep(&mut self, contender: Contender, comparison: Comparison)
         requires viable { self.old.is_viable ≡ true }
         ensures kept { (ranks : Option (List ℕ)) →
-            Compares comparison ranks self.old.least.items →
+            said_by comparison ≡ comparison_of ranks self.old.least.items →
             is_lower_too comparison ≡ false → standing self.new
             ≡ spec.entered_with (standing self.old) contender ranks }
     {

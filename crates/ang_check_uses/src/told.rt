@@ -94,8 +94,8 @@ fn rank_at(row: &[Option<u8>], number: u32) -> Option<u8>
     ensures exact { result ≡ spec.rank_in row.now number }
 {
     match row.get(number as usize) {
-        Some(Some(rank)) => Some(*rank),
-        _ => None,
+        None => None,
+        Some(rank) => *rank,
     }
 }
 
@@ -116,20 +116,23 @@ fn rank_told(
         let Some((number, others)) = rest.split_first() else {
             return Ok(false);
         };
-        let Some(rank) = rank_at(row, *number) else {
+        let Some(rank) = rank_at(row.as_slice(), *number) else {
             return Ok(false);
         };
         ranks.push(rank)?;
         rest = others;
     }
-    Ok(rest.is_empty())
+    match rest {
+        [] => Ok(true),
+        _ => Ok(false),
+    }
 }
 
 /// What the ranks for the kinds of these numbers are beside the least ones.
 #[inline(always)]
 fn compare_told(rows: &[Vec<Option<u8>>], numbers: &[u32], least: &[u8]) -> Comparison
-    ensures compared { spec.Compares result (spec.ranks_at (spec.rows_of rows.now) numbers.now)
-        least.now }
+    ensures compared { spec.said_by result
+        ≡ spec.comparison_of (spec.ranks_at (spec.rows_of rows.now) numbers.now) least.now }
 {
     let mut comparison = Comparison {
         is_viable: false,
@@ -142,7 +145,7 @@ fn compare_told(rows: &[Vec<Option<u8>>], numbers: &[u32], least: &[u8]) -> Comp
         let Some((number, others)) = rest.split_first() else {
             return comparison;
         };
-        let Some(rank) = rank_at(row, *number) else {
+        let Some(rank) = rank_at(row.as_slice(), *number) else {
             return comparison;
         };
         if let Some((least, after)) = lowest.split_first() {
@@ -203,7 +206,8 @@ impl<'a> ToldRanks<'a> {
     pub(crate) fn compare(&self, numbers: &[u32], least: &[u8]) -> Comparison
         ensures compared { (params : Params) →
             kinds_at self.now.kinds numbers.now ≡ list_map Some params →
-            spec.Compares result (contests.ranks_of self.now.ancestors params self.now.args)
+            spec.said_by result
+            ≡ spec.comparison_of (contests.ranks_of self.now.ancestors params self.now.args)
             least.now }
     {
         compare_told(self.rows.as_slice(), numbers, least)

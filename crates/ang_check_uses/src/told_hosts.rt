@@ -165,7 +165,10 @@ fn enter_told_entry(
     }
     match entries.row(number) {
         None => Ok(()),
-        Some(row) => contest.enter_told(alloc, told, Contender::Entry(number), row),
+        Some(row) => {
+            contest.enter_told(alloc, told, Contender::Entry(number), row)?;
+            Ok(())
+        }
     }
 }
 

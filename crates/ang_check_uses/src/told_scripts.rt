@@ -102,7 +102,10 @@ fn enter_told_function(
 {
     match row_of(functions, declared, number) {
         None => Ok(()),
-        Some(row) => contest.enter_told(alloc, told, contender_in(declared, number), row),
+        Some(row) => {
+            contest.enter_told(alloc, told, contender_in(declared, number), row)?;
+            Ok(())
+        }
     }
 }
 

@@ -9,3 +9,5 @@ pub mod Adding
 pub mod AddingProperties
 pub mod SoFar
 pub mod Among
+pub mod Kinds
+pub mod SameKinds

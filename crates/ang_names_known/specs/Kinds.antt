@@ -64,6 +64,10 @@ AreRows kinds rows params = (t : ℕ) → kinds_of (numbered t kinds) rows ≡ t
 abbrev pub Says : ℕ → List Kind → Option (List ℕ) → Option Params → Type 0
 Says t kinds row params = option_map (kinds_at (numbered t kinds)) row ≡ option_map (map Some) params
 
+abbrev pub params_in : Option (Option Params) → Option Params
+params_in None = None
+params_in (Some params) = params
+
 -- ---- of what there are rows
 
 abbrev pub function_params : List ScriptFunction → List (Option Params)
@@ -105,6 +109,20 @@ abbrev pub after : Params → Option Params → Option Params
 after front None = None
 after front (Some params) = Some (front ++ params)
 
+abbrev pub row_if : Bool → List ℕ → Option (List ℕ)
+row_if all ns = if all then Some ns else None
+
+-- the number of an entry's receiver, if it has one; none of what can't be called
+abbrev pub receiver_row : EntryKind → Bool → Option (List ℕ)
+receiver_row entry.HostType read_only = None
+receiver_row entry.Factory read_only = Some []
+receiver_row entry.Method read_only = Some (receiver_number read_only ∷ [])
+receiver_row entry.Property read_only = None
+receiver_row entry.Function read_only = Some []
+receiver_row entry.Global read_only = None
+receiver_row entry.Enumeration read_only = None
+receiver_row (entry.EnumValue v) read_only = None
+
 -- these numbers are those of the kinds of parameters, or there are none of these
 abbrev pub SaysIf : Bool → List Kind → List ℕ → Option Params → Type 0
-SaysIf all kinds ns params = option_map (kinds_at kinds) (if all then Some ns else None) ≡ option_map (map Some) params
+SaysIf all kinds ns params = option_map (kinds_at kinds) (row_if all ns) ≡ option_map (map Some) params

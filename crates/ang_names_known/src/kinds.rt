@@ -51,14 +51,9 @@ impl KindRows {
     pub(crate) fn row(&self, place: usize) -> Option<&[u32]>
         ensures exact { option_map (λ row. row.now) result ≡ rows_spec.row_at self.now place }
     {
-        match self.spans.get(place) {
-            None | Some(None) => None,
-            Some(Some(span)) => {
-                let start = span.start;
-                let after = &self.numbers.as_slice()[start..];
-                Some(&after[..span.count])
-            }
-        }
+        let span = (*self.spans.get(place)?)?;
+        let after = &self.numbers.as_slice()[span.start..];
+        Some(&after[..span.count])
     }
 
     /// Puts a row in at the end.

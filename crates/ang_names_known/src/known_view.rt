@@ -1,5 +1,5 @@
 //! What a module sees of the host, with the numbers of the kinds of its functions' parameters.
-ghost use Rattle.std.specs.Prelude.{◌≡◌, ◌++◌, ◌∷◌, [], ℕ, IfOk, OnOk, Some, None, true, false, map as list_map, option_map};
+ghost use Rattle.std.specs.Prelude.{◌≡◌, ◌++◌, ◌∷◌, [], ℕ, List, Option, IfOk, OnOk, Some, map as list_map, option_map};
 ghost use Rattle.ang_types.specs.Overloads.{Params};
 ghost use Rattle.ang_view.specs.Registration.{entry_at};
 ghost use Rattle.ang_names_known.specs.Host as host;
@@ -54,7 +54,13 @@ impl<'a> Model for KnownEntries<'a> {
 }
 
 /// Puts the number of an entry's receiver in, if it has one; whether the entry can be called at all.
-fn push_receiver(entry: &Entry, row: &mut Vec<u32>) -> Result<bool, AllocError> {
+///
+/// The only error is want of memory.
+fn push_receiver(entry: &Entry, row: &mut Vec<u32>) -> Result<bool, AllocError>
+    requires empty { row.old.items ≡ [] }
+    ensures pushed { IfOk result (λ all. spec.row_if all row.new.items
+        ≡ spec.receiver_row entry.now.kind entry.now.signature.read_only) }
+{
     match entry.kind {
         EntryKind::Function | EntryKind::Factory => Ok(true),
         EntryKind::Method => {
@@ -127,6 +133,14 @@ fn push_row(
     entry: &Option<Entry>,
     row: &mut Vec<u32>,
 ) -> Result<(), AllocError>
+    ensures keeps { OnOk result
+        ((t : ℕ) → spec.Keeps (spec.numbered t table.old) (spec.numbered t table.new)) }
+    ensures pushed { OnOk result ((t : ℕ) (rest all : List (Option Params)) →
+        spec.kinds_of (spec.numbered t table.old) rows.old
+        ++ spec.told_of (spec.entry_params view.now t entry.now ∷ rest)
+        ≡ spec.told_of all →
+        spec.kinds_of (spec.numbered t table.new) rows.new ++ spec.told_of rest
+        ≡ spec.told_of all) }
 {
     row.clear();
     let Some(entry) = entry else {
@@ -170,7 +184,7 @@ impl<'a> KnownView<'a> {
     }
 
     /// The entries, with their numbers.
-    pub fn known_entries(&self) -> KnownEntries<'_>
+    pub fn known_entries(&'a self) -> KnownEntries<'a>
         ensures view { result.view ≡ self.now }
     {
         KnownEntries {
