@@ -15,7 +15,10 @@ ghost use Rattle.ang_types.specs.declared.arg_type.ArgType.TheVariants.{Object};
 use crate::called::{CallSite, called_own, with_receiver};
 use ang_check_context::{BodyContext, Receiver, types_of};
 use ang_check_operators::{Operand, TypingError};
-use ang_check_uses::{Callable, Called, Contender, Contest, Outcome, Reach, Resolution, ToldRanks, called_at, is_worth_telling};
+use ang_check_uses::{
+    Callable, Called, Contender, Contest, Outcome, Reach, Resolution, ToldRanks, called_at,
+    is_worth_telling,
+};
 use ang_kinds::{ErrorKind, List, Pass};
 use ang_lex::Token;
 use ang_names_known::{FoundMethod, FoundMethods, ScriptMethod, parameters_of};

@@ -19,9 +19,7 @@ use crate::told_hosts::enter_hosts;
 use crate::told_scripts::enter_scripts;
 use crate::uses::{Callable, Resolution};
 use ang_kinds::{EntityNo, ErrorKind};
-use ang_names_known::{
-    BorrowedText, Family, ScriptConstructor, Wanted, family_of_type, found_at,
-};
+use ang_names_known::{BorrowedText, Family, ScriptConstructor, Wanted, family_of_type, found_at};
 use ang_types::{ArgType, Lineage};
 use ang_view::View;
 use std::alloc::{AllocError, Global};

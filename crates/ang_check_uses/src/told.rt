@@ -44,7 +44,7 @@ impl<'a> Model for ToldRanks<'a> {
     } };
 
     ghost invariant = { λ t. spec.rows_of t.rows.items
-      ≡ spec.told_ranks t.lineage.now (numbered t.receiver t.kinds.now) t.args.now };
+        ≡ spec.told_ranks t.lineage.now (numbered t.receiver t.kinds.now) t.args.now };
 }
 
 /// What the ranks of a candidate are beside the least ones.
@@ -103,6 +103,7 @@ fn rank_at(row: &[Option<u8>], number: u32) -> Option<u8>
 /// has one.
 ///
 /// The only error is want of memory.
+#[tactic(auto, using(crate::proofs::RankLaws::one_more_rank))]
 fn rank_told(
     rows: &[Vec<Option<u8>>],
     numbers: &[u32],
@@ -129,6 +130,7 @@ fn rank_told(
 }
 
 /// What the ranks for the kinds of these numbers are beside the least ones.
+#[tactic(auto, using(crate::proofs::ToldLaws::compared_more, crate::proofs::ToldLaws::compared_alone))]
 #[inline(always)]
 fn compare_told(rows: &[Vec<Option<u8>>], numbers: &[u32], least: &[u8]) -> Comparison
     ensures compared { spec.said_by result
@@ -198,7 +200,8 @@ impl<'a> ToldRanks<'a> {
             ranks_if all ranks.new.items ≡ in_front ranks.old.items
             (contests.ranks_of self.now.ancestors params self.now.args)) }
     {
-        rank_told(self.rows.as_slice(), numbers, ranks)
+        let all = rank_told(self.rows.as_slice(), numbers, ranks)?;
+        Ok(all)
     }
 
     /// What the ranks for parameters of these kinds are beside the least ones. It takes no memory.

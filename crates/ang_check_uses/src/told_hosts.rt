@@ -230,5 +230,7 @@ pub fn enter_hosts(
     }
     let told = ToldRanks::new(alloc, scope.lineage(), receiver_as(usage), kinds, args)?;
     let view = scope.view();
-    enter_told_entries(contest, alloc, &told, wanted, usage, view, &entries, numbers)
+    enter_told_entries(
+        contest, alloc, &told, wanted, usage, view, &entries, numbers,
+    )
 }

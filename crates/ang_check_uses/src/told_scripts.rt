@@ -86,6 +86,7 @@ fn row_of<'a>(
 }
 
 /// Takes in the function of this number, where there is one, by the ranks that are told.
+#[tactic(auto, using(crate::proofs::ToldChoices::no_function, crate::proofs::ToldChoices::function_told))]
 #[inline(always)]
 fn enter_told_function(
     contest: &mut Contest,
@@ -180,7 +181,10 @@ pub fn enter_scripts(
     let functions = names.functions_named(name);
     let imports = names.imports_named(name);
     let known = names.known_functions();
-    if is_worth_telling(functions.len().saturating_add(imports.len()), known.kinds().len()) {
+    if is_worth_telling(
+        functions.len().saturating_add(imports.len()),
+        known.kinds().len(),
+    ) {
         return enter_at_once(contest, alloc, lineage, args, &known, functions, imports);
     }
     enter_functions(

@@ -191,3 +191,17 @@ says_at t kinds rows params n are = by (slice_get rows n) (slice_get (params t) 
     by None (Some o) e = cc
     by (Some row) None e = cc
     by (Some row) (Some o) e = same_Some (option_map (kinds_at (numbered t kinds)) row) (option_map (map Some) o) e
+
+-- the parameters of what stands at a place
+pub params_at : {A : Type 0} (f : A → Params) (xs : List A) (n : ℕ) → params_in (slice_get (map (λ (x : A). Some (f x)) xs) n) ≡ option_map f (slice_get xs n)
+params_at f [] n = refl
+params_at f (x ∷ xs) zero = refl
+params_at f (x ∷ xs) (suc n) = params_at f xs n
+
+-- a row at a place is that of the function there
+pub says_of : {A : Type 0} (t : ℕ) (kinds : List Kind) (rows : Rows) (f : ℕ → A → Params) (xs : List A) (n : ℕ) (row : Option (List ℕ))
+    → AreRows kinds rows (λ t. map (λ (x : A). Some (f t x)) xs) → row ≡ row_at rows n → Says t kinds row (option_map (f t) (slice_get xs n))
+says_of t kinds rows f xs n row are is =
+    ap (option_map (kinds_at (numbered t kinds))) is
+    ∙ says_at t kinds rows (λ t. map (λ x. Some (f t x)) xs) n are
+    ∙ ap (option_map (map Some)) (params_at (f t) xs n)

@@ -11,3 +11,4 @@ pub mod SoFar
 pub mod Among
 pub mod Kinds
 pub mod SameKinds
+pub mod MethodPlaces

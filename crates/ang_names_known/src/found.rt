@@ -52,7 +52,7 @@ impl<'a> Model for FoundMethods<'a> {
     } };
 
     ghost invariant = { λ f. AreFound f.families.now (spec.places_in f.places)
-      × AreMethodRows f.numbering.now.kinds.items f.numbering.now.methods.items f.families.now };
+        × AreMethodRows f.numbering.now.kinds.items f.numbering.now.methods.items f.families.now };
 }
 
 impl<'a> FoundMethods<'a> {

@@ -132,7 +132,9 @@ pub(crate) fn method_count(families: &[Family]) -> usize {
 fn function_count(names: &Names) -> usize {
     let functions = names.functions.as_slice().len();
     let imports = names.imports.as_slice().len();
-    functions.saturating_add(imports).saturating_add(method_count(names.families.as_slice()))
+    functions
+        .saturating_add(imports)
+        .saturating_add(method_count(names.families.as_slice()))
 }
 
 /// The kinds of the parameters of all functions, imports and methods.
