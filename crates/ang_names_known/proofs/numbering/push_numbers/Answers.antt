@@ -2,7 +2,7 @@ use Rattle.std.proofs.Common.{◌≡◌, ◌++◌, ◌∷◌, ◌+◌, [], Some,
 use Rattle.std.proofs.lemmas.List.{map-append}
 use Rattle.ang_names_known.specs.Kinds.{Kind, kinds_at, numbered}
 use Rattle.ang_names_known.specs.Lookup.{type_and_pass}
-use Rattle.ang_names_known.proofs.Kinds.{keeps_further, keeps_itself, left_here, number_pushed}
+use Rattle.ang_names_known.proofs.KeptNumbers.{keeps_further, keeps_itself, left_here, number_pushed}
 use Rattle.ang_names_known.proofs.numbering.push_numbers.Goals as goal
 
 pub loop-param-init : goal.loop-param-init

@@ -2,7 +2,7 @@ use Rattle.std.proofs.Common.{◌≡◌, ◌++◌, ◌∷◌, ◌+◌, [], ℕ, 
 use Rattle.std.specs.Prelude.{option_map}
 use Rattle.ang_names_known.specs.Kinds.{Kind, function_params, kinds_at, kinds_of, numbered, told_of}
 use Rattle.ang_names_known.specs.Lookup.{parameters_of, type_and_pass}
-use Rattle.ang_names_known.proofs.Kinds.{keeps_further, keeps_itself, left_here, row_pushed}
+use Rattle.ang_names_known.proofs.KeptNumbers.{keeps_further, keeps_itself, left_here, row_pushed}
 use Rattle.ang_names_known.proofs.numbering.rows_of_functions.Goals as goal
 
 pub loop-function-init : goal.loop-function-init

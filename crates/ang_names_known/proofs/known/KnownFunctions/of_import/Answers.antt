@@ -1,6 +1,6 @@
 use Rattle.std.proofs.Common.{◌≡◌}
 use Rattle.ang_names_known.specs.Lookup.{parameters_of}
-use Rattle.ang_names_known.proofs.Kinds.{says_of}
+use Rattle.ang_names_known.proofs.KeptNumbers.{says_of}
 use Rattle.ang_names_known.proofs.known.KnownFunctions.of_import.Goals as goal
 
 pub returns : goal.returns
