@@ -1,5 +1,5 @@
 -- What is taken in by the numbers of its parameters' kinds is what is taken in by its parameters.
-use Rattle.std.proofs.Common.{◌≡◌, ◌×◌, ℕ, ◌&&◌, Bool, true, false, List, [], ◌∷◌, map, is_some, Option, Some, None, refl, sym, ap, ◌∙◌}
+use Rattle.std.proofs.Common.{◌≡◌, ℕ, ◌&&◌, Bool, true, false, List, [], ◌∷◌, map, is_some, Option, Some, None, refl, sym, ap, ◌∙◌}
 use Rattle.std.specs.Prelude.{slice_get, option_map, option_and_then}
 use Rattle.std.proofs.lemmas.Option.{same_Some}
 use Rattle.ang_types.specs.declared.arg_type.ArgType.{ArgType}
@@ -85,17 +85,17 @@ method_kind t (entry.EnumValue v) read_only params e = cc
 -- what is wanted has the parameters as which it is used
 used_params : (u : HostCallKind) (w : Wanted) (x : ViewEntry) (params : Params) → is_used_as u w ≡ true → is_wanted w x ≡ true
     → params_by (receiver_as u) x.kind x.signature.read_only params ≡ Some (params_as u x.signature.read_only params)
-used_params usage.Function (wanted.Function name) x params use want = function_kind 0 x.kind x.signature.read_only params (first_true (is_function x.kind) _ want)
-used_params usage.Function (wanted.Factory n) x params use want = cc
-used_params usage.Function (wanted.Method n name) x params use want = cc
-used_params (usage.Maker n) (wanted.Function name) x params use want = cc
-used_params (usage.Maker n) (wanted.Factory m) x params use want = factory_kind 0 x.kind x.signature.read_only params (first_true (is_factory x.kind) _ want)
-used_params (usage.Maker n) (wanted.Method m name) x params use want = cc
-used_params (usage.Method n) (wanted.Function name) x params use want = cc
-used_params (usage.Method n) (wanted.Factory m) x params use want = cc
-used_params (usage.Method n) (wanted.Method m name) x params use want = method_kind n x.kind x.signature.read_only params (first_true (is_method x.kind) _ want)
+used_params usage.Function (wanted.Function name) x params fits want = function_kind 0 x.kind x.signature.read_only params (first_true (is_function x.kind) _ want)
+used_params usage.Function (wanted.Factory n) x params fits want = cc
+used_params usage.Function (wanted.Method n name) x params fits want = cc
+used_params (usage.Maker n) (wanted.Function name) x params fits want = cc
+used_params (usage.Maker n) (wanted.Factory m) x params fits want = factory_kind 0 x.kind x.signature.read_only params (first_true (is_factory x.kind) _ want)
+used_params (usage.Maker n) (wanted.Method m name) x params fits want = cc
+used_params (usage.Method n) (wanted.Function name) x params fits want = cc
+used_params (usage.Method n) (wanted.Factory m) x params fits want = cc
+used_params (usage.Method n) (wanted.Method m name) x params fits want = method_kind n x.kind x.signature.read_only params (first_true (is_method x.kind) _ want)
 
-module _ (u : HostCallKind) (w : Wanted) (V : RegistrationList) (x : ViewEntry) (kinds : List Kind) (use : is_used_as u w ≡ true) (want : is_wanted w x ≡ true) where
+module _ (u : HostCallKind) (w : Wanted) (V : RegistrationList) (x : ViewEntry) (kinds : List Kind) (fits : is_used_as u w ≡ true) (want : is_wanted w x ≡ true) where
   abbrev Told : Option ArgType → Option Params → Option Params
   Told r o = option_and_then (params_by (receiver_as u) x.kind x.signature.read_only) (seen_with r o)
 
@@ -107,7 +107,7 @@ module _ (u : HostCallKind) (w : Wanted) (V : RegistrationList) (x : ViewEntry) 
       by None o says = refl
       by (Some r) None says = refl
       by (Some r) (Some params) says =
-          let used : params_by (receiver_as u) x.kind x.signature.read_only params ≡ Some (params_as u x.signature.read_only params) = used_params u w x params use want in
+          let used : params_by (receiver_as u) x.kind x.signature.read_only params ≡ Some (params_as u x.signature.read_only params) = used_params u w x params fits want in
           let none : None ≡ Some (map Some (params_as u x.signature.read_only params)) = says ∙ ap (option_map (map Some)) used in
           cc
 
@@ -130,6 +130,6 @@ module _ (u : HostCallKind) (w : Wanted) (V : RegistrationList) (x : ViewEntry) 
       by None o says are = cc
       by (Some r) None says are = cc
       by (Some r) (Some params) says are =
-          let used : params_by (receiver_as u) x.kind x.signature.read_only params ≡ Some (params_as u x.signature.read_only params) = used_params u w x params use want in
+          let used : params_by (receiver_as u) x.kind x.signature.read_only params ≡ Some (params_as u x.signature.read_only params) = used_params u w x params fits want in
           same_Some (kinds_at (numbered (receiver_as u) kinds) row) (map Some (params_as u x.signature.read_only params)) (says ∙ ap (option_map (map Some)) used)
           ∙ ap (λ ps. map Some (params_as u x.signature.read_only ps)) (same_Some params seen are)

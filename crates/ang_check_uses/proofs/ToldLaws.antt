@@ -1,15 +1,13 @@
 -- Ranks that are told are those of the parameters whose kinds the numbers name; and what a comparison with the least ones says.
-use Rattle.std.proofs.Common.{◌≡◌, ◌×◌, ℕ, ◌&&◌, ◌||◌, not, Bool, true, false, cond, List, [], ◌∷◌, ◌++◌, map, Option, Some, None, refl, sym, ap, ◌∙◌}
+use Rattle.std.proofs.Common.{◌≡◌, ℕ, ◌||◌, Bool, true, false, List, [], ◌∷◌, map, Option, Some, None, refl, ap, ◌∙◌}
 use Rattle.std.specs.Prelude.{slice_get, option_map, nat_lt, if◌then◌else◌}
-use Rattle.std.proofs.lemmas.Option.{same_Some, slice_get-map}
+use Rattle.std.proofs.lemmas.Option.{slice_get-map}
 use Rattle.ang_types.specs.declared.arg_type.ArgType.{ArgType}
 use Rattle.ang_types.specs.Overloads.{Params}
 use Rattle.ang_types.specs.Ranks.{Ancestors, argument_rank}
 use Rattle.ang_names_known.specs.Kinds.{Kind, kinds_at}
-use Rattle.ang_check_uses.specs.declared.score.Contender.{Contender}
-use Rattle.ang_check_uses.specs.declared.told.Comparison.{Comparison}
-use Rattle.ang_check_uses.specs.Contest.{Standing, entered_with, has_lower, met, ranks_of, with_rank}
-use Rattle.ang_check_uses.specs.Told.{comparison_of, compared_after, in_place, is_lower_too, rank_in, ranks_at, said_by, told_ranks, told_row}
+use Rattle.ang_check_uses.specs.Contest.{has_lower, ranks_of, with_rank}
+use Rattle.ang_check_uses.specs.Told.{compared_after, in_place, rank_in, ranks_at, told_ranks, told_row}
 
 -- ---- ranks by numbers
 
@@ -52,24 +50,3 @@ compared_alone lower higher r (Some (s ∷ ranks)) = refl
 
 pub compared_none : (lower higher : Bool) (o : Option (List ℕ)) (least : List ℕ) → compared_after lower higher (with_rank None o) least ≡ None
 compared_none lower higher o least = refl
-
--- ---- what is kept of a candidate that has no lower rank
-
-pub kept_is : (s : Standing) (t : Contender) (least : List ℕ) (c : Comparison) (o : Option (List ℕ)) → s.least ≡ Some least → said_by c ≡ comparison_of o least → is_lower_too c ≡ false
-    → entered_with s t o ≡ (if c.is_viable && not c.is_higher then met s t s.front else record s { empty = false })
-kept_is s t least c o viable said lower = by c.is_viable c.is_lower c.is_higher o said lower
-  where
-    by : (v b h : Bool) (o : Option (List ℕ)) → (if v then Some (b, h) else None) ≡ comparison_of o least → (v && b) ≡ false
-        → entered_with s t o ≡ (if v && not h then met s t s.front else record s { empty = false })
-    by true b h None e low = cc
-    by false b h None e low = refl
-    by false b h (Some ranks) e low = cc
-    by true true h (Some ranks) e low = cc
-    by true false true (Some ranks) e low =
-        let first : has_lower ranks least ≡ false = cc in
-        let second : has_lower least ranks ≡ true = cc in
-        rw viable (rw first (rw second refl))
-    by true false false (Some ranks) e low =
-        let first : has_lower ranks least ≡ false = cc in
-        let second : has_lower least ranks ≡ false = cc in
-        rw viable (rw first (rw second refl))

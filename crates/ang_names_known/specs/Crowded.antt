@@ -1,5 +1,5 @@
 -- Lists of the methods of a name that a family has, which are made once.
-use Rattle.std.specs.Prelude.{ℕ, ◌≡◌, List, map, slice_get, Option, Some, None, option_and_then}
+use Rattle.std.specs.Prelude.{ℕ, ◌≡◌, List, map, slice_get, Some, Vec}
 use Rattle.ang_index.specs.Rows.{items_at}
 use Rattle.ang_names_known.specs.declared.crowded.CrowdedMethods.{CrowdedMethods}
 use Rattle.ang_names_known.specs.declared.methods.MethodPlace.{MethodPlace}

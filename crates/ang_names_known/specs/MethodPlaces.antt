@@ -1,5 +1,5 @@
 -- Methods by their places: the family that declares one, and its place among the methods of that.
-use Rattle.std.specs.Prelude.{ℕ, ◌≡◌, ◌×◌, ◌==◌, Bool, true, false, List, [], ◌∷◌, map, slice_get, Option, Some, None, option_map, option_to_list}
+use Rattle.std.specs.Prelude.{ℕ, ◌≡◌, ◌==◌, Bool, true, false, List, [], ◌∷◌, map, slice_get, Option, Some, None, option_map, option_to_list}
 use Rattle.std.specs.List.{flat_map}
 use Rattle.ang_names_known.specs.declared.methods.MethodPlace.{MethodPlace}
 use Rattle.ang_names_known.specs.declared.names.Family.{Family}

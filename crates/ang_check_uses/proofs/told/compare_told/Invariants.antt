@@ -1,4 +1,4 @@
-use Rattle.std.proofs.Common.{◌≡◌, ◌×◌, false, drop}
+use Rattle.std.proofs.Common.{◌≡◌, false, drop}
 use Rattle.ang_check_uses.specs.Told.{comparison_of, compared_after, ranks_at, rows_of}
 use Rattle.ang_check_uses.proofs.told.compare_told.Given as goal
 

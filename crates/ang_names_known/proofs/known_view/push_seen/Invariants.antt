@@ -1,4 +1,4 @@
-use Rattle.std.proofs.Common.{◌≡◌, ◌×◌, ℕ, Some, drop, map as list_map}
+use Rattle.std.proofs.Common.{◌≡◌, ℕ, Some, drop, map as list_map}
 use Rattle.ang_types.specs.Overloads.{Params}
 use Rattle.ang_names_known.specs.Host.{host_parameters}
 use Rattle.ang_names_known.specs.Kinds.{Keeps, after, kinds_at, numbered}

@@ -1,4 +1,4 @@
-use Rattle.std.proofs.Common.{◌≡◌, ◌×◌, ◌++◌, ℕ, drop, map as list_map}
+use Rattle.std.proofs.Common.{◌≡◌, ◌++◌, ℕ, drop, map as list_map}
 use Rattle.ang_names_known.specs.Kinds.{Keeps, kinds_of, numbered}
 use Rattle.ang_names_known.specs.Numbering.{rows_wanted}
 use Rattle.ang_names_known.proofs.numbering.rows_of_families.Given as goal

@@ -1,4 +1,4 @@
-use Rattle.std.proofs.Common.{◌≡◌, ◌×◌, ◌++◌, ℕ, drop}
+use Rattle.std.proofs.Common.{◌≡◌, ◌++◌, ℕ, drop}
 use Rattle.ang_names_known.specs.Kinds.{Keeps, function_params, kinds_of, numbered, told_of}
 use Rattle.ang_names_known.proofs.numbering.rows_of_functions.Given as goal
 

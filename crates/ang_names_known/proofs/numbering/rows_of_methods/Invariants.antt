@@ -1,4 +1,4 @@
-use Rattle.std.proofs.Common.{◌≡◌, ◌×◌, ◌++◌, ℕ, drop}
+use Rattle.std.proofs.Common.{◌≡◌, ◌++◌, ℕ, drop}
 use Rattle.ang_names_known.specs.Kinds.{Keeps, kinds_of, method_params, numbered, told_of}
 use Rattle.ang_names_known.proofs.numbering.rows_of_methods.Given as goal
 
