@@ -1,5 +1,6 @@
 -- The ranks of the arguments of a call for all kinds of parameters.
 use Rattle.std.specs.Prelude.{ℕ, Bool, false, ◌&&◌, ◌||◌, if◌then◌else◌, List, [], ◌∷◌, map, slice_get, Option, Some, None, Vec}
+use Rattle.std.specs.declared.alloc.Global.{Global}
 use Rattle.ang_types.specs.declared.arg_type.ArgType.{ArgType}
 use Rattle.ang_types.specs.Ranks.{Ancestors, argument_rank}
 use Rattle.ang_names_known.specs.Kinds.{Kind}
@@ -19,8 +20,8 @@ told_row ancestors kinds argument = map (λ (k : Kind). argument_rank ancestors 
 abbrev pub told_ranks : Ancestors → List Kind → List ArgType → List (List (Option ℕ))
 told_ranks ancestors kinds args = map (told_row ancestors kinds) args
 
-abbrev pub rows_of : List (Vec (Option ℕ)) → List (List (Option ℕ))
-rows_of rows = map (λ (v : Vec (Option ℕ)). v.items) rows
+abbrev pub rows_of : List (Vec (Option ℕ) Global) → List (List (Option ℕ))
+rows_of rows = map (λ (v : Vec (Option ℕ) Global). v.items) rows
 
 abbrev pub in_place : Option (Option ℕ) → Option ℕ
 in_place None = None

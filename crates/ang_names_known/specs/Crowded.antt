@@ -1,5 +1,6 @@
 -- Lists of the methods of a name that a family has, which are made once.
 use Rattle.std.specs.Prelude.{ℕ, ◌≡◌, List, map, slice_get, Some, Vec}
+use Rattle.std.specs.declared.alloc.Global.{Global}
 use Rattle.ang_index.specs.Rows.{items_at}
 use Rattle.ang_names_known.specs.declared.crowded.CrowdedMethods.{CrowdedMethods}
 use Rattle.ang_names_known.specs.declared.methods.MethodPlace.{MethodPlace}
@@ -13,7 +14,7 @@ pub record IsList (fs : List Family) (c : ℕ) (name : List ℕ) (list : List Me
   pub exact : found_in fs list ≡ methods_named fs c name
 
 abbrev pub lists_of : CrowdedMethods → List (List MethodPlace)
-lists_of m = map (λ (v : Vec MethodPlace). v.items) m.lists.items
+lists_of m = map (λ (v : Vec MethodPlace Global). v.items) m.lists.items
 
 -- each list is right whose number stands under a family and a name
 abbrev pub AreRight : List Family → CrowdedMethods → Type 0

@@ -1,10 +1,9 @@
 //! The kinds of parameters by number, so that what is found out of a kind serves each parameter of it.
-ghost use Rattle.std.specs.Prelude.{◌≡◌, ◌<◌, ◌+◌, ◌++◌, ◌∷◌, ℕ, [], IfOk, IfSome, OnErr, OnOk, Some, option_map, slice_get};
+ghost use Rattle.std.specs.Prelude.{◌≡◌, ◌<◌, ◌+◌, ◌++◌, ◌∷◌, ℕ, [], IfOk, IfSome, None, OnOk, Some, option_map, slice_get};
 ghost use Rattle.ang_names_known.specs.Kinds as spec;
 ghost use Rattle.ang_names_known.specs.KindRows as rows_spec;
 
 use crate::lookup::same_type;
-use crate::names::{Family, ScriptFunction, ScriptMethod, ScriptParameter};
 use ang_kinds::{Pass, Prim};
 use ang_types::ArgType;
 use std::alloc::{AllocError, Global};
@@ -47,6 +46,7 @@ impl KindRows {
     }
 
     /// The row at a place. It takes no memory.
+    #[tactic(auto, using(crate::proofs::KeptNumbers::row_is, crate::proofs::KeptNumbers::no_row))]
     #[inline(always)]
     pub(crate) fn row(&self, place: usize) -> Option<&[u32]>
         ensures exact { option_map (λ row. row.now) result ≡ rows_spec.row_at self.now place }
@@ -59,6 +59,7 @@ impl KindRows {
     /// Puts a row in at the end.
     ///
     /// The only error is want of memory.
+    #[tactic(auto, using(crate::proofs::KeptNumbers::rows_more, crate::proofs::KeptNumbers::within_more))]
     pub(crate) fn push(&mut self, row: &[u32]) -> Result<(), AllocError>
         ensures pushed { OnOk result (self.new ≡ self.old ++ Some row.now ∷ []) }
     {
@@ -72,6 +73,7 @@ impl KindRows {
     /// Puts no row in at the end, for what can't be called.
     ///
     /// The only error is want of memory.
+    #[tactic(auto, using(crate::proofs::KeptNumbers::within_none))]
     pub(crate) fn leave_out(&mut self) -> Result<(), AllocError>
         ensures pushed { OnOk result (self.new ≡ self.old ++ None ∷ []) }
     {
@@ -195,6 +197,7 @@ impl KindTable {
     }
 
     /// The number that a hint gives a kind, if it is one of this kind.
+    #[tactic(auto, using(crate::proofs::KeptNumbers::behind_receivers, crate::proofs::SameKinds::kind_is))]
     fn hinted(&self, hint: usize, ty: ArgType, pass: Pass) -> Option<u32>
         ensures is { IfSome result
             (λ n. (t : ℕ) → slice_get (spec.numbered t self.now) n ≡ Some (ty, pass)) }
@@ -218,6 +221,7 @@ impl KindTable {
     }
 
     /// A new number of a kind.
+    #[tactic(auto, using(crate::proofs::KeptNumbers::keeps_more, crate::proofs::KeptNumbers::last_is))]
     fn add(&mut self, hint: usize, ty: ArgType, pass: Pass) -> Result<u32, AllocError>
         ensures keeps { OnOk result
             ((t : ℕ) → spec.Keeps (spec.numbered t self.old) (spec.numbered t self.new)) }
@@ -235,6 +239,7 @@ impl KindTable {
     /// A number of a kind, a new one where none is found.
     ///
     /// The only error is want of memory.
+    #[tactic(auto, using(crate::proofs::KeptNumbers::keeps_itself))]
     pub(crate) fn number(&mut self, ty: ArgType, pass: Pass) -> Result<u32, AllocError>
         ensures keeps { OnOk result
             ((t : ℕ) → spec.Keeps (spec.numbered t self.old) (spec.numbered t self.new)) }
