@@ -26,6 +26,7 @@ use Rattle.ang_typed.specs.declared.expression.StepKind.TheVariants as kind
 use Rattle.ang_typed.specs.declared.program.TypedParameter.{TypedParameter}
 use Rattle.ang_typed.specs.Typed as t
 use Rattle.ang_host.specs.State.{count_at}
+use Rattle.ang_meaning.specs.declared.class.ValueKind.TheVariants.{Number, Handle}
 use Rattle.ang_meaning.specs.declared.slot.Slot.{Slot}
 use Rattle.ang_meaning.specs.declared.slot.Slot.TheVariants.{Bits, Script, Host}
 use Rattle.ang_meaning.specs.declared.host.HostValueType.TheVariants.{Plain}
@@ -177,6 +178,24 @@ virtual : (c n : ℕ) (rest : List Input) (w : World) → map.get w.objects n �
 unfolding target slot_in method_in memory_step
 virtual c n rest w h =
     ap (λ o. replied 0 [] (found_entered (alone methods) (body_at (alone methods) (codes_in (methods ∷ [])) 10 1) 0 (method_of (alone methods) 0 0 o) (Script (Some n) ∷ []) 10 (with_inputs (Room true ∷ rest) w)) []) h
+
+-- ---- fields
+
+-- class Base { int count; T@ first; }  class Heir : Base { int more; }
+abbrev with_fields : t.Program
+with_fields = record {
+  functions = [];
+  globals = [];
+  classes = record { fields = int ∷ handle ∷ []; base = None; above = []; chosen = []; rank = 0 }
+      ∷ record { fields = int ∷ []; base = Some 0; above = 0 ∷ []; chosen = []; rank = 0 } ∷ [];
+  methods = [];
+  imports = [];
+}
+
+-- an object of the heir has the fields of its base class first
+fields_of_the_base_first : class_in (with_fields ∷ []) 0 1 ≡ Some (record { number = 1; rank = 0; fields = Number ∷ Handle ∷ Number ∷ []; under = 1 ∷ 0 ∷ [] })
+unfolding class_in
+fields_of_the_base_first = refl
 
 -- ---- variables
 

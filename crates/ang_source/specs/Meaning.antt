@@ -402,12 +402,19 @@ codes_in ps g = code_or (slice_get (codes_of (slice_index_or ps g.home nothing))
 
 -- ---- a module's classes, methods and imports
 
+-- The types of the fields of an object: those of its base class first. The class and n above it are asked.
+abbrev pub fields_by : List families.TypedClass → ℕ → Option families.TypedClass → List ArgType
+fields_by classes n None = []
+fields_by classes zero (Some c) = c.fields
+fields_by classes (suc n) (Some c) = fields_by classes n (option_and_then (slice_get classes) c.base) ++ c.fields
+
 -- a class as its objects have it: it stands under itself, too
-abbrev pub class_of : ℕ → families.TypedClass → Class
-class_of n c = record { number = n; rank = c.rank; fields = map kind_of c.fields; under = n ∷ c.above }
+abbrev pub class_of : List families.TypedClass → ℕ → families.TypedClass → Class
+class_of classes n c =
+    record { number = n; rank = c.rank; fields = map kind_of (fields_by classes (length classes) (Some c)); under = n ∷ c.above }
 
 abbrev pub class_among : List families.TypedClass → ℕ → Option Class
-class_among classes n = option_map (class_of n) (slice_get classes n)
+class_among classes n = option_map (class_of classes n) (slice_get classes n)
 
 -- the class of a number, in the modules by their numbers
 unfoldable pub class_in : List t.Program → ℕ → ℕ → Option Class

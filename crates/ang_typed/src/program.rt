@@ -25,7 +25,7 @@ pub struct Typed {
 /// What is known of a class or an interface where its objects are made and its methods are chosen.
 #[derive(Drop)]
 pub struct TypedClass {
-    /// The types of its fields, those of the base class first, in the order of declaration. An interface has none.
+    /// The types of the fields that it declares itself, in the order of declaration. An interface has none.
     pub fields: List<ArgType>,
     /// The number of its base class.
     pub base: Option<usize>,
