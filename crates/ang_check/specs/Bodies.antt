@@ -26,7 +26,6 @@ use Rattle.ang_names_known.specs.declared.names.ScriptGlobal.{ScriptGlobal}
 use Rattle.ang_check_operators.specs.declared.refusal.TypingRefusal.{TypingRefusal}
 use Rattle.ang_check_context.specs.declared.scope.Within.{Within}
 use Rattle.ang_names_known.specs.Items.{each_after}
-use Rattle.ang_names_known.specs.Lookup.{Numbered, kin_of}
 use Rattle.ang_names_known.specs.Spaces.{ancestors_of}
 use Rattle.ang_lex.specs.Text.{text_of}
 use Rattle.ang_names_listed.specs.Sources.{Source, name_of}
@@ -218,21 +217,17 @@ body_refusals V names sources = filter_map refusal_in (judgements V names source
 
 -- ---- families, methods and imports of the resolved tree
 
+-- the types of the fields that a family declares itself; an interface has none
 abbrev pub own_types : Family → List ArgType
 own_types f = map (λ (x : Field). x.written.ty) f.fields
-
--- the types of all fields of these families, the last family's first
-abbrev pub types_behind : List Numbered → List ArgType
-types_behind [] = []
-types_behind (f ∷ fs) = types_behind fs ++ own_types f.1
 
 -- the slot and the body of a method, where it has one
 abbrev pub slot_and_body : ScriptMethod → Option (ℕ × ℕ)
 slot_and_body m = option_map (λ k. (m.slot, k)) m.body
 
-abbrev pub typed_class : List Family → ℕ → Family → classes.TypedClass
-typed_class fs c f = record {
-  fields = if f.is_class then types_behind (kin_of fs c) else [];
+abbrev pub typed_class : Family → classes.TypedClass
+typed_class f = record {
+  fields = own_types f;
   base = f.base;
   above = f.above;
   chosen = filter_map slot_and_body f.methods;
@@ -240,7 +235,7 @@ typed_class fs c f = record {
 }
 
 abbrev pub typed_classes : List Family → List classes.TypedClass
-typed_classes fs = each_after (λ before f. typed_class fs (length before) f ∷ []) [] fs
+typed_classes fs = map typed_class fs
 
 abbrev pub method_heading : ℕ → ScriptMethod → Heading
 method_heading c m = record {

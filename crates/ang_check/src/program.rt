@@ -1,7 +1,6 @@
 //! The classes, methods and imports of the resolved tree.
-ghost use Rattle.std.specs.Prelude.{◌≡◌, ◌<◌, ◌≤◌, ◌++◌, if◌then◌else◌, [], Some, length, slice_get, option_to_list, IfOk, OnOk, map as list_map};
+ghost use Rattle.std.specs.Prelude.{◌≡◌, ◌<◌, ◌≤◌, ◌++◌, length, option_to_list, IfOk, OnOk, map as list_map};
 ghost use Rattle.std.specs.List.{filter_map};
-ghost use Rattle.ang_names_known.specs.Lookup.{families_at, fields_in};
 ghost use Rattle.ang_check.specs.Bodies as spec;
 ghost use Rattle.ang_check.specs.Judging.{field_type};
 
@@ -43,63 +42,17 @@ pub fn import_headings(
     Ok(headings)
 }
 
-/// The types of fields, at the end of some.
-fn push_types(types: &mut Vec<ArgType>, fields: &[Field]) -> Result<(), AllocError>
-    ensures pushed { OnOk result
-        (types.new.items ≡ types.old.items ++ list_map field_type fields.now) }
+/// The types of the fields that a family declares itself.
+///
+/// The only error is want of memory.
+fn own_types(alloc: Global, fields: &[Field]) -> Result<Vec<ArgType>, AllocError>
+    ensures exact { IfOk result (λ v. v.items ≡ list_map field_type fields.now) }
 {
+    let mut types = Vec::with_capacity(alloc, fields.len())?;
     for field in fields {
         types.push(field.written.ty)?;
     }
-    Ok(())
-}
-
-/// The fields that a family declares itself.
-fn fields_of(families: &[Family], number: usize) -> &[Field]
-    ensures exact { result.now ≡ fields_in (slice_get families.now number) }
-{
-    match families.get(number) {
-        None => &[],
-        Some(family) => family.fields.as_slice(),
-    }
-}
-
-/// The types of the fields of these families, the last family's first.
-///
-/// The only error is want of memory.
-#[tactic(auto, using(crate::proofs::Classes::types_turn))]
-fn types_behind(
-    alloc: Global,
-    families: &[Family],
-    order: &[usize],
-) -> Result<Vec<ArgType>, AllocError>
-    ensures exact { IfOk result
-        (λ v. v.items ≡ spec.types_behind (families_at families.now order.now)) }
-{
-    let mut types = Vec::new(alloc);
-    for back in 0..order.len() {
-        let number = order[order.len() - 1 - back];
-        push_types(&mut types, fields_of(families, number))?;
-    }
     Ok(types)
-}
-
-/// The types of all fields of an object, those of the base class first. An interface has none.
-///
-/// The only error is want of memory.
-fn field_types(
-    alloc: Global,
-    families: &[Family],
-    family: &Family,
-) -> Result<Vec<ArgType>, AllocError>
-    ensures exact { IfOk result (λ v. v.items ≡ (if family.now.is_class
-        then spec.types_behind (families_at families.now family.now.order) else [])) }
-{
-    if family.is_class {
-        types_behind(alloc, families, family.order.as_slice())
-    } else {
-        Ok(Vec::new(alloc))
-    }
 }
 
 /// The slot and the body of a method, where it has one, at the end of some.
@@ -127,20 +80,13 @@ fn slots_of(alloc: Global, methods: &[ScriptMethod]) -> Result<Vec<(usize, usize
     Ok(slots)
 }
 
-/// What is known of the class or interface of this number.
+/// What is known of a class or an interface.
 ///
 /// The only error is want of memory.
-#[tactic(auto, using(crate::proofs::Classes::kin_is))]
-fn typed_class(
-    alloc: Global,
-    families: &[Family],
-    number: usize,
-    family: &Family,
-) -> Result<TypedClass, AllocError>
-    requires number { slice_get families.now number ≡ Some family.now }
-    ensures exact { IfOk result (λ k. k ≡ spec.typed_class families.now number family.now) }
+fn typed_class(alloc: Global, family: &Family) -> Result<TypedClass, AllocError>
+    ensures exact { IfOk result (λ k. k ≡ spec.typed_class family.now) }
 {
-    let fields = field_types(alloc, families, family)?;
+    let fields = own_types(alloc, family.fields.as_slice())?;
     let above = Vec::from_slice(alloc, family.above.as_slice())?;
     let chosen = slots_of(alloc, family.methods.as_slice())?;
     Ok(TypedClass {
@@ -159,8 +105,8 @@ pub fn typed_classes(alloc: Global, families: &[Family]) -> Result<Vec<TypedClas
     ensures exact { IfOk result (λ v. v.items ≡ spec.typed_classes families.now) }
 {
     let mut classes = Vec::new(alloc);
-    for number in 0..families.len() {
-        let class = typed_class(alloc, families, number, &families[number])?;
+    for family in families {
+        let class = typed_class(alloc, family)?;
         classes.push(class)?;
     }
     Ok(classes)
