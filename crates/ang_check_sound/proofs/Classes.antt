@@ -1,7 +1,7 @@
 -- The classes of the resolved tree are sound: each has bodies for its methods' slots, and its base class and what stands above it are there.
 use Rattle.std.specs.Prelude.{◌≡◌, ℕ, zero, suc, ◌+◌, ◌≤◌, ◌<◌, ◌==◌, Bool, true, false, ◌||◌, if◌then◌else◌, cond, length, List, [], ◌∷◌, ◌++◌, find, option_map, Option, Some, None, IfSome, slice_get}
 use Rattle.std.specs.List.{cons_option, filter_map, list_any, range_with_len}
-use Rattle.std.proofs.Common.{refl, ap, sym, subst, arith, length-append}
+use Rattle.std.proofs.Common.{refl, ap, sym, subst, arith}
 use Rattle.std.proofs.lemmas.Bool.{eqb-true}
 use Rattle.ang_tree.specs.Stmt.{Every}
 use Rattle.ang_view.specs.Registration.{RegistrationList}
@@ -19,7 +19,7 @@ use Rattle.ang_names_classes.specs.Resolved.{space_of_declared}
 use Rattle.ang_names_classes.specs.Headings.{signatures_of}
 use Rattle.ang_names_classes.specs.Hierarchy.{is_parent, is_base}
 use Rattle.ang_names_classes.specs.Resolved.{families_after, functions_in, families_in, names_of}
-use Rattle.ang_check.specs.Bodies.{slot_and_body, typed_class, typed_classes}
+use Rattle.ang_check.specs.Bodies.{slot_and_body, typed_classes}
 use Rattle.ang_source.specs.Sound.{Module, IsChosen, AreChosen, SoundClasses}
 use Rattle.ang_check_sound.specs.Checked.{with_this}
 use Rattle.ang_check_sound.specs.Built.{IsMethodIn, IsFamilyIn}
@@ -124,21 +124,19 @@ module _ (M : Module) where
   all_chosen c [] h = tt
   all_chosen c (y ∷ ms) h = one_chosen c y y.body (filter_map slot_and_body ms) refl (h 0 y refl) (all_chosen c ms (λ m x e. h (suc m) x e))
 
-  classes_sound : (all before fs : List Family) → Every (IsBelow M.classes) fs → ((i : ℕ) (f : Family) → slice_get fs i ≡ Some f → IsFamilyIn M (length before + i) f)
-      → SoundClasses M (each_after (λ (front : List Family) (f : Family). typed_class all (length front) f ∷ []) before fs)
-  classes_sound all before [] b h = tt
-  classes_sound all before (f ∷ fs) b h = (
+  classes_sound : (first : ℕ) (fs : List Family) → Every (IsBelow M.classes) fs → ((i : ℕ) (f : Family) → slice_get fs i ≡ Some f → IsFamilyIn M (first + i) f)
+      → SoundClasses M (typed_classes fs)
+  classes_sound first [] b h = tt
+  classes_sound first (f ∷ fs) b h = (
     record {
-      chosen = let here : length before + 0 ≡ length before = omega arith in
-          all_chosen (length before) f.methods (subst (λ c. IsFamilyIn M c f) here (h 0 f refl)).methods;
+      chosen = all_chosen (first + 0) f.methods (h 0 f refl).methods;
       base = b.0.base;
       above = λ n e. below_of M.classes n f.above b.0.above e;
     },
-    classes_sound all (before ++ f ∷ []) fs b.1
-        (λ i g e. let there : length before + suc i ≡ length (before ++ f ∷ []) + i = omega (arith, length-append before (f ∷ [])) in
-        subst (λ c. IsFamilyIn M c g) there (h (suc i) g e)),
+    classes_sound (suc first) fs b.1
+        (λ i g e. let there : first + suc i ≡ suc first + i = omega arith in subst (λ c. IsFamilyIn M c g) there (h (suc i) g e)),
   )
 
   pub all_classes_sound : (fs : List Family) → Every (IsBelow M.classes) fs → ((c : ℕ) (f : Family) → slice_get fs c ≡ Some f → IsFamilyIn M c f)
       → SoundClasses M (typed_classes fs)
-  all_classes_sound fs b h = classes_sound fs [] fs b (λ i f e. let same : i ≡ 0 + i = omega arith in subst (λ c. IsFamilyIn M c f) same (h i f e))
+  all_classes_sound fs b h = classes_sound 0 fs b (λ i f e. let same : i ≡ 0 + i = omega arith in subst (λ c. IsFamilyIn M c f) same (h i f e))

@@ -1,5 +1,5 @@
 -- The resolved tree of scripts without errors is sound.
-use Rattle.std.specs.Prelude.{◌≡◌, ℕ, suc, ◌≤◌, false, length, List, [], ◌∷◌, ◌++◌, map, Option, Some, None, Ok, Err, IfOk, slice_get}
+use Rattle.std.specs.Prelude.{◌≡◌, ℕ, ◌≤◌, false, length, List, [], ◌∷◌, ◌++◌, map, Option, Some, None, Ok, Err, IfOk, slice_get}
 use Rattle.std.specs.List.{filter_map}
 use Rattle.std.proofs.Common.{refl, ap, sym, ◌∙◌, subst}
 use Rattle.std.proofs.lemmas.List.{length-map}
@@ -13,12 +13,10 @@ use Rattle.ang_typed.specs.declared.program.Heading.{Heading}
 use Rattle.ang_typed.specs.declared.program.TypedParameter.{TypedParameter}
 use Rattle.ang_typed.specs.Typed as t
 use Rattle.ang_names_known.specs.declared.names.ScriptConstructor.{ScriptConstructor}
-use Rattle.ang_names_known.specs.declared.names.Family.{Family}
 use Rattle.ang_names_known.specs.declared.names.ScriptMethod.{ScriptMethod}
 use Rattle.ang_names_known.specs.declared.names.Names.{Names}
 use Rattle.ang_names_known.specs.declared.names.ScriptFunction.{ScriptFunction}
 use Rattle.ang_names_known.specs.declared.names.ScriptGlobal.{ScriptGlobal}
-use Rattle.ang_names_known.specs.Items.{each_after}
 use Rattle.ang_names_known.specs.Spaces.{first_family}
 use Rattle.ang_names_listed.specs.Sources.{Source}
 use Rattle.ang_names_listed.specs.Declarations.{declarations_of}
@@ -119,10 +117,6 @@ imports_same : (fs : List ScriptFunction) → map typed_parameters fs ≡ map (�
 imports_same [] = refl
 imports_same (f ∷ fs) = ap (λ ps. typed_parameters f ∷ ps) (imports_same fs)
 
-classes_counted : (all before fs : List Family) → length fs ≡ length (each_after (λ (front : List Family) (f : Family). typed_class all (length front) f ∷ []) before fs)
-classes_counted all before [] = refl
-classes_counted all before (f ∷ fs) = ap suc (classes_counted all (before ++ f ∷ []) fs)
-
 same_module : (V : RegistrationList) (names : Names) (sources : List Source) → HasNames V names sources (program_of V names sources)
     → module_in V names ≡ module_of V (program_of V names sources)
 unfolding module_with program_of
@@ -136,7 +130,7 @@ same_module V names sources h =
     ∙ ap (λ is. module_with V (map (λ (f : t.TypedFunction). f.parameters) p.functions) methods is (length names.globals) (length names.families)) (imports_same names.imports)
     ∙ ap (λ n. module_with V (map (λ (f : t.TypedFunction). f.parameters) p.functions) methods (map (λ (g : Heading). g.parameters) p.imports) n (length names.families)) globals
     ∙ ap (λ n. module_with V (map (λ (f : t.TypedFunction). f.parameters) p.functions) methods (map (λ (g : Heading). g.parameters) p.imports) (length p.globals) n)
-    (classes_counted names.families [] names.families)
+    (sym (length-map names.families typed_class))
 
 sound_joined : (M : Module) (xs ys : List t.TypedFunction) → SoundFunctions M xs → SoundFunctions M ys → SoundFunctions M (xs ++ ys)
 sound_joined M [] ys h k = k

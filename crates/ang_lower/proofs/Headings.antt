@@ -23,15 +23,15 @@ heading_at [] i ps e = absurd (cc)
 heading_at (h ∷ hs) zero ps e = let same : h.parameters ≡ ps = cc in ap (λ qs. Some (passings_of qs)) same
 heading_at (h ∷ hs) (suc i) ps e = heading_at hs i ps e
 
-class_there : (k : ℕ) (cs : List TypedClass) (n : ℕ) → n < length cs → is_some (option_map (class_of k) (slice_get cs n)) ≡ true
-class_there k [] n lt = absurd (omega arith)
-class_there k (c ∷ cs) zero lt = refl
-class_there k (c ∷ cs) (suc n) lt = class_there k cs n (omega arith)
+class_there : (all : List TypedClass) (k : ℕ) (cs : List TypedClass) (n : ℕ) → n < length cs → is_some (option_map (class_of all k) (slice_get cs n)) ≡ true
+class_there all k [] n lt = absurd (omega arith)
+class_there all k (c ∷ cs) zero lt = refl
+class_there all k (c ∷ cs) (suc n) lt = class_there all k cs n (omega arith)
 
 pub has_callees : (V : RegistrationList) (z : Environment) (m : ℕ) (p : tree.Program) → HasProgram z m p → HasCallees z m (module_of V p)
 has_callees V z m p has = record {
   functions = λ f ps there. has.bodies f ∙ passings_at p.functions (map (λ x. []) (initializers_from 0 p.globals)) f ps there;
   imports = λ i ps there. has.imports i ∙ heading_at p.imports i ps there;
   methods = λ s ps there. has.slots s ∙ heading_at p.methods s ps there;
-  classes = λ n lt. ap is_some (has.classes n) ∙ class_there n p.classes n lt;
+  classes = λ n lt. ap is_some (has.classes n) ∙ class_there p.classes n p.classes n lt;
 }
