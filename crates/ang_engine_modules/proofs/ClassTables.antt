@@ -64,13 +64,13 @@ in_place n x y same at =
     ∙ ap (λ b. if b then Some y else None) (eq-eqb y.number n at)
 
 class_as : (m n : ℕ) (all : List families.TypedClass) (o : Option ClassCode) (q : Option families.TypedClass) → option_map class_of o ≡ option_map (script_class m all n) q
-    → numbered n o ≡ option_map (class_in n) q
+    → numbered n o ≡ option_map (class_in all n) q
 class_as m n all None None e = refl
 class_as m n all None (Some c) e = absurd (cc)
 class_as m n all (Some y) None e = absurd (cc)
 class_as m n all (Some y) (Some c) e =
     let same : class_of y ≡ script_class m all n c = cc in
-    in_place n y.class (class_in n c) (ap (λ (x : ScriptClass). x.class) same) refl
+    in_place n y.class (class_in all n c) (ap (λ (x : ScriptClass). x.class) same) refl
 
 methods_as : (m n s : ℕ) (all : List families.TypedClass) (o : Option ClassCode) (q : Option families.TypedClass) → option_map class_of o ≡ option_map (script_class m all n) q
     → method_in (methods_in o) s ≡ method_in (methods_by m all (length all) q) s

@@ -35,7 +35,7 @@ pub record ScriptClass : Type 0 where
 abbrev pub script_class : ℕ → List families.TypedClass → ℕ → families.TypedClass → ScriptClass
 script_class m classes n c =
     record {
-      class = class_of n c;
+      class = class_of classes n c;
       method = λ s. method_in (methods_by m classes (length classes) (Some c)) s;
     }
 

@@ -1,6 +1,6 @@
 //! The classes of a module's tree as the machine's table has them.
-ghost use Rattle.std.specs.Prelude.{◌≡◌, ◌++◌, ◌∷◌, [], Some, None, MatchOption, IfOk, OnOk, option_and_then, slice_get, map as list_map};
-ghost use Rattle.ang_source.specs.Meaning.{kind_of, class_of as class_in};
+ghost use Rattle.std.specs.Prelude.{◌≡◌, ◌++◌, ◌∷◌, [], Some, None, MatchOption, IfOk, OnOk, length, option_and_then, slice_get, map as list_map};
+ghost use Rattle.ang_source.specs.Meaning.{kind_of, fields_by, class_of as class_in};
 ghost use Rattle.ang_engine_modules.specs.Loaded as spec;
 ghost use Rattle.ang_engine_modules.specs.Trees.{own_methods, methods_by, script_class, classes_from};
 
@@ -27,10 +27,57 @@ fn kind_of(ty: ArgType) -> ValueKind
     }
 }
 
-fn kinds_of(alloc: Global, fields: &[ArgType]) -> Result<Vec<ValueKind>, AllocError>
-    ensures exact { IfOk result (λ kinds. kinds.items ≡ list_map kind_of fields.now) }
+/// The base class of a class, where it has one that is there.
+fn base_of<'a>(classes: &'a [TypedClass], class: &TypedClass) -> Option<&'a TypedClass>
+    ensures exact { MatchOption result
+        (option_and_then (slice_get classes.now) class.now.base ≡ None)
+        (λ base. option_and_then (slice_get classes.now) class.now.base ≡ Some base.now) }
 {
-    fields.iter().map(|ty| kind_of(*ty)).collect(alloc)
+    classes.get(class.base?)
+}
+
+/// What the fields hold that a class declares itself, after those that there are.
+fn add_own_kinds(fields: &[ArgType], kinds: &mut Vec<ValueKind>) -> Result<(), AllocError>
+    ensures added { OnOk result (kinds.new.items ≡ kinds.old.items ++ list_map kind_of fields.now) }
+{
+    for ty in fields {
+        kinds.push(kind_of(*ty))?;
+    }
+    Ok(())
+}
+
+/// What the fields hold of a class and of up to `left` classes above it, those of the highest one first, after those that
+/// there are.
+fn add_kinds(
+    classes: &[TypedClass],
+    left: usize,
+    class: &TypedClass,
+    kinds: &mut Vec<ValueKind>,
+) -> Result<(), AllocError>
+    ensures added { OnOk result (kinds.new.items
+        ≡ kinds.old.items ++ list_map kind_of (fields_by classes.now left (Some class.now))) }
+{
+    if left > 0 {
+        if let Some(base) = base_of(classes, class) {
+            add_kinds(classes, left - 1, base, kinds)?;
+        }
+    }
+    add_own_kinds(class.fields.as_slice(), kinds)
+}
+
+/// What the fields of a class's objects hold, those of its base class first.
+fn kinds_of(
+    alloc: Global,
+    classes: &[TypedClass],
+    class: &TypedClass,
+) -> Result<Vec<ValueKind>, AllocError>
+    ensures exact { IfOk result (λ kinds. kinds.items
+        ≡ list_map kind_of (fields_by classes.now (length classes.now) (Some class.now))) }
+{
+    let mut kinds = Vec::new(alloc);
+    add_kinds(classes, classes.len(), class, &mut kinds)?;
+    kinds.shrink_to_fit();
+    Ok(kinds)
 }
 
 /// The numbers of a class and of those above it.
@@ -44,10 +91,15 @@ fn numbers_of(alloc: Global, number: usize, above: &[usize]) -> Result<Vec<usize
 }
 
 /// The class of a number as its objects have it.
-fn class_in(alloc: Global, number: usize, class: &TypedClass) -> Result<meaning::Class, AllocError>
-    ensures exact { IfOk result (λ c. c ≡ class_in number class.now) }
+fn class_in(
+    alloc: Global,
+    classes: &[TypedClass],
+    number: usize,
+    class: &TypedClass,
+) -> Result<meaning::Class, AllocError>
+    ensures exact { IfOk result (λ c. c ≡ class_in classes.now number class.now) }
 {
-    let fields = kinds_of(alloc, class.fields.as_slice())?;
+    let fields = kinds_of(alloc, classes, class)?;
     let under = numbers_of(alloc, number, class.above.as_slice())?;
     Ok(meaning::Class {
         number,
@@ -76,15 +128,6 @@ fn add_methods(
         })?;
     }
     Ok(())
-}
-
-/// The base class of a class, where it has one that is there.
-fn base_of<'a>(classes: &'a [TypedClass], class: &TypedClass) -> Option<&'a TypedClass>
-    ensures exact { MatchOption result
-        (option_and_then (slice_get classes.now) class.now.base ≡ None)
-        (λ base. option_and_then (slice_get classes.now) class.now.base ≡ Some base.now) }
-{
-    classes.get(class.base?)
 }
 
 /// The methods of a class and of up to `left` classes above it, after those that there are.
@@ -122,7 +165,7 @@ fn class_code(
     let mut found = Vec::new(alloc);
     add_chain(home, classes, classes.len(), class, &mut found)?;
     let methods = Methods::new(found)?;
-    let class = class_in(alloc, number, class)?;
+    let class = class_in(alloc, classes, number, class)?;
     Ok(ClassCode { class, methods })
 }
 
