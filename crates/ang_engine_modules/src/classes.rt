@@ -46,7 +46,7 @@ fn add_own_kinds(fields: &[ArgType], kinds: &mut Vec<ValueKind>) -> Result<(), A
     Ok(())
 }
 
-/// What the fields hold of a class and of up to `left` classes above it, those of the highest one first, after those that
+/// What the fields hold of up to `left` classes above a class, the highest one's first, and then its own, after those that
 /// there are.
 fn add_kinds(
     classes: &[TypedClass],
@@ -65,7 +65,7 @@ fn add_kinds(
     add_own_kinds(class.fields.as_slice(), kinds)
 }
 
-/// What the fields of a class's objects hold, those of its base class first.
+/// What the fields of a class's objects hold, those of its base class first, with room for no more.
 fn kinds_of(
     alloc: Global,
     classes: &[TypedClass],
