@@ -46,8 +46,8 @@ fn add_own_kinds(fields: &[ArgType], kinds: &mut Vec<ValueKind>) -> Result<(), A
     Ok(())
 }
 
-/// What the fields hold of up to `left` classes above a class, the highest one's first, and then its own, after those that
-/// there are.
+/// What the fields hold of up to `left` classes above a class, the highest one's first, and then its own, after what
+/// there is.
 fn add_kinds(
     classes: &[TypedClass],
     left: usize,
