@@ -1,0 +1,4 @@
+pub mod Types
+pub mod Misfits
+pub mod Paths
+pub mod TypedProgram
