@@ -1,1 +1,1 @@
--- none
+pub mod AsMeant

@@ -2,3 +2,4 @@ pub mod Types
 pub mod Misfits
 pub mod Paths
 pub mod TypedProgram
+pub mod Runs

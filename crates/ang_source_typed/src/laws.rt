@@ -1,1 +1,10 @@
 //! Laws of runs of typed programs, each the contract of a function that does nothing.
+ghost use Rattle.ang_source_typed.specs.Runs.{CallsAreAsMeant, InitializersAreAsMeant};
+
+/// Where a misfit does what the meaning says, the guarded meaning is the meaning of every program, typed or not. So
+/// what is said of runs whatever a misfit does is said of the meaning's own runs.
+#[tactic(auto, using(crate::proofs::AsMeant::calls_are_as_meant, crate::proofs::AsMeant::initializers_are_as_meant))]
+pub fn guards_change_nothing()
+    ensures calls { CallsAreAsMeant }
+    ensures initializers { InitializersAreAsMeant }
+{}
