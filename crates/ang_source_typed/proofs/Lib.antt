@@ -1,1 +1,5 @@
 pub mod AsMeant
+pub mod Values
+pub mod Operations
+pub mod Fields
+pub mod HostCalls

@@ -65,10 +65,10 @@ abbrev pub host_params : HostUse → List Parameter
 host_params u = reverse (receiver_params u u.member ++ list_map (λ ty. by_value (host_type u.driver ty)) u.params)
 
 -- what a call of it gives: a factory gives an object of its driver
-abbrev pub result_by : HostUse → Role → SlotType
-result_by u (Making f) = Key u.driver
-result_by u (Calling f) = host_type u.driver u.result
-result_by u (Property f) = host_type u.driver u.result
+abbrev pub result_by : ℕ → HostValueType → Role → SlotType
+result_by d result (Making f) = Key d
+result_by d result (Calling f) = host_type d result
+result_by d result (Property f) = host_type d result
 
 -- handles, of scripts or of the host
 abbrev pub IsHandle : SlotType → Type 0
@@ -207,7 +207,7 @@ module _ (z : Environment) (ms : Modules) (m : ℕ) where
         (ty ≡ Number) × ((object : SlotType) × Types locals object o × IsMember object x Number × IsStoredMember x)
     Types locals ty (t.call f a args) = (s : Signature) × IsCallee f s × TypesAll locals [] s.params args × IsA z ms s.result ty
     Types locals ty (t.host_call h a args) = (u : HostUse) × (z.host m h.entity.0 ≡ Some u) × (may_call (Some u) ≡ true)
-        × TypesAll locals [] (host_params u) args × IsA z ms (result_by u u.role) ty
+        × TypesAll locals [] (host_params u) args × IsA z ms (result_by u.driver u.result u.role) ty
 
     -- arguments for all of these parameters, after those that are there: the last one first
     pub TypesAll : List SlotType → List Parameter → List Parameter → t.Args → Type 0
