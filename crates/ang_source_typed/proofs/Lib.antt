@@ -3,3 +3,4 @@ pub mod Values
 pub mod Operations
 pub mod Fields
 pub mod HostCalls
+pub mod Ends
