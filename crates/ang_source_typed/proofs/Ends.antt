@@ -30,6 +30,9 @@ guard_passes AsMeant b go bad e = refl
 guard_passes (Faulting f) true go bad e = refl
 guard_passes (Faulting f) false go bad e = absurd (let x : ⊥ = cc in x)
 
+abbrev pub Go : Type 0
+Go = List Slot → ℕ → World → Evaluated
+
 module _ (z : Environment) (ms : Modules) where
   -- The places of a run are typed: the locals that are alive, what lies below them, all globals and all fields; and each count is the number of the places.
   pub record Good (locals below : List SlotType) (ls under : List Slot) (w : World) : Type 0 where
@@ -147,9 +150,6 @@ module _ (z : Environment) (ms : Modules) where
   one_good ty locals below under (Gave v ls t w) h = (refl, h)
   one_good ty locals below under (Failed f ls w) h = h
 
-  abbrev pub Go : Type 0
-  Go = List Slot → ℕ → World → Evaluated
-
   -- what comes next, above a value, gives this type, and is the same in the guarded meaning
   abbrev pub GoesWell : SlotType → List SlotType → List SlotType → List Slot → Go → Go → Type 0
   GoesWell ty locals below under go other = (ls : List Slot) (t : ℕ) (w : World) → Good locals below ls under w → IsGoodEnd ty locals below under (go ls t w) × (other ls t w ≡ go ls t w)
@@ -191,7 +191,7 @@ module _ (z : Environment) (ms : Modules) where
   local_typed own w zero (s ∷ types) (v ∷ vs) ty e h = subst (λ x. HasType z ms own w.objects x v) (ap (λ o. unwrap_or o s) e) h.0
   local_typed own w (suc d) (s ∷ types) (v ∷ vs) ty e h = local_typed own w d types vs ty e h.1
 
-  local_put : (own : Owners) (w : World) (d : ℕ) (locals : List SlotType) (ls : List Slot) (ty : SlotType) (v : Slot) → slice_get locals d ≡ Some ty → AllTyped z ms own w.objects locals ls
+  pub local_put : (own : Owners) (w : World) (d : ℕ) (locals : List SlotType) (ls : List Slot) (ty : SlotType) (v : Slot) → slice_get locals d ≡ Some ty → AllTyped z ms own w.objects locals ls
       → HasType z ms own w.objects ty v → AllTyped z ms own w.objects locals (local_set ls d v)
   local_put own w d [] [] ty v e h k = tt
   local_put own w d [] (u ∷ ls) ty v e h k = absurd h

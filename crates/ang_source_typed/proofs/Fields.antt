@@ -53,30 +53,33 @@ types_home V m (a ∷ types) (suc i) k d h = types_home V m types i k d h
 
 module _ (z : Environment) (ms : Modules) (m : ℕ) (classes : AreClasses z ms m) where
   -- an object of a family with a field of this type
-  record Held (own : Owners) (i n : ℕ) (ty : SlotType) (w : World) : Type 0 where
-    object : ScriptRecord
-    there : map.get w.objects n ≡ Some object
-    mine : own n ≡ m
-    typed : IsTypedObject z ms own w.objects n object
-    field : slice_get (field_types ms m object.class) i ≡ Some ty
+  pub record Held (own : Owners) (i n : ℕ) (ty : SlotType) (w : World) : Type 0 where
+    pub object : ScriptRecord
+    pub there : map.get w.objects n ≡ Some object
+    pub mine : own n ≡ m
+    pub typed : IsTypedObject z ms own w.objects n object
+    pub field : slice_get (field_types ms m object.class) i ≡ Some ty
+
+  pub held_at : (own : Owners) (c i n : ℕ) (ty : SlotType) (w : World) → slice_get (field_types ms m c) i ≡ Some ty → HasType z ms own w.objects (Family m c) (Script (Some n))
+      → IsTypedWorld z ms own w → ((o : ScriptRecord) × (map.get w.objects n ≡ Some o)) → Held own i n ty w
+  held_at own c i n ty w e h t o =
+      let mine = h o.0 o.1 in
+      record { object = o.0; there = o.1; mine = mine.0; typed = t.objects n o.0 o.1; field = classes.inherits (o.0).class c i ty mine.1 e }
 
   held_of : (own : Owners) (c i n : ℕ) (ty : SlotType) (s : List Slot) (w : World) → slice_get (field_types ms m c) i ≡ Some ty → HasType z ms own w.objects (Family m c) (Script (Some n))
       → IsTypedWorld z ms own w → IsCounted (Script (Some n) ∷ s) w → Held own i n ty w
-  held_of own c i n ty s w e h t p =
-      let o = here n s w p in
-      let mine = h o.0 o.1 in
-      record { object = o.0; there = o.1; mine = mine.0; typed = t.objects n o.0 o.1; field = classes.inherits (o.0).class c i ty mine.1 e }
+  held_of own c i n ty s w e h t p = held_at own c i n ty w e h t (here n s w p)
 
   -- its fields, by the types of the class in the module
   fields_typed : (own : Owners) (i n : ℕ) (ty : SlotType) (w : World) (h : Held own i n ty w) → AllTyped z ms own w.objects (field_types ms m h.object.class) h.object.fields
   fields_typed own i n ty w h = subst (λ k. AllTyped z ms own w.objects (field_types ms k h.object.class) h.object.fields) h.mine h.typed.fields
 
-  has_it : (own : Owners) (i n : ℕ) (ty : SlotType) (w : World) → Held own i n ty w → nat_lt i (length (fields_in (map.get w.objects n))) ≡ true
+  pub has_it : (own : Owners) (i n : ℕ) (ty : SlotType) (w : World) → Held own i n ty w → nat_lt i (length (fields_in (map.get w.objects n))) ≡ true
   has_it own i n ty w h =
       ap (λ o. nat_lt i (length (fields_in o))) h.there
       ∙ lt-ltb i (length h.object.fields) (typed_within z ms own w.objects i (field_types ms m h.object.class) h.object.fields ty h.field (fields_typed own i n ty w h))
 
-  field_typed : (own : Owners) (i n : ℕ) (ty : SlotType) (d : Slot) (w : World) → Held own i n ty w → HasType z ms own w.objects ty (field_or n i d w)
+  pub field_typed : (own : Owners) (i n : ℕ) (ty : SlotType) (d : Slot) (w : World) → Held own i n ty w → HasType z ms own w.objects ty (field_or n i d w)
   unfolding field_or
   field_typed own i n ty d w h =
       subst (λ o. HasType z ms own w.objects ty (field_of o i d)) (sym h.there)
@@ -123,7 +126,7 @@ module _ (z : Environment) (ms : Modules) (m : ℕ) (classes : AreClasses z ms m
       let old = t q p h in
       record { fields = all_still z ms own os later (field_types ms (own q) p.class) p.fields k old.fields; rank = old.rank; made = old.made }
 
-  put_typed : (own : Owners) (i n : ℕ) (ty : SlotType) (v : Slot) (w : World) → Held own i n ty w → HasType z ms own w.objects ty v → IsTypedWorld z ms own w
+  pub put_typed : (own : Owners) (i n : ℕ) (ty : SlotType) (v : Slot) (w : World) → Held own i n ty w → HasType z ms own w.objects ty v → IsTypedWorld z ms own w
       → Moves z ms own w (field_put n i v w)
   unfolding field_put
   put_typed own i n ty v w h q t =
@@ -147,7 +150,7 @@ module _ (z : Environment) (ms : Modules) (m : ℕ) (classes : AreClasses z ms m
       )
 
   -- what has the field's type is of a lower rank
-  takes : (own : Owners) (i n : ℕ) (ty : SlotType) (v : Slot) (s : List Slot) (w : World) → Held own i n ty w → HasType z ms own w.objects ty v → IsTypedWorld z ms own w
+  pub takes : (own : Owners) (i n : ℕ) (ty : SlotType) (v : Slot) (s : List Slot) (w : World) → Held own i n ty w → HasType z ms own w.objects ty v → IsTypedWorld z ms own w
       → IsCounted (v ∷ s) w → may_take n v w ≡ true
   unfolding may_take
   takes own i n ty (Bits x) s w h q t p = refl

@@ -4,3 +4,8 @@ pub mod Operations
 pub mod Fields
 pub mod HostCalls
 pub mod Ends
+pub mod Making
+pub mod Targets
+pub mod Variables
+pub mod Expressions
+pub mod Statements

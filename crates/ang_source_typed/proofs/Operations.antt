@@ -42,7 +42,7 @@ handle_fits z ms own os (Family m c) (Bits n) i h = absurd h
 handle_fits z ms own os (Family m c) (Script k) i h = refl
 handle_fits z ms own os (Family m c) (Host e k) i h = refl
 
-here_at : (o : Option ScriptRecord) → 0 < count_of_object o → (p : ScriptRecord) × (o ≡ Some p)
+pub here_at : (o : Option ScriptRecord) → 0 < count_of_object o → (p : ScriptRecord) × (o ≡ Some p)
 here_at None h = absurd (omega (arith, h))
 here_at (Some p) h = (p, refl)
 
@@ -180,7 +180,7 @@ module _ (z : Environment) (ms : Modules) (m : ℕ) where
 
   -- ---- globals
 
-  local_index : (vs : List Slot) (i : ℕ) → local_at vs i ≡ slice_index_or vs i (Bits 0)
+  pub local_index : (vs : List Slot) (i : ℕ) → local_at vs i ≡ slice_index_or vs i (Bits 0)
   local_index [] i = refl
   local_index (v ∷ vs) zero = refl
   local_index (v ∷ vs) (suc i) = local_index vs i

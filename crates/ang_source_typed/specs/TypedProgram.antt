@@ -1,6 +1,6 @@
 -- What a typed program is (docs/CLAIMS.md, "What a script means"): each expression gives what is wanted where it stands, each class has what the families above
 -- it have, and each body ends as its function's result wants. A derived class's object stands for one of a family above without a node of its own.
-use Rattle.std.specs.Prelude.{◌≡◌, ◌≢◌, ◌-◌, ◌+◌, ◌<◌, ◌&&◌, ◌||◌, not, ℕ, suc, Bool, true, false, IsTrue, List, [], ◌∷◌, ◌++◌, length, map as list_map, reverse, Option, Some, None, slice_get}
+use Rattle.std.specs.Prelude.{◌≡◌, ◌≢◌, ◌-◌, ◌+◌, ◌<◌, ◌&&◌, ◌||◌, not, ℕ, suc, Bool, true, false, List, [], ◌∷◌, ◌++◌, length, map as list_map, reverse, Option, Some, None, slice_get}
 use Rattle.ang_typed.specs.declared.expression.HostEntity.{HostEntity}
 use Rattle.ang_typed.specs.declared.expression.TypedCallee.{TypedCallee}
 use Rattle.ang_typed.specs.declared.expression.TypedCallee.TheVariants as callee
@@ -119,6 +119,7 @@ module _ (z : Environment) (ms : Modules) (m : ℕ) where
     pub others : List Parameter
     pub passing : Passing
     pub family : ℕ
+    pub taken : passing ≢ Out
     pub params : s.params ≡ others ++ (record { passing = passing; type = Family m family } ∷ [])
     pub body : (c : ℕ) → (ms m).is_class c ≡ true → IsUnder z ms m c family →
         (k d : ℕ) × (z.method m c slot ≡ Some (routine m k)) × IsUnder z ms m c d
@@ -194,7 +195,7 @@ module _ (z : Environment) (ms : Modules) (m : ℕ) where
     Types locals ty (t.cast n e) = (c : ℕ) × Types locals (Family m c) e × IsA z ms (Family m n) ty
     Types locals ty (t.naming x e) = Types locals ty e
     Types locals ty (t.make n None args) = ((ms m).is_class n ≡ true) × IsA z ms (Family m n) ty
-    Types locals ty (t.make n (Some k) args) = ((ms m).is_class n ≡ true) × ((s : Signature) × (this : Passing) × HasSignature k s
+    Types locals ty (t.make n (Some k) args) = ((ms m).is_class n ≡ true) × ((s : Signature) × (this : Passing) × HasSignature k s × (this ≢ Out)
         × TypesAll locals (record { passing = this; type = Family m n } ∷ []) s.params args × IsA z ms s.result ty)
     Types locals ty (t.assign (t.named x) a e) = (s : SlotType) × IsVariable locals x s × IsStored x × Types locals s e × IsA z ms s ty
     Types locals ty (t.assign (t.member_of o x) a e) =
@@ -264,8 +265,8 @@ module _ (z : Environment) (ms : Modules) (m : ℕ) where
     TypesStatement result loop locals (t.locals ls) = TypesLocals locals ls
     TypesStatement result loop locals (t.expression None) = Unit {0}
     TypesStatement result loop locals (t.expression (Some e)) = (ty : SlotType) × Types locals ty e
-    TypesStatement result loop locals t.break = IsTrue loop
-    TypesStatement result loop locals t.continue = IsTrue loop
+    TypesStatement result loop locals t.break = loop ≡ true
+    TypesStatement result loop locals t.continue = loop ≡ true
     TypesStatement result loop locals (t.return None) = result ≡ Number
     TypesStatement result loop locals (t.return (Some e)) = Types locals result e
     TypesStatement result loop locals (t.either c ss otherwise) =
