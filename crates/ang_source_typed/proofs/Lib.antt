@@ -9,3 +9,4 @@ pub mod Targets
 pub mod Variables
 pub mod Expressions
 pub mod Statements
+pub mod Bodies

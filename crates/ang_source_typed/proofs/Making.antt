@@ -30,7 +30,7 @@ use Rattle.ang_source_typed.specs.Runs.{HasTree}
 use Rattle.ang_source_typed.specs.Misfits.{Misfit, fits}
 use Rattle.ang_source_typed.specs.Misfits as guarded
 use Rattle.ang_source_typed.proofs.Values.{TriedLeads, memory_leads, moves_of}
-use Rattle.ang_source_typed.proofs.Ends.{Good, IsGoodEnd, moved_good, below_counted, guard_passes}
+use Rattle.ang_source_typed.proofs.Ends.{Good, At, IsGoodEnd, moved_good, below_counted, guard_passes}
 
 -- ---- what nothing was stored in
 
@@ -67,7 +67,7 @@ list_index x [] m = omega arith
 list_index x (l ∷ ls) zero = omega arith
 list_index x (l ∷ ls) (suc m) = omega (arith, list_index x ls m)
 
-module _ (z : Environment) (ms : Modules) (m n : ℕ) where
+module _ (z : Environment) (ms : Modules) (T m n : ℕ) where
   module _ (own : Owners) (k : ℕ) (os : ScriptObjects) (o : ScriptRecord) where
     -- who made what, with the new object
     abbrev owners : Owners
@@ -135,9 +135,10 @@ module _ (z : Environment) (ms : Modules) (m n : ℕ) where
     abbrev made : ScriptRecord
     made = new_object (class_at z m n)
 
-    made_good : (locals below : List SlotType) (ls under : List Slot) (t k : ℕ) (is : List Input) (w : World) → map.get w.objects k ≡ None → Good z ms locals below ls under w
-        → IsGoodEnd z ms (Family m n) locals below under (Gave (Script (Some k)) ls t (record w { inputs = is; objects = map.insert w.objects k made }))
-    made_good locals below ls under t k is w free g =
+    made_good : (locals below : List SlotType) (ls under : List Slot) (t k : ℕ) (is : List Input) (w : World) → map.get w.objects k ≡ None → At z ms T t locals below ls under w
+        → IsGoodEnd z ms T (Family m n) locals below under (Gave (Script (Some k)) ls t (record w { inputs = is; objects = map.insert w.objects k made }))
+    made_good locals below ls under t k is w free h =
+        let g = h.1 in
         let os = w.objects in
         let own = owners g.own k os made in
         let os' = map.insert os k made in
@@ -154,7 +155,7 @@ module _ (z : Environment) (ms : Modules) (m n : ℕ) where
         let value : HasType z ms own os' (Family m n) (Script (Some k)) = λ o e.
         let same : made ≡ o = ap (λ x. unwrap_or x made) (sym (get_inserted os k k made ∙ ap (λ b. cond b (Some made) (map.get os k)) (eq-eqb k k refl)) ∙ e) in
         (own_k, subst (λ x. IsUnder z ms m x n) (ap (λ (x : ScriptRecord). x.class) same) (classes.itself n is_class)) in
-        record {
+        let good : Good z ms locals (Family m n ∷ below) ls (Script (Some k) ∷ under) (record w { inputs = is; objects = os' }) = record {
           own = own;
           locals_typed = fresh_all g.own k os made locals ls (omega (arith, zero_count, counts, many_append (NumberOf k) ls under)) g.locals_typed;
           under_typed = (value, fresh_all g.own k os made below under (omega (arith, zero_count, counts, many_append (NumberOf k) ls under)) g.under_typed);
@@ -165,27 +166,29 @@ module _ (z : Environment) (ms : Modules) (m n : ℕ) where
                 (omega (arith, zero_count, counts, list_index (NumberOf k) w.globals j)) (g.world.globals j);
           };
           counted = below_counted z ms (Script (Some k)) ls under (record w { inputs = is; objects = os' }) (new_counted k (class_at z m n) is (ls ++ under) w free g.counted);
-        }
+        } in
+        (h.0, good)
 
-    made_by : (locals below : List SlotType) (ls under : List Slot) (t : ℕ) (is : List Input) (w : World) → Good z ms locals below ls under w
-        → IsGoodEnd z ms (Family m n) locals below under (performed (made_from (class_at z m n) is w) [] ls t)
-    made_by locals below ls under t [] w g = g
+    made_by : (locals below : List SlotType) (ls under : List Slot) (t : ℕ) (is : List Input) (w : World) → At z ms T t locals below ls under w
+        → IsGoodEnd z ms T (Family m n) locals below under (performed (made_from (class_at z m n) is w) [] ls t)
+    made_by locals below ls under t [] w g = g.1
     made_by locals below ls under t (Fresh k ∷ is) w g = made_good locals below ls under t (number_for k w.objects) is w (number_free k w.objects) g
-    made_by locals below ls under t (Room b ∷ is) w g = g
-    made_by locals below ls under t (Said r ∷ is) w g = g
-    made_by locals below ls under t (Tallied b ∷ is) w g = g
+    made_by locals below ls under t (Room b ∷ is) w g = g.1
+    made_by locals below ls under t (Said r ∷ is) w g = g.1
+    made_by locals below ls under t (Tallied b ∷ is) w g = g.1
 
-    made_tried : (locals below : List SlotType) (ls under : List Slot) (t : ℕ) (w : World) (o : Tried) → TriedLeads w o → TriedCounted (ls ++ under) (ls ++ under) o → Good z ms locals below ls under w
-        → IsGoodEnd z ms (Family m n) locals below under (performed (or_else o (Fails Memory) (λ u. made_from (class_at z m n) u.inputs u)) [] ls t)
-    made_tried locals below ls under t w (No u) k p g = moved_good z ms g.own locals below ls under w u g.locals_typed g.under_typed (moves_of z ms g.own w u g.world k) p
-    made_tried locals below ls under t w (Yes u) k p g =
-        made_by locals below ls under t u.inputs u (moved_good z ms g.own locals below ls under w u g.locals_typed g.under_typed (moves_of z ms g.own w u g.world k) p)
+    made_tried : (locals below : List SlotType) (ls under : List Slot) (t : ℕ) (w : World) (o : Tried) → TriedLeads w o → TriedCounted (ls ++ under) (ls ++ under) o → At z ms T t locals below ls under w
+        → IsGoodEnd z ms T (Family m n) locals below under (performed (or_else o (Fails Memory) (λ u. made_from (class_at z m n) u.inputs u)) [] ls t)
+    made_tried locals below ls under t w (No u) k p h = let g = h.1 in moved_good z ms g.own locals below ls under w u g.locals_typed g.under_typed (moves_of z ms g.own w u g.world k) p
+    made_tried locals below ls under t w (Yes u) k p h =
+        let g = h.1 in
+        made_by locals below ls under t u.inputs u (h.0, moved_good z ms g.own locals below ls under w u g.locals_typed g.under_typed (moves_of z ms g.own w u g.world k) p)
 
-    pub make_good : (y : Misfit) (locals below : List SlotType) (ls under : List Slot) (t : ℕ) (w : World) → Good z ms locals below ls under w
-        → IsGoodEnd z ms (Family m n) locals below under (applied (perform z m (Make n)) (Ready [] ls t w))
+    pub make_good : (y : Misfit) (locals below : List SlotType) (ls under : List Slot) (t : ℕ) (w : World) → At z ms T t locals below ls under w
+        → IsGoodEnd z ms T (Family m n) locals below under (applied (perform z m (Make n)) (Ready [] ls t w))
         × (applied (guarded.perform y z m (Make n)) (Ready [] ls t w) ≡ applied (perform z m (Make n)) (Ready [] ls t w))
     unfolding perform fits
     make_good y locals below ls under t w g = (
-      made_tried locals below ls under t w (memory_step w) (memory_leads w) (memory_counted (ls ++ under) w g.counted) g,
+      made_tried locals below ls under t w (memory_step w) (memory_leads w) (memory_counted (ls ++ under) w (g.1).counted) g,
       ap (λ d. performed d [] ls t) (guard_passes y (is_some (z.class m n)) (perform z m (Make n) [] w) (λ f. Fails f w) there),
     )

@@ -25,12 +25,12 @@ use Rattle.ang_source_typed.specs.Misfits as guarded
 use Rattle.ang_source_typed.proofs.Values.{Moves, all_still, is_a, still, typed_length, both_typed, split_typed, typed_at}
 use Rattle.ang_source_typed.proofs.Operations.{both_true, here_at, global_there, global_typed, global_put_typed, local_index}
 use Rattle.ang_source_typed.proofs.Fields.{Held, held_at, has_it, field_typed, put_typed, takes as field_takes}
-use Rattle.ang_source_typed.proofs.Ends.{Good, IsGoodEnd, give_good, guard_passes, local_typed, local_put, local_within, top_counted, below_counted, front_counted}
+use Rattle.ang_source_typed.proofs.Ends.{Good, At, IsGoodEnd, give_good, guard_passes, local_typed, local_put, local_within, top_counted, below_counted, front_counted}
 
-module _ (z : Environment) (ms : Modules) where
+module _ (z : Environment) (ms : Modules) (T : ℕ) where
   -- a reply with typed values, above whatever is typed
   abbrev pub IsGoodCall : Signature → List SlotType → List Slot → Reply → Type 0
-  IsGoodCall s below under (Yields v outs t w) = Good z ms (out_types s.params) (s.result ∷ below) outs (v ∷ under) w
+  IsGoodCall s below under (Yields v outs t w) = At z ms T t (out_types s.params) (s.result ∷ below) outs (v ∷ under) w
   IsGoodCall s below under (Raises f w) = Good z ms [] below [] under w
 
   -- ---- kinds of values
@@ -131,12 +131,12 @@ module _ (z : Environment) (ms : Modules) where
     local_traded : (locals below : List SlotType) (under : List Slot) (d : ℕ) (ty : SlotType) (v : Slot) (ls : List Slot) (w : World) → slice_get locals d ≡ Some ty
         → Good z ms locals (ty ∷ below) ls (v ∷ under) w → IsTraded locals below under (spot.Local d) ty v ls w
     local_traded locals below under d ty v ls w e g =
-        let lt = local_within z ms g.own w d locals ls ty e g.locals_typed in
-        let was = local_typed z ms g.own w d locals ls ty e g.locals_typed in (
+        let lt = local_within z ms T g.own w d locals ls ty e g.locals_typed in
+        let was = local_typed z ms T g.own w d locals ls ty e g.locals_typed in (
           both_true (nat_lt d (length ls)) (is_alike (local_at ls d) v) (lt-ltb d (length ls) lt) (alike g.own w.objects ty (local_at ls d) v was g.under_typed.0),
           record {
             own = g.own;
-            locals_typed = local_put z ms g.own w d locals ls ty v e g.locals_typed g.under_typed.0;
+            locals_typed = local_put z ms T g.own w d locals ls ty v e g.locals_typed g.under_typed.0;
             under_typed = (was, g.under_typed.1);
             world = g.world;
             counted = counted_as (ls ++ (v ∷ under)) (local_set ls d v ++ (local_at ls d ∷ under)) w
@@ -203,7 +203,7 @@ module _ (z : Environment) (ms : Modules) where
     traded locals below under (spot.Local d) ty v ls w e g = local_traded locals below under d ty v ls w e g
     traded locals below under (spot.Global n) ty v ls w e g = global_traded locals below under n ty v ls w e g
     traded locals below under (spot.Field o i) ty v ls w e g =
-        member_traded locals below under e.0 i ty (local_at ls o) v ls w e.2 g (local_typed z ms g.own w o locals ls (Family m e.0) e.1 g.locals_typed)
+        member_traded locals below under e.0 i ty (local_at ls o) v ls w e.2 g (local_typed z ms T g.own w o locals ls (Family m e.0) e.1 g.locals_typed)
         (λ n s. here_at (map.get w.objects n)
         (subst (λ q. HasObject q w.objects) s (counted_there (local_at ls o) (ls ++ (v ∷ under)) w (λ x. omega (arith, names_at x ls o, many_append x ls (v ∷ under))) g.counted).0))
 
@@ -252,8 +252,9 @@ module _ (z : Environment) (ms : Modules) where
 
     pub replied_good : (y : Misfit) (s : Signature) (locals below : List SlotType) (xs : List Target) (ls under : List Slot) (r : Reply) → IsTargets locals xs (out_types s.params)
         → length locals ≡ length ls → IsGoodCall s (locals ++ below) (ls ++ under) r
-        → IsGoodEnd z ms s.result locals below under (replied m xs r ls) × (guarded.replied y z m xs r ls ≡ replied m xs r ls)
-    replied_good y s locals below xs ls under (Yields v outs t w) h n g =
+        → IsGoodEnd z ms T s.result locals below under (replied m xs r ls) × (guarded.replied y z m xs r ls ≡ replied m xs r ls)
+    replied_good y s locals below xs ls under (Yields v outs t w) h n k =
+        let g = k.1 in
         let types = out_types s.params in
         let parts = split_typed z ms g.own w.objects locals below ls under n g.under_typed.1 in
         let many = typed_length z ms g.own w.objects types outs g.locals_typed in
@@ -267,7 +268,7 @@ module _ (z : Environment) (ms : Modules) where
         } in
         let done = settled_good locals (s.result ∷ below) xs types outs ls (v ∷ under) w h many start in
         let q = settled m xs outs ls w in (
-          give_back_good done.types locals (s.result ∷ below) q.olds q.locals (v ∷ under) q.world done.many done.good,
+          (k.0, give_back_good done.types locals (s.result ∷ below) q.olds q.locals (v ∷ under) q.world done.many done.good),
           guard_passes y (all_take m xs outs ls w) (replied m xs (Yields v outs t w) ls) (λ f. Failed f ls (give_all outs (give v w))) done.fit,
         )
     replied_good y s locals below xs ls under (Raises f w) h n g =

@@ -24,41 +24,41 @@ use Rattle.ang_source_typed.proofs.Values.{typed_length}
 use Rattle.ang_source_typed.proofs.Operations.{DoesWell, gets_global, sets_global, changes_global}
 use Rattle.ang_source_typed.proofs.Fields.{gets_field, sets_field, changes_field}
 use Rattle.ang_source_typed.proofs.HostCalls.{property_types, reads, writes, alters}
-use Rattle.ang_source_typed.proofs.Ends.{Good, IsGoodEnd, GoesWell, Go, applied_good, one_good, two_good, loaded_good, assigned_good, altered_good}
+use Rattle.ang_source_typed.proofs.Ends.{At, IsGoodEnd, GoesWell, Go, applied_good, one_good, two_good, loaded_good, assigned_good, altered_good}
 
 -- the place of a local, by how many there are
 pub placed : (locals : List SlotType) (i n : ℕ) (ty : SlotType) → length locals ≡ n → slice_get locals (length locals - suc i) ≡ Some ty → slice_get locals (n - suc i) ≡ Some ty
 placed locals i n ty e h = subst (λ k. slice_get locals (k - suc i) ≡ Some ty) e h
 
-module _ (z : Environment) (ms : Modules) (m : ℕ) (classes : (k : ℕ) → AreClasses z ms k) (y : Misfit) where
+module _ (z : Environment) (ms : Modules) (T m : ℕ) (classes : (k : ℕ) → AreClasses z ms k) (y : Misfit) where
   -- it gives a value of the type, and is the same in the guarded meaning
   abbrev pub Both : SlotType → List SlotType → List SlotType → List Slot → Evaluated → Evaluated → Type 0
-  Both ty locals below under e other = IsGoodEnd z ms ty locals below under e × (other ≡ e)
+  Both ty locals below under e other = IsGoodEnd z ms T ty locals below under e × (other ≡ e)
 
   -- ---- operations on none, one and two operands
 
-  pub none_op : (o : Operation) (ty : SlotType) (locals below : List SlotType) (ls under : List Slot) (t : ℕ) (w : World) → DoesWell z ms m o [] ty → Good z ms locals below ls under w
+  pub none_op : (o : Operation) (ty : SlotType) (locals below : List SlotType) (ls under : List Slot) (t : ℕ) (w : World) → DoesWell z ms m o [] ty → At z ms T t locals below ls under w
       → Both ty locals below under (applied (perform z m o) (Ready [] ls t w)) (applied (guarded.perform y z m o) (Ready [] ls t w))
-  none_op o ty locals below ls under t w k g = applied_good z ms m y o [] locals below ty under (Ready [] ls t w) k (refl, g)
+  none_op o ty locals below ls under t w k g = applied_good z ms T m y o [] locals below ty under (Ready [] ls t w) k (refl, g)
 
   pub one_op : (o : Operation) (a ty : SlotType) (locals below : List SlotType) (under : List Slot) (e other : Evaluated) → DoesWell z ms m o (a ∷ []) ty → Both a locals below under e other
       → Both ty locals below under (applied (perform z m o) (one e)) (applied (guarded.perform y z m o) (one other))
   one_op o a ty locals below under e other k h =
-      let q = applied_good z ms m y o (a ∷ []) locals below ty under (one e) k (one_good z ms a locals below under e h.0) in
+      let q = applied_good z ms T m y o (a ∷ []) locals below ty under (one e) k (one_good z ms T a locals below under e h.0) in
       (q.0, ap (λ x. applied (guarded.perform y z m o) (one x)) h.1 ∙ q.1)
 
   pub two_op : (o : Operation) (a b ty : SlotType) (locals below : List SlotType) (under : List Slot) (e other : Evaluated) (go go' : Go) → DoesWell z ms m o (b ∷ a ∷ []) ty
-      → Both a locals below under e other → ((v : Slot) → GoesWell z ms b locals (a ∷ below) (v ∷ under) go go')
+      → Both a locals below under e other → ((v : Slot) → GoesWell z ms T b locals (a ∷ below) (v ∷ under) go go')
       → Both ty locals below under (applied (perform z m o) (two e go)) (applied (guarded.perform y z m o) (two other go'))
   two_op o a b ty locals below under e other go go' k h n =
-      let t = two_good z ms a b locals below under e go go' h.0 n in
-      let q = applied_good z ms m y o (b ∷ a ∷ []) locals below ty under (two e go) k t.0 in
+      let t = two_good z ms T a b locals below under e go go' h.0 n in
+      let q = applied_good z ms T m y o (b ∷ a ∷ []) locals below ty under (two e go) k t.0 in
       (q.0, ap (λ x. applied (guarded.perform y z m o) (two x go')) h.1 ∙ ap (λ x. applied (guarded.perform y z m o) x) t.1 ∙ q.1)
 
   -- `this`
-  pub this_goes : (c : ℕ) (locals below : List SlotType) (under : List Slot) → slice_get locals (length locals - 1) ≡ Some (Family m c) → GoesWell z ms (Family m c) locals below under this_of this_of
+  pub this_goes : (c : ℕ) (locals below : List SlotType) (under : List Slot) → slice_get locals (length locals - 1) ≡ Some (Family m c) → GoesWell z ms T (Family m c) locals below under this_of this_of
   this_goes c locals below under e ls t w g =
-      (loaded_good z ms (length ls - 1) (Family m c) locals below ls under t w (placed locals 0 (length ls) (Family m c) (typed_length z ms g.own w.objects locals ls g.locals_typed) e) g, refl)
+      (loaded_good z ms T (length ls - 1) (Family m c) locals below ls under t w (placed locals 0 (length ls) (Family m c) (typed_length z ms (g.1).own w.objects locals ls (g.1).locals_typed) e) g, refl)
 
   -- ---- properties of the host
 
@@ -110,10 +110,10 @@ module _ (z : Environment) (ms : Modules) (m : ℕ) (classes : (k : ℕ) → Are
 
   -- ---- variables
 
-  pub read_good : (x : TypedVariable) (s : SlotType) (locals below : List SlotType) (ls under : List Slot) (t : ℕ) (w : World) → IsVariable z ms m locals x s → Good z ms locals below ls under w
+  pub read_good : (x : TypedVariable) (s : SlotType) (locals below : List SlotType) (ls under : List Slot) (t : ℕ) (w : World) → IsVariable z ms m locals x s → At z ms T t locals below ls under w
       → Both s locals below under (read_variable z m x ls t w) (guarded.read_variable y z m x ls t w)
   read_good (variable.Local i) s locals below ls under t w h g =
-      (loaded_good z ms (length ls - suc i) s locals below ls under t w (placed locals i (length ls) s (typed_length z ms g.own w.objects locals ls g.locals_typed) h) g, refl)
+      (loaded_good z ms T (length ls - suc i) s locals below ls under t w (placed locals i (length ls) s (typed_length z ms (g.1).own w.objects locals ls (g.1).locals_typed) h) g, refl)
   read_good (variable.Global n) s locals below ls under t w h g = none_op (GlobalGet n) s locals below ls under t w (gets_global z ms m n s h) g
   read_good (variable.Property p) s locals below ls under t w h g = none_op (Read p.entity) s locals below ls under t w (property_read p h.0 s h.1) g
   read_good (variable.Field i) s locals below ls under t w h g =
@@ -122,7 +122,7 @@ module _ (z : Environment) (ms : Modules) (m : ℕ) (classes : (k : ℕ) → Are
   pub stored_good : (x : TypedVariable) (s : SlotType) (locals below : List SlotType) (first under : List Slot) (e other : Evaluated) → length locals ≡ length first → IsVariable z ms m locals x s
       → IsStored z ms m x → Both s locals below under e other → Both s locals below under (stored z m x first e) (guarded.stored y z m x first other)
   stored_good (variable.Local i) s locals below first under e other n h k b =
-      (assigned_good z ms (length first - suc i) s locals below under e (placed locals i (length first) s n h) b.0, ap (assigned (inner first i)) b.1)
+      (assigned_good z ms T (length first - suc i) s locals below under e (placed locals i (length first) s n h) b.0, ap (assigned (inner first i)) b.1)
   stored_good (variable.Global j) s locals below first under e other n h k b = one_op (GlobalSet j) s s locals below under e other (sets_global z ms m j s h) b
   stored_good (variable.Property p) s locals below first under e other n h k b = one_op (Write p.entity) s s locals below under e other (property_write p h.0 s h.1 k) b
   stored_good (variable.Field i) s locals below first under e other n h k b =
@@ -132,7 +132,7 @@ module _ (z : Environment) (ms : Modules) (m : ℕ) (classes : (k : ℕ) → Are
       → IsVariable z ms m locals x Number → IsStored z ms m x → Both Number locals below under e other
       → Both Number locals below under (changed_by z m x first c e) (guarded.changed_by y z m x first c other)
   changed_good (variable.Local i) c locals below first under e other n h k b =
-      let q = altered_good z ms y (length first - suc i) c locals below under e (placed locals i (length first) Number n h) b.0 in
+      let q = altered_good z ms T y (length first - suc i) c locals below under e (placed locals i (length first) Number n h) b.0 in
       (q.0, ap (guarded.altered y z (inner first i) c) b.1 ∙ q.1)
   changed_good (variable.Global j) c locals below first under e other n h k b = one_op (GlobalChange c j) Number Number locals below under e other (changes_global z ms m j c h) b
   changed_good (variable.Property p) c locals below first under e other n h k b = one_op (Alter p.entity c) Number Number locals below under e other (property_alter p h.0 c h.1 k) b
@@ -151,7 +151,7 @@ module _ (z : Environment) (ms : Modules) (m : ℕ) (classes : (k : ℕ) → Are
 
   -- the object comes after the value
   abbrev pub Next : SlotType → SlotType → List SlotType → List SlotType → List Slot → Go → Go → Type 0
-  Next a object locals below under go go' = (v : Slot) → GoesWell z ms object locals (a ∷ below) (v ∷ under) go go'
+  Next a object locals below under go go' = (v : Slot) → GoesWell z ms T object locals (a ∷ below) (v ∷ under) go go'
 
   pub member_stored_good : (x : TypedMember) (object s : SlotType) (locals below : List SlotType) (under : List Slot) (e other : Evaluated) (go go' : Go) → IsMember z ms m object x s
       → IsStoredMember z ms m x → Both s locals below under e other → Next s object locals below under go go'
