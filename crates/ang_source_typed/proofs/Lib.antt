@@ -10,3 +10,4 @@ pub mod Variables
 pub mod Expressions
 pub mod Statements
 pub mod Bodies
+pub mod Initializers

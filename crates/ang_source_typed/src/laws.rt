@@ -1,5 +1,14 @@
 //! Laws of runs of typed programs, each the contract of a function that does nothing.
-ghost use Rattle.ang_source_typed.specs.Runs.{CallsAreAsMeant, InitializersAreAsMeant};
+ghost use Rattle.ang_source_typed.specs.Runs.{CallsAreAsMeant, CallsMeetNoMisfit, InitializersAreAsMeant};
+ghost use Rattle.ang_source_typed.specs.Runs.{InitializersMeetNoMisfit};
+
+/// A run of typed programs is the same whatever a misfit does, so it meets none, and all places keep their types. So
+/// `Null` comes of null alone, and `Unbound` of an import alone; and no object of scripts is ever in a place of
+/// another module than its own.
+pub fn typed_runs_meet_no_misfit()
+    ensures calls { CallsMeetNoMisfit }
+    ensures initializers { InitializersMeetNoMisfit }
+{}
 
 /// Where a misfit does what the meaning says, the guarded meaning is the meaning of every program, typed or not. So
 /// what is said of runs whatever a misfit does is said of the meaning's own runs.
