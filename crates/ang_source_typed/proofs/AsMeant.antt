@@ -117,9 +117,9 @@ module _ (z : Environment) (m : ℕ) (by calls : Callees) (calls_are : (k : Call
     eval_is (t.make k None args) ls n w = refl
     eval_is (t.make k (Some f) args) ls n w =
         called_is z m (by (Own f)) (targets_of ls args)
-            (then_rest [] (applied (perform z m (Make k)) (Ready [] ls n w)) (λ o ls' n' w'. guarded.evaluate_all AsMeant z m by args (o ∷ []) ls' n' w'))
+        (then_rest [] (applied (perform z m (Make k)) (Ready [] ls n w)) (λ o ls' n' w'. guarded.evaluate_all AsMeant z m by args (o ∷ []) ls' n' w'))
         ∙ (λ j. called m (λ vs n' w'. calls_are (Own f) vs n' w' j) (targets_of ls args)
-            (then_rest [] (applied (perform z m (Make k)) (Ready [] ls n w)) (λ o ls' n' w'. all_is args (o ∷ []) ls' n' w' j)))
+        (then_rest [] (applied (perform z m (Make k)) (Ready [] ls n w)) (λ o ls' n' w'. all_is args (o ∷ []) ls' n' w' j)))
     eval_is (t.assign (t.named x) ty e) ls n w = stored_is x ls (guarded.evaluate AsMeant z m by e ls n w) ∙ ap (stored z m x ls) (eval_is e ls n w)
     eval_is (t.assign (t.member_of o a) ty e) ls n w =
         member_stored_is a (guarded.evaluate AsMeant z m by e ls n w) (guarded.evaluate AsMeant z m by o)
@@ -191,13 +191,13 @@ module _ (z : Environment) (m : ℕ) (by calls : Callees) (calls_are : (k : Call
         → guarded.pass_of AsMeant z m by passes e ss steps ls n w ≡ pass_of z m calls other e ss steps ls n w
     pass_is e ss steps ls n w =
         branched_is z (guarded.evaluate_or AsMeant z m by 1 e ls n w)
-            (λ ls' n' w'. caught (length ls') (guarded.run_all AsMeant z m by passes ss ls' n' w')
-                (λ l2 n2 w2. then_run (guarded.run_steps AsMeant z m by steps l2 n2 w2) (tested (passes e ss steps))))
-            (λ ls' n' w'. Went ls' n' w')
+        (λ ls' n' w'. caught (length ls') (guarded.run_all AsMeant z m by passes ss ls' n' w')
+        (λ l2 n2 w2. then_run (guarded.run_steps AsMeant z m by steps l2 n2 w2) (tested (passes e ss steps))))
+        (λ ls' n' w'. Went ls' n' w')
         ∙ (λ j. branched (option_is 1 e ls n w j)
-            (λ ls' n' w'. caught (length ls') (run_all_is ss ls' n' w' j)
-                (λ l2 n2 w2. then_run (steps_are steps l2 n2 w2 j) (tested (λ l3 n3 w3. passes_are e ss steps l3 n3 w3 j))))
-            (λ ls' n' w'. Went ls' n' w'))
+        (λ ls' n' w'. caught (length ls') (run_all_is ss ls' n' w' j)
+        (λ l2 n2 w2. then_run (steps_are steps l2 n2 w2 j) (tested (λ l3 n3 w3. passes_are e ss steps l3 n3 w3 j))))
+        (λ ls' n' w'. Went ls' n' w'))
 
     code_is : (x : Code) (ls : List Slot) (n : ℕ) (w : World) → guarded.run_code AsMeant z m by passes x ls n w ≡ run_code z m calls other x ls n w
     code_is (of_function ss) ls n w = λ j. in_block (λ ls' n' w'. run_all_is ss ls' n' w' j) ls n w

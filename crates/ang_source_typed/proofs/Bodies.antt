@@ -101,9 +101,11 @@ module _ (z : Environment) (ms : Modules) (T : ℕ) where
   yielded_good : (s : Signature) (extra below : List SlotType) (v : Slot) (ls under : List Slot) (n : ℕ) (w : World) → At z ms T n (extra ++ types_of s.params) (s.result ∷ below) ls (v ∷ under) w
       → IsGoodCall z ms T s below under (yielded (passings_among s.params) v ls n w)
   yielded_good s extra below v ls under n w g =
-      let k = length (passings_among s.params) in
-      (g.0, outs_good z ms s.params (s.result ∷ below) (drop_some (length ls - k) ls) (v ∷ under) (give_some (length ls - k) ls w)
-      (dropped_good z ms extra (types_of s.params) (s.result ∷ below) k ls (v ∷ under) w (as_many s.params) g.1))
+      let k = length (passings_among s.params) in (
+        g.0,
+        outs_good z ms s.params (s.result ∷ below) (drop_some (length ls - k) ls) (v ∷ under) (give_some (length ls - k) ls w)
+            (dropped_good z ms extra (types_of s.params) (s.result ∷ below) k ls (v ∷ under) w (as_many s.params) g.1),
+      )
 
   finished_good : (s : Signature) (ended breaking : Bool) (below : List SlotType) (under : List Slot) (r : Ran) → (s.result ≢ Number → ended ≡ true)
       → IsGoodRun z ms T false ended breaking s.result (types_of s.params) (types_of s.params) below under r → IsGoodCall z ms T s below under (finished (passings_among s.params) r)

@@ -289,7 +289,10 @@ module _ (z : Environment) (ms : Modules) (T m : ℕ) (classes : (k : ℕ) → A
           → Both z ms T m classes y p.type locals below under (evaluate_argument z m calls a ls n w) (guarded.evaluate_argument y z m by a ls n w)
       argument_good (t.by_value a e) p locals below ls under n w h g = typed_good e p.type locals below ls under n w h.1 g
       argument_good (t.out x from to) p locals below ls under n w h g = (
-        (g.0, nothing_pushed p.type (default_in from) locals below ls under w g.1
-            (subst (λ s. HasType z ms (g.1).own w.objects s (default_in from)) (sym h.1) (default_typed z ms (g.1).own w.objects (ms m).view m from)) (default_names (kind_of from))),
+        (
+          g.0,
+          nothing_pushed p.type (default_in from) locals below ls under w g.1
+              (subst (λ s. HasType z ms (g.1).own w.objects s (default_in from)) (sym h.1) (default_typed z ms (g.1).own w.objects (ms m).view m from)) (default_names (kind_of from)),
+        ),
         refl,
       )

@@ -440,9 +440,11 @@ module _ (z : Environment) (ms : Modules) (T m : ℕ) (classes : (k : ℕ) → A
       let r = branched_good z ms T y false (endless e ss) false false false result locals below under (evaluate z m calls c ls n w) (guarded.evaluate y z m by c ls n w)
       (λ ls' n' w'. caught (length ls') (run_all z m calls passes ss ls' n' w') (rest e ss steps result locals below under h b s))
       (λ ls' n' w'. caught (length ls') (guarded.run_all y z m by other ss ls' n' w') (rest' e ss steps result locals below under h b s))
-      (λ ls' n' w'. Went ls' n' w') (λ ls' n' w'. Went ls' n' w') q.0 q.1 (turn_good e ss steps result locals below under h b s) (λ ls' n' w' g'. ((refl, g'), refl)) in
-      (widened z ms T false (endless e ss && false) (endless e ss) false false result locals locals below under (pass_of z m calls passes (Some c) ss steps ls n w)
-          (λ x. first_fails (is_true c) (not (some_breaks ss)) never) (λ x. x) r.0, r.1)
+      (λ ls' n' w'. Went ls' n' w') (λ ls' n' w'. Went ls' n' w') q.0 q.1 (turn_good e ss steps result locals below under h b s) (λ ls' n' w' g'. ((refl, g'), refl)) in (
+        widened z ms T false (endless e ss && false) (endless e ss) false false result locals locals below under (pass_of z m calls passes (Some c) ss steps ls n w)
+            (λ x. first_fails (is_true c) (not (some_breaks ss)) never) (λ x. x) r.0,
+        r.1,
+      )
 
   by_test : (test : Bool) (c : t.Expr) (ss : t.Stmts) (steps : List t.Expr) (result : SlotType) (locals below : List SlotType) (under : List Slot) → is_true c ≡ test → Types z ms m locals Number c
       → TypesStatements z ms m result true locals ss → TypesEach z ms m locals steps

@@ -66,8 +66,7 @@ initializer_signature = record { params = []; result = Number }
 
 -- ---- the laws
 
--- A run of typed programs is the same whatever a misfit does, so it meets none; and it leaves all places typed. So `Null` comes of null alone, and `Unbound` of
--- an import alone.
+-- A run of typed programs is the same whatever a misfit does, so it meets none; and it leaves all places typed.
 abbrev pub CallsMeetNoMisfit : Type 0
 CallsMeetNoMisfit = (z : Environment) (ms : Modules) (y : Misfit) → IsTypedSetting z ms
     → (budget : ℕ) (g : Routine) (s : Signature) (vs : List Slot) (w : World) → HasSignature z ms g.home g.number s → IsGood z ms (types_of s.params) vs w

@@ -2,9 +2,8 @@
 ghost use Rattle.ang_source_typed.specs.Runs.{CallsAreAsMeant, CallsMeetNoMisfit, InitializersAreAsMeant};
 ghost use Rattle.ang_source_typed.specs.Runs.{InitializersMeetNoMisfit};
 
-/// A run of typed programs is the same whatever a misfit does, so it meets none, and all places keep their types. So
-/// `Null` comes of null alone, and `Unbound` of an import alone; and no object of scripts is ever in a place of
-/// another module than its own.
+/// A run of typed programs is the same whatever a misfit does, so it meets none, and all places keep their types: an
+/// object of scripts is never in a place of another module than the one that made it.
 pub fn typed_runs_meet_no_misfit()
     ensures calls { CallsMeetNoMisfit }
     ensures initializers { InitializersMeetNoMisfit }
