@@ -1,6 +1,6 @@
 -- Where a misfit does what the meaning says, the guarded meaning is the meaning.
-use Rattle.std.proofs.Common.{◌≡◌, ℕ, zero, suc, List, [], ◌∷◌, length, Option, Some, None, refl, sym, ap, ◌∙◌}
-use Rattle.std.specs.Prelude.{Bool, true, false}
+use Rattle.std.proofs.Common.{◌≡◌, ℕ, zero, suc, List, [], ◌∷◌, length, Option, Some, None, refl, ap, ◌∙◌}
+use Rattle.std.specs.Prelude.{true, false}
 use Rattle.ang_kinds.specs.declared.fault.Fault.TheVariants.{Budget, Memory}
 use Rattle.ang_typed.specs.declared.expression.TypedVariable.{TypedVariable}
 use Rattle.ang_typed.specs.declared.expression.TypedVariable.TheVariants as variable
@@ -17,12 +17,12 @@ use Rattle.ang_meaning.specs.declared.routine.Callee.{Callee}
 use Rattle.ang_meaning.specs.declared.routine.Callee.TheVariants.{Own}
 use Rattle.ang_meaning.specs.declared.routine.Target.{Target}
 use Rattle.ang_meaning.specs.Numbers.{truth, is_signed}
-use Rattle.ang_meaning.specs.World.{World, give, give_all, memory_step, or_else}
+use Rattle.ang_meaning.specs.World.{World, give_all, memory_step, or_else}
 use Rattle.ang_meaning.specs.Environment.{Environment, params_of, target}
 use Rattle.ang_meaning.specs.Perform.{perform}
 use Rattle.ang_meaning.specs.Bodies.{Callees, then_initialized}
 use Rattle.ang_meaning.specs.Results.{Evaluated, Gave, Failed, Gathered, Ready, Broke, Ran, Went, Returned, Reply, Yields, Raises, Calls, ticked, applied, altered, chosen, then_rest, replied, called, leave, with_value, then_run, caught, finished, enter, found_entered}
-use Rattle.ang_source.specs.Meaning.{Passes, Code, of_function, of_global, Codes, callee_of, compound_of, step_of, one, two, targets_of, stored, discarded, branched, in_block, tested, read_variable, read_member, member_stored, changed_by, member_changed, evaluate, evaluate_all, evaluate_argument, begin_local, evaluate_or, run_locals, run_steps, run, run_all, pass_of, run_code, body_at, pass_at, begun, called_with, initialized, initialized_all}
+use Rattle.ang_source.specs.Meaning.{Passes, Code, of_function, of_global, Codes, callee_of, compound_of, step_of, one, two, targets_of, stored, discarded, branched, in_block, tested, read_variable, read_member, member_stored, changed_by, member_changed, evaluate, evaluate_all, evaluate_argument, begin_local, evaluate_or, run_locals, run_steps, run, run_all, pass_of, run_code, body_at, pass_at, begun, initialized_all}
 use Rattle.ang_source_typed.specs.Misfits.{AsMeant}
 use Rattle.ang_source_typed.specs.Misfits as guarded
 use Rattle.ang_source_typed.specs.Runs.{CallsAreAsMeant, InitializersAreAsMeant}

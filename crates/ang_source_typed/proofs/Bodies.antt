@@ -1,12 +1,11 @@
 -- Whole bodies and calls: by the ticks that are left, each call of a typed program meets no misfit.
-use Rattle.std.proofs.Common.{◌≡◌, ℕ, zero, suc, ◌+◌, ◌<◌, ◌≤◌, List, [], ◌∷◌, ◌++◌, length, Option, Some, None, refl, sym, ap, ◌∙◌, subst, arith, unwrap_or}
-use Rattle.std.specs.Prelude.{Bool, true, false, cond, not, is_some, option_map, ◌≢◌, ◌-◌, take, map as list_map, reverse, slice_get, slice_index_or}
+use Rattle.std.proofs.Common.{◌≡◌, ℕ, zero, suc, ◌<◌, ◌≤◌, List, [], ◌∷◌, ◌++◌, length, Option, Some, None, refl, sym, ap, ◌∙◌, subst, arith, unwrap_or}
+use Rattle.std.specs.Prelude.{Bool, true, false, cond, is_some, option_map, ◌≢◌, ◌-◌, map as list_map, reverse, slice_get, slice_index_or}
 use Rattle.std.specs.FinMap as map
 use mathlib.Core.List.{reverse_aux}
 use Rattle.std.proofs.lemmas.List.{take_all}
 use Rattle.std.proofs.lemmas.Grind.{reverse_onto}
-use Rattle.ang_kinds.specs.declared.fault.Fault.{Fault}
-use Rattle.ang_kinds.specs.declared.fault.Fault.TheVariants.{Null, Budget, Depth, Memory, Unbound}
+use Rattle.ang_kinds.specs.declared.fault.Fault.TheVariants.{Null, Budget, Depth, Memory}
 use Rattle.ang_typed.specs.declared.expression.TypedCallee.{TypedCallee}
 use Rattle.ang_typed.specs.declared.expression.TypedCallee.TheVariants as callee
 use Rattle.ang_typed.specs.declared.expression.TypedVariable.TheVariants as variable
@@ -14,7 +13,6 @@ use Rattle.ang_typed.specs.declared.program.Heading.{Heading}
 use Rattle.ang_typed.specs.declared.program.TypedParameter.{TypedParameter}
 use Rattle.ang_typed.specs.Typed as t
 use Rattle.ang_meaning.specs.declared.routine.Routine.{Routine}
-use Rattle.ang_meaning.specs.declared.routine.Callee.{Callee}
 use Rattle.ang_meaning.specs.declared.routine.Passing.{Passing}
 use Rattle.ang_meaning.specs.declared.routine.Passing.TheVariants.{In, Out, Object}
 use Rattle.ang_meaning.specs.declared.slot.Slot.{Slot}
@@ -22,24 +20,24 @@ use Rattle.ang_meaning.specs.declared.slot.Slot.TheVariants.{Bits, Script, Host}
 use Rattle.ang_meaning.specs.World.{World, ScriptRecord, Tried, Yes, No, memory_step, or_else, give, give_all}
 use Rattle.ang_meaning.specs.Environment.{Environment, Found, Enters, Misses, bound, has_objects, params_in, params_of, receiver_in, method_of, virtual_of, target}
 use Rattle.ang_meaning.specs.Bodies.{Callees}
-use Rattle.ang_meaning.specs.Results.{Ran, Went, Returned, Halted, Broken, Continued, Reply, Yields, Raises, Calls, give_some, drop_some, outs_of, give_others, yielded, finished, may_nest, ticked, entered, found_entered, enter}
-use Rattle.ang_meaning.specs.Counting.{Thing, names, how_many, IsCounted}
+use Rattle.ang_meaning.specs.Results.{Ran, Went, Returned, Halted, Broken, Continued, Reply, Yields, Raises, Calls, give_some, drop_some, outs_of, give_others, yielded, finished, may_nest, entered, found_entered, enter}
+use Rattle.ang_meaning.specs.Counting.{Thing, names, how_many}
 use Rattle.ang_meaning.proofs.Counting.{HasObject, many_append, bits_name_none}
 use Rattle.ang_meaning.proofs.Counted.{TriedCounted, counted_as, counted_there, memory_counted}
-use Rattle.ang_source.specs.Meaning.{Passes, Code, of_function, of_global, Codes, codes_of, code_or, passing_of, passings_of, passings_in, initializers_from, heading_among, routine, callee_of, stored, discarded, evaluate, run_code, body_at, pass_at, begun, called_with, initialized, initialized_all}
-use Rattle.ang_source_typed.specs.Types.{SlotType, Number, Key, Family, Modules, IsUnder, HasType, AllTyped, IsTypedObject, IsGood, slot_type, global_types}
+use Rattle.ang_source.specs.Meaning.{Passes, Code, of_function, of_global, codes_of, code_or, passing_of, passings_of, initializers_from, routine, callee_of, stored, evaluate, run_code, body_at, pass_at, begun, called_with}
+use Rattle.ang_source_typed.specs.Types.{SlotType, Number, Key, Family, Modules, IsUnder, HasType, AllTyped, IsGood, global_types}
 use Rattle.ang_source_typed.specs.TypedProgram.{Parameter, Signature, types_of, passings_among, parameter_of, AreClasses, HasSignature, IsSignature, IsConstructorSignature, constructor_signature, IsImport, IsMethod, IsCallee, Types, TypesOption, TypesEach, TypesStatements, TypesBody}
 use Rattle.ang_source_typed.specs.Paths.{some_ends, some_breaks}
-use Rattle.ang_source_typed.specs.Runs.{HasTree, IsTypedSetting, sources, IsInitializer, out_by, out_types, initializer_signature, IsGoodReply, CallsMeetNoMisfit}
+use Rattle.ang_source_typed.specs.Runs.{IsTypedSetting, sources, out_by, out_types, initializer_signature, IsGoodReply, CallsMeetNoMisfit}
 use Rattle.ang_source_typed.specs.Misfits.{Misfit, has_method_at, has_method, finds}
 use Rattle.ang_source_typed.specs.Misfits as guarded
-use Rattle.ang_source_typed.proofs.Values.{TriedLeads, memory_leads, moves_of, typed_at, typed_length}
+use Rattle.ang_source_typed.proofs.Values.{TriedLeads, memory_leads, moves_of, typed_length}
 use Rattle.ang_source_typed.proofs.Operations.{here_at}
-use Rattle.ang_source_typed.proofs.Ends.{Good, At, IsGoodEnd, guard_passes, moved_good, give_good, push_number}
+use Rattle.ang_source_typed.proofs.Ends.{Good, At, guard_passes, moved_good, give_good, push_number}
 use Rattle.ang_source_typed.proofs.Targets.{IsGoodCall}
 use Rattle.ang_source_typed.proofs.Variables.{stored_good}
 use Rattle.ang_source_typed.proofs.Expressions.{CallsAreGood, typed_good}
-use Rattle.ang_source_typed.proofs.Statements.{IsGoodRun, BothRun, RunsWell, PassesAreGood, pop_good, dropped_good, value_good, endless, body_block_good, pass_good}
+use Rattle.ang_source_typed.proofs.Statements.{IsGoodRun, RunsWell, PassesAreGood, pop_good, dropped_good, value_good, endless, body_block_good, pass_good}
 
 -- ---- a body's end
 

@@ -1,8 +1,8 @@
 -- How the parts of a script end whose places are all typed, one lemma for each construct.
-use Rattle.std.proofs.Common.{◌≡◌, ℕ, zero, suc, ◌+◌, ◌<◌, ◌≤◌, List, [], ◌∷◌, ◌++◌, length, Option, Some, None, refl, sym, ap, ◌∙◌, subst, unwrap_or, arith}
+use Rattle.std.proofs.Common.{◌≡◌, ℕ, zero, suc, ◌<◌, ◌≤◌, List, [], ◌∷◌, ◌++◌, length, Some, refl, sym, ap, ◌∙◌, subst, unwrap_or, arith}
 use Rattle.std.specs.Prelude.{Bool, true, false, ◌&&◌, slice_get}
 use Rattle.ang_kinds.specs.declared.fault.Fault.{Fault}
-use Rattle.ang_kinds.specs.declared.fault.Fault.TheVariants.{Null, Tally}
+use Rattle.ang_kinds.specs.declared.fault.Fault.TheVariants.{Tally}
 use Rattle.ang_meaning.specs.declared.slot.Slot.{Slot}
 use Rattle.ang_meaning.specs.declared.slot.Slot.TheVariants.{Bits, Script, Host}
 use Rattle.ang_meaning.specs.declared.operation.Operation.{Operation}
@@ -13,7 +13,7 @@ use Rattle.ang_meaning.specs.Environment.{Environment}
 use Rattle.ang_meaning.specs.Hosts.{Done, Fine, Fails}
 use Rattle.ang_meaning.specs.Perform.{perform, change_of}
 use Rattle.ang_meaning.specs.Results.{Evaluated, Gave, Failed, Gathered, Ready, Broke, local_at, local_set, loaded, performed, applied, assigned, altered, altered_by, chosen, then_rest}
-use Rattle.ang_meaning.specs.Counting.{Thing, names, how_many, IsCounted}
+use Rattle.ang_meaning.specs.Counting.{Thing, names, IsCounted}
 use Rattle.ang_meaning.proofs.Counting.{many_append, bits_name_none}
 use Rattle.ang_meaning.proofs.Counted.{TriedCounted, counted_as, counted_there, give_counted, hold_counted, first_there, store_places, names_at}
 use Rattle.ang_meaning.proofs.Operating.{DoneCounted, perform_counted}
@@ -22,7 +22,7 @@ use Rattle.ang_source_typed.specs.Types.{SlotType, Number, Modules, Owners, IsA,
 use Rattle.ang_source_typed.specs.TypedProgram.{AreClasses}
 use Rattle.ang_source_typed.specs.Misfits.{Misfit, AsMeant, Faulting, unless_misfit, is_number, fits}
 use Rattle.ang_source_typed.specs.Misfits as guarded
-use Rattle.ang_source_typed.proofs.Values.{Leads, TriedLeads, kinds_kept, leads_then, give_leads, hold_leads, still, all_still, leads_world, Moves, moves_of, DoneTyped, leads_type, is_a, typed_at, typed_length, both_typed, split_typed}
+use Rattle.ang_source_typed.proofs.Values.{TriedLeads, leads_then, give_leads, hold_leads, all_still, Moves, moves_of, DoneTyped, is_a, both_typed, split_typed}
 use Rattle.ang_source_typed.proofs.Operations.{DoesWell, both_true, number_fits}
 
 pub guard_passes : {A : Type 0} (y : Misfit) (b : Bool) (go : A) (bad : Fault → A) → b ≡ true → unless_misfit y b go bad ≡ go

@@ -1,8 +1,6 @@
 -- A typed expression gives a value of its type, leaves all places typed, and is the same whatever a misfit does.
-use Rattle.std.proofs.Common.{◌≡◌, ℕ, zero, suc, ◌+◌, List, [], ◌∷◌, ◌++◌, length, Option, Some, None, refl, sym, ap, ◌∙◌, subst, arith}
-use Rattle.std.specs.Prelude.{Bool, true, false, ◌≢◌, ◌-◌, slice_get}
-use Rattle.ang_types.specs.declared.arg_type.ArgType.{ArgType}
-use Rattle.ang_types.specs.declared.arg_type.ArgType.TheVariants as type
+use Rattle.std.proofs.Common.{◌≡◌, ℕ, suc, List, [], ◌∷◌, ◌++◌, length, Some, None, refl, sym, ap, ◌∙◌, subst, arith}
+use Rattle.std.specs.Prelude.{true, false, ◌≢◌}
 use Rattle.ang_typed.specs.declared.expression.TypedCallee.{TypedCallee}
 use Rattle.ang_typed.specs.declared.expression.TypedCallee.TheVariants as callee
 use Rattle.ang_typed.specs.declared.expression.TypedVariable.{TypedVariable}
@@ -10,34 +8,32 @@ use Rattle.ang_typed.specs.declared.expression.TypedVariable.TheVariants as vari
 use Rattle.ang_typed.specs.Typed as t
 use Rattle.ang_meaning.specs.declared.class.ValueKind.{ValueKind}
 use Rattle.ang_meaning.specs.declared.class.ValueKind.TheVariants as holds_a
-use Rattle.ang_meaning.specs.declared.host.HostUse.{HostUse}
 use Rattle.ang_meaning.specs.declared.slot.Slot.{Slot}
-use Rattle.ang_meaning.specs.declared.slot.Slot.TheVariants.{Bits, Script, Host}
+use Rattle.ang_meaning.specs.declared.slot.Slot.TheVariants.{Bits, Script}
 use Rattle.ang_meaning.specs.declared.operation.Operation.TheVariants.{Binary, Compare, Convert, Negate, Complement, Not, Same, Ask, Make, Cast}
-use Rattle.ang_meaning.specs.declared.routine.Callee.{Callee}
 use Rattle.ang_meaning.specs.declared.routine.Callee.TheVariants.{Own}
 use Rattle.ang_meaning.specs.declared.routine.Passing.{Passing}
 use Rattle.ang_meaning.specs.declared.routine.Passing.TheVariants.{In, Out, Object}
 use Rattle.ang_meaning.specs.declared.routine.Target.{Target}
 use Rattle.ang_meaning.specs.Numbers.{truth, is_signed}
-use Rattle.ang_meaning.specs.World.{World, ScriptObjects, give_all}
+use Rattle.ang_meaning.specs.World.{World, ScriptObjects}
 use Rattle.ang_meaning.specs.Environment.{Environment, host_in, use_at, default_of, may_call}
 use Rattle.ang_meaning.specs.Perform.{perform}
 use Rattle.ang_meaning.specs.Bodies.{Callees}
-use Rattle.ang_meaning.specs.Results.{Evaluated, Gave, Failed, Gathered, Ready, Broke, Reply, applied, chosen, then_rest, replied, called}
-use Rattle.ang_meaning.specs.Counting.{Thing, names, IsCounted}
+use Rattle.ang_meaning.specs.Results.{Evaluated, Gave, Failed, Gathered, Ready, Broke, applied, then_rest, called}
+use Rattle.ang_meaning.specs.Counting.{Thing, names}
 use Rattle.ang_meaning.proofs.Counting.{many_append, bits_name_none, null_names_none}
 use Rattle.ang_meaning.proofs.Counted.{counted_as}
-use Rattle.ang_source.specs.Meaning.{kind_of, default_in, callee_of, compound_of, step_of, inner, spot_of, targets_behind, targets_of, brought_to, evaluate, evaluate_all, evaluate_argument}
-use Rattle.ang_source_typed.specs.Types.{SlotType, Number, Key, Family, Modules, Owners, IsA, HasType, AllTyped, slot_type}
-use Rattle.ang_source_typed.specs.TypedProgram.{Parameter, Signature, types_of, AreClasses, HasSignature, IsCallee, IsHandle, host_params, result_by, IsVariable, IsTarget, Types, TypesAll, TypesArgument}
+use Rattle.ang_source.specs.Meaning.{kind_of, default_in, callee_of, compound_of, step_of, spot_of, targets_behind, targets_of, brought_to, evaluate, evaluate_all, evaluate_argument}
+use Rattle.ang_source_typed.specs.Types.{SlotType, Number, Key, Family, Modules, Owners, IsA, HasType}
+use Rattle.ang_source_typed.specs.TypedProgram.{Parameter, Signature, types_of, AreClasses, IsCallee, IsHandle, host_params, result_by, IsVariable, IsTarget, Types, TypesAll, TypesArgument}
 use Rattle.ang_source_typed.specs.Runs.{HasTree, out_by, out_types}
 use Rattle.ang_source_typed.specs.Misfits.{Misfit}
 use Rattle.ang_source_typed.specs.Misfits as guarded
 use Rattle.ang_source_typed.proofs.Values.{typed_length, both_typed, split_typed}
 use Rattle.ang_source_typed.proofs.Operations.{DoesWell, converts, negates, complements, denies, operates, compares, same, casts}
 use Rattle.ang_source_typed.proofs.HostCalls.{asks}
-use Rattle.ang_source_typed.proofs.Ends.{Good, At, IsGoodEnd, IsGoodAll, GoesWell, Go, applied_good, chosen_good, subsumed, push_number, give_all_good}
+use Rattle.ang_source_typed.proofs.Ends.{Good, At, IsGoodEnd, IsGoodAll, Go, applied_good, chosen_good, subsumed, push_number, give_all_good}
 use Rattle.ang_source_typed.proofs.Making.{default_typed, make_good}
 use Rattle.ang_source_typed.proofs.Targets.{IsGoodCall, IsSpot, IsTargets, replied_good}
 use Rattle.ang_source_typed.proofs.Variables.{Both, placed, one_op, two_op, read_good, stored_good, changed_good, member_read_good, member_stored_good, member_changed_good}

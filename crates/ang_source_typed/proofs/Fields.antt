@@ -1,31 +1,31 @@
 -- Fields of objects are read, written and changed: they have the types of their families' fields, and take what has such a type.
-use Rattle.std.proofs.Common.{◌≡◌, ℕ, zero, suc, ◌<◌, List, [], ◌∷◌, ◌++◌, length, Option, Some, None, refl, sym, ap, ◌∙◌, subst, unwrap_or, arith}
-use Rattle.std.specs.Prelude.{Bool, true, false, cond, ◌&&◌, nat_eq, nat_lt, map as list_map, slice_get, slice_set, slice_index_or, if◌then◌else◌}
+use Rattle.std.proofs.Common.{◌≡◌, ℕ, zero, suc, List, [], ◌∷◌, ◌++◌, length, Some, None, refl, sym, ap, ◌∙◌, subst, unwrap_or, arith}
+use Rattle.std.specs.Prelude.{Bool, true, false, cond, ◌&&◌, nat_eq, nat_lt, map as list_map, slice_get, slice_set, slice_index_or}
 use Rattle.std.specs.FinMap as map
 use Rattle.std.proofs.lemmas.Bool.{lt-ltb, eqb-true}
 use Rattle.ang_kinds.specs.declared.fault.Fault.TheVariants.{Null, Tally}
 use Rattle.ang_types.specs.declared.arg_type.ArgType.{ArgType}
 use Rattle.ang_types.specs.declared.arg_type.ArgType.TheVariants as type
-use Rattle.ang_view.specs.Registration.{RegistrationList, entry_at}
+use Rattle.ang_view.specs.Registration.{RegistrationList}
 use Rattle.ang_meaning.specs.declared.slot.Slot.{Slot}
 use Rattle.ang_meaning.specs.declared.slot.Slot.TheVariants.{Bits, Script, Host}
 use Rattle.ang_meaning.specs.declared.operation.Operation.TheVariants.{FieldGet, FieldSet, FieldChange}
 use Rattle.ang_meaning.specs.declared.operation.Update.{Update}
 use Rattle.ang_meaning.specs.Numbers.{Changed, Into, Never}
-use Rattle.ang_meaning.specs.World.{World, ScriptRecord, ScriptObjects, Tried, Yes, No, or_else, hold, give, give_all}
+use Rattle.ang_meaning.specs.World.{World, ScriptRecord, ScriptObjects, Tried, Yes, No, or_else, hold, give}
 use Rattle.ang_meaning.specs.Environment.{Environment, class_in, is_fit}
-use Rattle.ang_meaning.specs.Hosts.{Done, Fine, Fails}
+use Rattle.ang_meaning.specs.Hosts.{Fails}
 use Rattle.ang_meaning.specs.Perform.{perform, change_of, field_of, field_or, field_put, with_field, is_lower, may_take, stored_field, changed_field, gives_up}
 use Rattle.ang_meaning.specs.Results.{local_at}
 use Rattle.ang_meaning.specs.Counting.{IsCounted}
-use Rattle.ang_meaning.proofs.Counted.{TriedCounted, first_there, counted_as, hold_counted}
+use Rattle.ang_meaning.proofs.Counted.{TriedCounted, first_there, hold_counted}
 use Rattle.ang_meaning.proofs.Tables.{get_inserted}
 use Rattle.ang_source.specs.Meaning.{fields_by}
-use Rattle.ang_source_typed.specs.Types.{SlotType, Number, Key, Family, Modules, Owners, IsUnder, HasType, AllTyped, IsTypedObject, IsTypedWorld, driver_of, object_type, slot_type, first_family, field_types, global_types}
+use Rattle.ang_source_typed.specs.Types.{SlotType, Number, Key, Family, Modules, Owners, IsUnder, HasType, AllTyped, IsTypedObject, IsTypedWorld, slot_type, first_family, field_types, global_types}
 use Rattle.ang_source_typed.specs.TypedProgram.{AreClasses}
-use Rattle.ang_source_typed.specs.Misfits.{is_number, has_field, field_may_hold, field_in, fields_in, fits}
-use Rattle.ang_source_typed.proofs.Values.{Earlier, SameKinds, kinds_then, kinds_kept, Leads, TriedLeads, leads_same, give_leads, hold_leads, still, all_still, leads_world, Moves, moves_of, DoneTyped, DoneLeads, done_of, leads_type, holding_leads, gives_up_leads, typed_at, typed_within, typed_put}
-use Rattle.ang_source_typed.proofs.Operations.{DoesWell, both_true, number_fits, here, second_counted, moves_then, give_after, lead_then, local_number}
+use Rattle.ang_source_typed.specs.Misfits.{is_number, fields_in, fits}
+use Rattle.ang_source_typed.proofs.Values.{Earlier, SameKinds, TriedLeads, leads_same, hold_leads, still, all_still, leads_world, Moves, moves_of, DoneTyped, done_of, leads_type, holding_leads, gives_up_leads, typed_at, typed_within, typed_put}
+use Rattle.ang_source_typed.proofs.Operations.{DoesWell, both_true, number_fits, here, second_counted, give_after, lead_then, local_number}
 
 -- ---- the families that a module's types name are its own
 

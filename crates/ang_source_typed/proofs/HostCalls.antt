@@ -1,6 +1,6 @@
 -- Calls of the host and its properties: what is handed on is of the declared types, and what comes back is.
-use Rattle.std.proofs.Common.{◌≡◌, ℕ, zero, suc, List, [], ◌∷◌, ◌++◌, length, Option, Some, None, refl, sym, ap, ◌∙◌, subst, arith}
-use Rattle.std.specs.Prelude.{Bool, true, false, cond, ◌&&◌, nat_eq, map as list_map, reverse}
+use Rattle.std.proofs.Common.{◌≡◌, ℕ, List, [], ◌∷◌, ◌++◌, Option, Some, None, refl, sym, ap, ◌∙◌, subst}
+use Rattle.std.specs.Prelude.{Bool, true, false, ◌&&◌, map as list_map, reverse}
 use mathlib.Core.List.{reverse_aux}
 use Rattle.std.proofs.lemmas.List.{reverse-reverse}
 use Rattle.std.proofs.lemmas.Bool.{eq-eqb}
@@ -12,19 +12,18 @@ use Rattle.ang_meaning.specs.declared.slot.Slot.TheVariants.{Bits, Script, Host}
 use Rattle.ang_meaning.specs.declared.host.HostValueType.{HostValueType}
 use Rattle.ang_meaning.specs.declared.host.HostValueType.TheVariants.{Nothing, Plain, Handle}
 use Rattle.ang_meaning.specs.declared.host.HostUse.{HostUse}
-use Rattle.ang_meaning.specs.declared.operation.Operation.{Operation}
 use Rattle.ang_meaning.specs.declared.operation.Operation.TheVariants.{Ask, Read, Write, Alter}
 use Rattle.ang_meaning.specs.declared.operation.Update.{Update}
 use Rattle.ang_meaning.specs.Numbers.{Changed, Into, Never}
-use Rattle.ang_meaning.specs.World.{World, ScriptObjects, give}
+use Rattle.ang_meaning.specs.World.{World, ScriptObjects}
 use Rattle.ang_meaning.specs.Environment.{Environment, host_in, is_property, is_fit, may_call, may_access, may_write, use_at}
 use Rattle.ang_meaning.specs.Hosts.{Done, Fine, Fails}
 use Rattle.ang_meaning.specs.Perform.{perform, change_of, Receiver, NoReceiver, Of, NullReceiver, receiver_of, arguments_of, called_of, read_of, write_of, altered_to, altered_of, gives_up, in_place_of}
 use Rattle.ang_meaning.specs.Counting.{IsCounted}
-use Rattle.ang_source_typed.specs.Types.{SlotType, Number, Key, Family, Modules, Owners, HasType, AllTyped, IsTypedWorld}
+use Rattle.ang_source_typed.specs.Types.{SlotType, Number, Key, Modules, Owners, HasType, AllTyped, IsTypedWorld}
 use Rattle.ang_source_typed.specs.TypedProgram.{Parameter, types_of, by_value, host_type, receiver_params, host_params, result_by}
-use Rattle.ang_source_typed.specs.Misfits.{is_number, is_number_type, is_of_driver, is_of_host, are_of_host, with_receiver, fits}
-use Rattle.ang_source_typed.proofs.Values.{Leads, leads_same, leads_then, give_leads, DoneTyped, DoneLeads, done_of, later_leads, leads_type, gives_up_leads, in_place_leads, asked_leads}
+use Rattle.ang_source_typed.specs.Misfits.{is_number_type, is_of_driver, is_of_host, are_of_host, with_receiver, fits}
+use Rattle.ang_source_typed.proofs.Values.{leads_same, give_leads, DoneTyped, DoneLeads, done_of, later_leads, gives_up_leads, in_place_leads, asked_leads}
 use Rattle.ang_source_typed.proofs.Operations.{DoesWell, both_true, number_fits}
 
 module _ (z : Environment) (ms : Modules) (own : Owners) where

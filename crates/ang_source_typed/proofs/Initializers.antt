@@ -1,5 +1,5 @@
 -- The initializers of typed programs, one after the other, meet no misfit.
-use Rattle.std.proofs.Common.{◌≡◌, ℕ, zero, suc, ◌+◌, ◌≤◌, List, [], ◌∷◌, ◌++◌, length, Option, Some, None, refl, sym, ap, ◌∙◌, subst, arith, unwrap_or}
+use Rattle.std.proofs.Common.{◌≡◌, ℕ, zero, suc, ◌+◌, List, [], ◌∷◌, ◌++◌, Option, Some, None, refl, sym, ap, ◌∙◌, subst, arith, unwrap_or}
 use Rattle.std.specs.Prelude.{map as list_map, slice_get}
 use Rattle.ang_typed.specs.Typed as t
 use Rattle.ang_meaning.specs.declared.routine.Routine.{Routine}
@@ -9,18 +9,17 @@ use Rattle.ang_meaning.specs.World.{World, give}
 use Rattle.ang_meaning.specs.Environment.{Environment}
 use Rattle.ang_meaning.specs.Bodies.{then_initialized}
 use Rattle.ang_meaning.specs.Results.{Reply, Yields, Raises}
-use Rattle.ang_meaning.specs.Counting.{IsCounted}
 use Rattle.ang_meaning.proofs.Counting.{bits_name_none}
 use Rattle.ang_meaning.proofs.Counted.{counted_as}
-use Rattle.ang_source.specs.Meaning.{Code, of_function, of_global, codes_of, code_or, passings_of, passings_in, initializer_of, initializers_from, initialized, initialized_all}
-use Rattle.ang_source_typed.specs.Types.{SlotType, Number, Modules, IsGood, slot_type, global_types}
+use Rattle.ang_source.specs.Meaning.{Code, of_function, of_global, code_or, passings_of, initializer_of, initializers_from, initialized, initialized_all}
+use Rattle.ang_source_typed.specs.Types.{Number, Modules, IsGood, slot_type, global_types}
 use Rattle.ang_source_typed.specs.TypedProgram.{Types, TypesOption}
-use Rattle.ang_source_typed.specs.Runs.{HasTree, IsTypedSetting, sources, IsInitializer, AreInitializers, initializer_signature, IsGoodReply, InitializersMeetNoMisfit}
+use Rattle.ang_source_typed.specs.Runs.{IsTypedSetting, sources, IsInitializer, AreInitializers, initializer_signature, IsGoodReply, InitializersMeetNoMisfit}
 use Rattle.ang_source_typed.specs.Misfits.{Misfit}
 use Rattle.ang_source_typed.specs.Misfits as guarded
 use Rattle.ang_source_typed.proofs.Ends.{Good, give_good}
 use Rattle.ang_source_typed.proofs.Targets.{IsGoodCall}
-use Rattle.ang_source_typed.proofs.Bodies.{get_front, get_map, HasBody, TypedCode, begun_good, start_good}
+use Rattle.ang_source_typed.proofs.Bodies.{get_map, HasBody, TypedCode, begun_good, start_good}
 
 -- ---- where an initializer stands
 

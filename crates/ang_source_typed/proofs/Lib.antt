@@ -11,3 +11,4 @@ pub mod Expressions
 pub mod Statements
 pub mod Bodies
 pub mod Initializers
+pub mod Worked

@@ -1,10 +1,9 @@
 -- A new object is typed, and so is all that was: no place held its number before, so its owner may be another one now.
-use Rattle.std.proofs.Common.{◌≡◌, ℕ, zero, suc, ◌+◌, ◌≤◌, List, [], ◌∷◌, ◌++◌, length, Option, Some, None, refl, sym, ap, ◌∙◌, subst, unwrap_or, arith}
+use Rattle.std.proofs.Common.{◌≡◌, ℕ, zero, suc, ◌≤◌, List, [], ◌∷◌, ◌++◌, length, Option, Some, None, refl, sym, ap, ◌∙◌, subst, unwrap_or, arith}
 use Rattle.std.specs.Prelude.{Bool, true, false, cond, option_map, is_some, nat_eq, nat_lt, map as list_map, slice_get, slice_index_or}
 use Rattle.std.specs.List.{list_any}
 use Rattle.std.specs.FinMap as map
 use Rattle.std.proofs.lemmas.Bool.{eqb-true, eq-eqb}
-use Rattle.ang_kinds.specs.declared.fault.Fault.{Fault}
 use Rattle.ang_kinds.specs.declared.fault.Fault.TheVariants.{Memory}
 use Rattle.ang_types.specs.declared.arg_type.ArgType.{ArgType}
 use Rattle.ang_types.specs.declared.arg_type.ArgType.TheVariants as type
@@ -14,17 +13,17 @@ use Rattle.ang_meaning.specs.declared.class.Class.{Class}
 use Rattle.ang_meaning.specs.declared.slot.Slot.{Slot}
 use Rattle.ang_meaning.specs.declared.slot.Slot.TheVariants.{Bits, Script, Host}
 use Rattle.ang_meaning.specs.declared.operation.Operation.TheVariants.{Make}
-use Rattle.ang_meaning.specs.World.{World, ScriptRecord, ScriptObjects, Input, Room, Said, Tallied, Fresh, Tried, Yes, No, memory_step, or_else, give_all}
-use Rattle.ang_meaning.specs.Environment.{Environment, class_in, class_at, default_of, is_fit}
-use Rattle.ang_meaning.specs.Hosts.{Done, Fine, Fails}
+use Rattle.ang_meaning.specs.World.{World, ScriptRecord, ScriptObjects, Input, Room, Said, Tallied, Fresh, Tried, Yes, No, memory_step, or_else}
+use Rattle.ang_meaning.specs.Environment.{Environment, class_in, class_at, default_of}
+use Rattle.ang_meaning.specs.Hosts.{Fails}
 use Rattle.ang_meaning.specs.Perform.{perform, new_object, number_for, made_from}
-use Rattle.ang_meaning.specs.Results.{Evaluated, Gave, Failed, Ready, performed, applied}
-use Rattle.ang_meaning.specs.Counting.{Thing, NumberOf, names, how_many, in_lists, in_fields, count_of_object, count_in, IsCounted}
+use Rattle.ang_meaning.specs.Results.{Gave, Ready, performed, applied}
+use Rattle.ang_meaning.specs.Counting.{Thing, NumberOf, names, how_many, in_lists, count_of_object, count_in}
 use Rattle.ang_meaning.proofs.Counting.{many_append}
 use Rattle.ang_meaning.proofs.Counted.{TriedCounted, memory_counted, new_counted}
 use Rattle.ang_meaning.proofs.Tables.{get_inserted, number_free, sum-bound}
 use Rattle.ang_source.specs.Meaning.{kind_of, default_in, fields_by, class_of, class_among}
-use Rattle.ang_source_typed.specs.Types.{SlotType, Number, Key, Family, Modules, Owners, IsUnder, HasType, AllTyped, IsTypedObject, IsTypedWorld, slot_type, first_family, field_types, global_types}
+use Rattle.ang_source_typed.specs.Types.{SlotType, Number, Key, Family, Modules, Owners, IsUnder, HasType, AllTyped, IsTypedObject, slot_type, first_family, field_types, global_types}
 use Rattle.ang_source_typed.specs.TypedProgram.{AreClasses}
 use Rattle.ang_source_typed.specs.Runs.{HasTree}
 use Rattle.ang_source_typed.specs.Misfits.{Misfit, fits}

@@ -1,29 +1,26 @@
 -- Each operation on operands of its types meets no misfit, gives a value of its type, and leaves all places typed.
-use Rattle.std.proofs.Common.{◌≡◌, ℕ, zero, suc, ◌<◌, List, [], ◌∷◌, ◌++◌, length, Option, Some, None, refl, sym, ap, ◌∙◌, subst, unwrap_or, arith}
-use Rattle.std.specs.Prelude.{Bool, true, false, cond, ◌&&◌, nat_eq, nat_lt, slice_get, slice_set, slice_index_or, if◌then◌else◌}
+use Rattle.std.proofs.Common.{◌≡◌, ℕ, zero, suc, ◌<◌, List, [], ◌∷◌, ◌++◌, length, Option, Some, None, refl, sym, subst, arith}
+use Rattle.std.specs.Prelude.{Bool, true, false, ◌&&◌, slice_get, slice_set, slice_index_or}
 use Rattle.std.specs.FinMap as map
-use Rattle.std.proofs.lemmas.Bool.{lt-ltb, eqb-true, eq-eqb}
-use Rattle.ang_kinds.specs.declared.fault.Fault.{Fault}
-use Rattle.ang_kinds.specs.declared.fault.Fault.TheVariants.{Null, Tally}
+use Rattle.std.proofs.lemmas.Bool.{lt-ltb}
+use Rattle.ang_kinds.specs.declared.fault.Fault.TheVariants.{Tally}
 use Rattle.ang_meaning.specs.declared.slot.Slot.{Slot}
 use Rattle.ang_meaning.specs.declared.slot.Slot.TheVariants.{Bits, Script, Host}
 use Rattle.ang_meaning.specs.declared.operation.Operation.{Operation}
-use Rattle.ang_meaning.specs.declared.operation.Operation.TheVariants.{Binary, Compare, Convert, Negate, Complement, Not, Same, GlobalGet, GlobalSet, GlobalChange, FieldGet, FieldSet, FieldChange, Cast}
+use Rattle.ang_meaning.specs.declared.operation.Operation.TheVariants.{Binary, Compare, Convert, Negate, Complement, Not, Same, GlobalGet, GlobalSet, GlobalChange, Cast}
 use Rattle.ang_meaning.specs.declared.operation.Update.{Update}
-use Rattle.ang_meaning.specs.Numbers.{Worked, Is, Cannot, Changed, Into, Never, binary_result, holds_of, truth}
-use Rattle.ang_meaning.specs.World.{World, ScriptRecord, ScriptObjects, Tried, Yes, No, or_else, hold, give, give_all}
-use Rattle.ang_meaning.specs.Environment.{Environment, class_in, is_fit}
-use Rattle.ang_meaning.specs.Hosts.{Done, Fine, Fails}
-use Rattle.ang_meaning.specs.Perform.{perform, work_done, change_of, is_same, globals_of, global_or, global_put, stored_global, changed_global, field_of, field_or, field_put, with_field, is_lower, may_take, stored_field, changed_field, gives_up, is_under, cast_to}
+use Rattle.ang_meaning.specs.Numbers.{Worked, Is, Cannot, Changed, Into, Never, binary_result}
+use Rattle.ang_meaning.specs.World.{World, ScriptRecord, ScriptObjects, Tried, Yes, No, or_else, hold, give}
+use Rattle.ang_meaning.specs.Environment.{Environment, is_fit}
+use Rattle.ang_meaning.specs.Hosts.{Fine, Fails}
+use Rattle.ang_meaning.specs.Perform.{perform, work_done, change_of, globals_of, global_or, global_put, stored_global, changed_global, is_under, cast_to}
 use Rattle.ang_meaning.specs.Results.{local_at}
 use Rattle.ang_meaning.specs.Counting.{count_of_object, IsCounted}
 use Rattle.ang_meaning.proofs.Counted.{first_there, counted_as}
-use Rattle.ang_meaning.proofs.Counting.{many_append}
-use Rattle.ang_meaning.proofs.Tables.{get_inserted}
-use Rattle.ang_source_typed.specs.Types.{SlotType, Number, Key, Family, Modules, Owners, IsUnder, IsA, HasType, AllTyped, IsTypedObject, IsTypedWorld, field_types, global_types}
-use Rattle.ang_source_typed.specs.TypedProgram.{AreClasses, IsHandle}
-use Rattle.ang_source_typed.specs.Misfits.{is_number, is_handle, is_script, has_field, field_may_hold, field_in, fields_in, has_global, fits}
-use Rattle.ang_source_typed.proofs.Values.{Earlier, SameKinds, kinds_same, kinds_then, kinds_kept, Leads, TriedLeads, leads_same, leads_then, give_leads, give_all_leads, hold_leads, still, all_still, leads_world, Moves, moves_of, DoneTyped, DoneLeads, done_of, leads_type, holding_leads, gives_up_leads, typed_at, typed_within, typed_put}
+use Rattle.ang_source_typed.specs.Types.{SlotType, Number, Key, Family, Modules, Owners, HasType, AllTyped, IsTypedWorld, global_types}
+use Rattle.ang_source_typed.specs.TypedProgram.{IsHandle}
+use Rattle.ang_source_typed.specs.Misfits.{is_number, is_handle, has_global, fits}
+use Rattle.ang_source_typed.proofs.Values.{kinds_same, kinds_then, kinds_kept, Leads, TriedLeads, leads_same, leads_then, give_leads, hold_leads, still, leads_world, Moves, moves_of, DoneTyped, DoneLeads, done_of, leads_type, holding_leads, typed_at, typed_within, typed_put}
 
 pub both_true : (a b : Bool) → a ≡ true → b ≡ true → (a && b) ≡ true
 both_true a b h k = λ j. h j && k j

@@ -1,30 +1,25 @@
 -- A typed statement leaves all places typed however it ends, ends where each path of it ends, and is the same whatever a misfit does.
 use Rattle.std.proofs.Common.{◌≡◌, ℕ, zero, suc, ◌+◌, ◌≤◌, List, [], ◌∷◌, ◌++◌, length, Option, Some, None, refl, sym, ap, ◌∙◌, subst, arith}
-use Rattle.std.specs.Prelude.{Bool, true, false, not, ◌&&◌, ◌||◌, ◌≢◌, ◌-◌}
+use Rattle.std.specs.Prelude.{Bool, true, false, not, ◌&&◌, ◌||◌, ◌-◌}
 use Rattle.std.proofs.lemmas.List.{append_assoc}
-use Rattle.ang_kinds.specs.declared.fault.Fault.{Fault}
-use Rattle.ang_kinds.specs.declared.fault.Fault.TheVariants.{Budget}
 use Rattle.ang_types.specs.declared.arg_type.ArgType.{ArgType}
-use Rattle.ang_typed.specs.declared.program.TypedParameter.{TypedParameter}
 use Rattle.ang_typed.specs.Typed as t
 use Rattle.ang_meaning.specs.declared.slot.Slot.{Slot}
 use Rattle.ang_meaning.specs.declared.slot.Slot.TheVariants.{Bits, Script, Host}
-use Rattle.ang_meaning.specs.Numbers.{truth}
-use Rattle.ang_meaning.specs.World.{World, give, give_all}
+use Rattle.ang_meaning.specs.World.{World, give}
 use Rattle.ang_meaning.specs.Environment.{Environment}
 use Rattle.ang_meaning.specs.Bodies.{Callees}
-use Rattle.ang_meaning.specs.Results.{Evaluated, Gave, Failed, Ran, Went, Returned, Halted, Broken, Continued, give_some, drop_some, ticked, leave, with_value, then_run, caught}
-use Rattle.ang_meaning.specs.Counting.{IsCounted}
+use Rattle.ang_meaning.specs.Results.{Evaluated, Gave, Failed, Ran, Went, Returned, Halted, Broken, Continued, give_some, drop_some, leave, with_value, then_run, caught}
 use Rattle.ang_meaning.proofs.Counting.{many_append}
 use Rattle.ang_meaning.proofs.Counted.{counted_as, give_counted}
 use Rattle.ang_source.specs.Meaning.{Passes, default_in, begin_local, evaluate, evaluate_or, discarded, branched, run_locals, run_steps, in_block, tested, run, run_all, pass_of, kind_of}
-use Rattle.ang_source_typed.specs.Types.{SlotType, Number, Modules, HasType, slot_type}
+use Rattle.ang_source_typed.specs.Types.{SlotType, Number, Modules, slot_type}
 use Rattle.ang_source_typed.specs.TypedProgram.{AreClasses, Types, TypesOption, TypesEach, TypesLocals, TypesStatement, TypesStatements, with_locals, after, after_all}
 use Rattle.ang_source_typed.specs.Paths.{is_true, breaks, some_breaks, ends, some_ends}
 use Rattle.ang_source_typed.specs.Runs.{HasTree}
 use Rattle.ang_source_typed.specs.Misfits.{Misfit, is_number}
 use Rattle.ang_source_typed.specs.Misfits as guarded
-use Rattle.ang_source_typed.proofs.Values.{give_leads, all_still, moves_of, typed_length}
+use Rattle.ang_source_typed.proofs.Values.{give_leads, moves_of, typed_length}
 use Rattle.ang_source_typed.proofs.Ends.{Good, At, IsGoodEnd, guard_passes, moved_good, give_good, drop_number, push_number}
 use Rattle.ang_source_typed.proofs.Making.{default_typed}
 use Rattle.ang_source_typed.proofs.Variables.{Both}

@@ -1,9 +1,8 @@
 -- What `&out` parameters hold moves into variables that may hold it, and what these held before is given up.
-use Rattle.std.proofs.Common.{◌≡◌, ℕ, zero, suc, ◌+◌, ◌<◌, List, [], ◌∷◌, ◌++◌, length, Option, Some, None, refl, sym, ap, ◌∙◌, subst, arith}
-use Rattle.std.specs.Prelude.{Bool, true, false, cond, ◌&&◌, nat_lt, slice_get}
+use Rattle.std.proofs.Common.{◌≡◌, ℕ, suc, List, [], ◌∷◌, ◌++◌, length, Option, Some, None, refl, sym, ap, ◌∙◌, subst, arith}
+use Rattle.std.specs.Prelude.{Bool, true, false, cond, nat_lt, slice_get}
 use Rattle.std.specs.FinMap as map
 use Rattle.std.proofs.lemmas.Bool.{lt-ltb}
-use Rattle.ang_kinds.specs.declared.fault.Fault.{Fault}
 use Rattle.ang_kinds.specs.declared.primitive.Primitive.{Primitive}
 use Rattle.ang_meaning.specs.declared.slot.Slot.{Slot}
 use Rattle.ang_meaning.specs.declared.slot.Slot.TheVariants.{Bits, Script, Host}
@@ -13,19 +12,19 @@ use Rattle.ang_meaning.specs.declared.routine.Target.{Target}
 use Rattle.ang_meaning.specs.World.{World, ScriptRecord, ScriptObjects, give, give_all}
 use Rattle.ang_meaning.specs.Environment.{Environment}
 use Rattle.ang_meaning.specs.Perform.{globals_of, global_or, global_put, may_take, field_or, field_put, member_or, member_put}
-use Rattle.ang_meaning.specs.Results.{Evaluated, Gave, Failed, Reply, Yields, Raises, local_at, local_set, give_back, brought, trade, settled, replied}
+use Rattle.ang_meaning.specs.Results.{Failed, Reply, Yields, Raises, local_at, local_set, give_back, brought, trade, settled, replied}
 use Rattle.ang_meaning.specs.Counting.{Thing, names, IsCounted}
 use Rattle.ang_meaning.proofs.Counting.{HasObject, many_append, bits_name_none}
 use Rattle.ang_meaning.proofs.Counted.{counted_as, counted_there, names_at, store_places, put_counted, member_counted}
-use Rattle.ang_source_typed.specs.Types.{SlotType, Number, Key, Family, Modules, Owners, IsA, HasType, AllTyped, field_types, global_types}
+use Rattle.ang_source_typed.specs.Types.{SlotType, Number, Key, Family, Modules, Owners, IsA, HasType, field_types, global_types}
 use Rattle.ang_source_typed.specs.TypedProgram.{Signature, AreClasses}
 use Rattle.ang_source_typed.specs.Runs.{out_types}
 use Rattle.ang_source_typed.specs.Misfits.{Misfit, is_number, is_handle, is_alike, has_global, fields_in, field_may_hold, spot_takes, takes, all_take}
 use Rattle.ang_source_typed.specs.Misfits as guarded
-use Rattle.ang_source_typed.proofs.Values.{Moves, all_still, is_a, still, typed_length, both_typed, split_typed, typed_at}
+use Rattle.ang_source_typed.proofs.Values.{all_still, is_a, still, typed_length, both_typed, split_typed, typed_at}
 use Rattle.ang_source_typed.proofs.Operations.{both_true, here_at, global_there, global_typed, global_put_typed, local_index}
 use Rattle.ang_source_typed.proofs.Fields.{Held, held_at, has_it, field_typed, put_typed, takes as field_takes}
-use Rattle.ang_source_typed.proofs.Ends.{Good, At, IsGoodEnd, give_good, guard_passes, local_typed, local_put, local_within, top_counted, below_counted, front_counted}
+use Rattle.ang_source_typed.proofs.Ends.{Good, At, IsGoodEnd, give_good, guard_passes, local_typed, local_put, local_within, top_counted, below_counted}
 
 module _ (z : Environment) (ms : Modules) (T : ℕ) where
   -- a reply with typed values, above whatever is typed

@@ -1,5 +1,5 @@
 -- Variables and members are read, stored into and changed: what comes of it is typed, and the same whatever a misfit does.
-use Rattle.std.proofs.Common.{◌≡◌, ℕ, zero, suc, ◌+◌, List, [], ◌∷◌, ◌++◌, length, Option, Some, None, refl, sym, ap, ◌∙◌, subst, arith}
+use Rattle.std.proofs.Common.{◌≡◌, ℕ, suc, List, [], ◌∷◌, length, Some, refl, sym, ap, ◌∙◌, subst}
 use Rattle.std.specs.Prelude.{Bool, true, false, ◌-◌, slice_get}
 use Rattle.ang_typed.specs.declared.expression.HostEntity.{HostEntity}
 use Rattle.ang_typed.specs.declared.expression.TypedVariable.{TypedVariable}
@@ -14,7 +14,7 @@ use Rattle.ang_meaning.specs.declared.operation.Update.{Update}
 use Rattle.ang_meaning.specs.World.{World}
 use Rattle.ang_meaning.specs.Environment.{Environment, host_in, use_at, may_access, may_write}
 use Rattle.ang_meaning.specs.Perform.{perform}
-use Rattle.ang_meaning.specs.Results.{Evaluated, Ready, assigned, altered, applied}
+use Rattle.ang_meaning.specs.Results.{Evaluated, Ready, assigned, applied}
 use Rattle.ang_source.specs.Meaning.{inner, one, two, this_of, read_variable, read_member, stored, member_stored, changed_by, member_changed}
 use Rattle.ang_source_typed.specs.Types.{SlotType, Number, Key, Family, Modules}
 use Rattle.ang_source_typed.specs.TypedProgram.{AreClasses, host_type, IsProperty, IsVariable, IsMember, IsStored, IsStoredMember}
@@ -23,7 +23,7 @@ use Rattle.ang_source_typed.specs.Misfits as guarded
 use Rattle.ang_source_typed.proofs.Values.{typed_length}
 use Rattle.ang_source_typed.proofs.Operations.{DoesWell, gets_global, sets_global, changes_global}
 use Rattle.ang_source_typed.proofs.Fields.{gets_field, sets_field, changes_field}
-use Rattle.ang_source_typed.proofs.HostCalls.{property_types, reads, writes, alters}
+use Rattle.ang_source_typed.proofs.HostCalls.{reads, writes, alters}
 use Rattle.ang_source_typed.proofs.Ends.{At, IsGoodEnd, GoesWell, Go, applied_good, one_good, two_good, loaded_good, assigned_good, altered_good}
 
 -- the place of a local, by how many there are

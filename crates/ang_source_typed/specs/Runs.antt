@@ -1,5 +1,5 @@
 -- What is said of runs of typed programs (docs/CLAIMS.md, "What a script means").
-use Rattle.std.specs.Prelude.{◌≡◌, ℕ, List, [], ◌∷◌, Option, Some, None, slice_get}
+use Rattle.std.specs.Prelude.{◌≡◌, ℕ, List, [], ◌∷◌, Some, slice_get}
 use Rattle.ang_typed.specs.Typed as t
 use Rattle.ang_meaning.specs.declared.slot.Slot.{Slot}
 use Rattle.ang_meaning.specs.declared.routine.Routine.{Routine}
@@ -8,7 +8,7 @@ use Rattle.ang_meaning.specs.declared.routine.Passing.TheVariants.{In, Out, Obje
 use Rattle.ang_meaning.specs.World.{World}
 use Rattle.ang_meaning.specs.Environment.{Environment}
 use Rattle.ang_meaning.specs.Results.{Reply, Yields, Raises}
-use Rattle.ang_source.specs.Meaning.{Code, of_function, of_global, Codes, codes_of, code_or, passings_in, heading_among, class_among, routine, called_with, initialized, initialized_all}
+use Rattle.ang_source.specs.Meaning.{of_global, Codes, codes_of, code_or, passings_in, heading_among, class_among, routine, called_with, initialized_all}
 use Rattle.ang_source_typed.specs.Types.{SlotType, Number, Modules, IsGood}
 use Rattle.ang_source_typed.specs.TypedProgram.{Parameter, Signature, types_of, HasSignature, IsImport, TypedProgram}
 use Rattle.ang_source_typed.specs.Misfits.{Misfit, AsMeant}

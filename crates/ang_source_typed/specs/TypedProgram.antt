@@ -1,6 +1,6 @@
 -- What a typed program is (docs/CLAIMS.md, "What a script means"): each expression gives what is wanted where it stands, each class has what the families above
 -- it have, and each body ends as its function's result wants. A derived class's object stands for one of a family above without a node of its own.
-use Rattle.std.specs.Prelude.{◌≡◌, ◌≢◌, ◌-◌, ◌+◌, ◌<◌, ◌&&◌, ◌||◌, not, ℕ, suc, Bool, true, false, List, [], ◌∷◌, ◌++◌, length, map as list_map, reverse, Option, Some, None, slice_get}
+use Rattle.std.specs.Prelude.{◌≡◌, ◌≢◌, ◌-◌, ◌<◌, ℕ, suc, Bool, true, false, List, [], ◌∷◌, ◌++◌, length, map as list_map, reverse, Option, Some, None, slice_get}
 use Rattle.ang_typed.specs.declared.expression.HostEntity.{HostEntity}
 use Rattle.ang_typed.specs.declared.expression.TypedCallee.{TypedCallee}
 use Rattle.ang_typed.specs.declared.expression.TypedCallee.TheVariants as callee
@@ -18,11 +18,10 @@ use Rattle.ang_meaning.specs.declared.host.HostValueType.{HostValueType}
 use Rattle.ang_meaning.specs.declared.host.HostValueType.TheVariants.{Nothing, Plain, Handle}
 use Rattle.ang_meaning.specs.declared.host.HostUse.{HostUse}
 use Rattle.ang_meaning.specs.declared.routine.Passing.{Passing}
-use Rattle.ang_meaning.specs.declared.routine.Passing.TheVariants.{In, Out, Object}
-use Rattle.ang_meaning.specs.declared.routine.Routine.{Routine}
+use Rattle.ang_meaning.specs.declared.routine.Passing.TheVariants.{In, Out}
 use Rattle.ang_meaning.specs.Environment.{Environment, class_in, may_call, may_access, may_write}
-use Rattle.ang_source.specs.Meaning.{passing_of, passings_of, routine, passings_in, heading_among, class_among, method_among}
-use Rattle.ang_source_typed.specs.Types.{SlotType, Number, Key, Family, TypedModule, Modules, slot_type, field_types, global_types, IsUnder, IsA}
+use Rattle.ang_source.specs.Meaning.{passing_of, passings_of, routine}
+use Rattle.ang_source_typed.specs.Types.{SlotType, Number, Key, Family, Modules, slot_type, field_types, global_types, IsUnder, IsA}
 use Rattle.ang_source_typed.specs.Paths.{some_ends}
 
 -- ---- signatures

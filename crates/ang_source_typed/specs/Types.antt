@@ -1,5 +1,5 @@
 -- Types of the places of a run, and worlds whose places all have them (docs/CLAIMS.md, "What a script means").
-use Rattle.std.specs.Prelude.{◌≡◌, ◌-◌, ℕ, Bool, true, List, [], ◌∷◌, ◌++◌, length, map as list_map, nat_lt, nat_eq, Option, Some, None, if◌then◌else◌, slice_get, slice_index_or}
+use Rattle.std.specs.Prelude.{◌≡◌, ◌-◌, ℕ, Bool, true, List, [], ◌∷◌, length, map as list_map, nat_lt, nat_eq, Option, Some, None, if◌then◌else◌, slice_get, slice_index_or}
 use Rattle.std.specs.List.{list_any}
 use Rattle.std.specs.FinMap as map
 use Rattle.ang_types.specs.declared.arg_type.ArgType.{ArgType}
@@ -11,7 +11,6 @@ use Rattle.ang_meaning.specs.declared.slot.Slot.{Slot}
 use Rattle.ang_meaning.specs.declared.slot.Slot.TheVariants.{Bits, Script, Host}
 use Rattle.ang_meaning.specs.World.{World, ScriptRecord, ScriptObjects}
 use Rattle.ang_meaning.specs.Environment.{Environment, class_in}
-use Rattle.ang_meaning.specs.Perform.{is_under}
 use Rattle.ang_meaning.specs.Counting.{IsCounted}
 use Rattle.ang_source.specs.Meaning.{fields_by}
 
