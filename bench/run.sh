@@ -12,11 +12,11 @@ builds=${2:-5}
 folder=$(mktemp -d)
 trap 'rm -rf "$folder"' EXIT
 python3 bench/sections.py "$folder"
-cd crates/bench_build
+cd crates/bench_programs
 rt run > "$folder/built" 2>&1 || { cat "$folder/built" >&2; exit 1; }
 for section in "$folder"/*.as; do
     case $section in
-    */functions.as) out/bench_build "$section" "$turns" "$builds" ;;
-    *) out/bench_build "$section" "$turns" ;;
+    */functions.as) out/bench_programs build "$section" "$turns" "$builds" ;;
+    *) out/bench_programs build "$section" "$turns" ;;
     esac
 done

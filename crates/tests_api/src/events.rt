@@ -1,9 +1,5 @@
 //! Events as they are listed, and as they are read back from a log.
-ghost use Rattle.std.specs.Prelude.{length, ◌<◌, ◌≡◌};
-ghost use Rattle.ang_host.specs.Laws.{AreLive};
-ghost use Rattle.ang_host.specs.Members.{state_at, states_of};
-ghost use Rattle.ang_host.specs.Boxes.{members};
-
+use crate::drivers::are_bare;
 use ang_drivers::{Cell, Console};
 use ang_host::{
     Answer, Driver, Drivers, EventBuffer, EventLog, EventRef, HostReply, Made, call_listed,
@@ -12,17 +8,13 @@ use ang_host::{
 use ang_kinds::{EntityNo, Value};
 use std::alloc::{AllocError, Global};
 
+/// A call of a console: the module whose script asked, and the arguments.
+type Note = (&'static [u8], &'static [Value]);
+
 /// Asks the first driver, a console, to note these arguments.
-fn note(
-    drivers: &mut Drivers,
-    events: &mut EventBuffer,
-    caller: &[u8],
-    args: &[Value],
-) -> Result<(), AllocError>
-    requires live { AreLive
-        (state_at (states_of ⟦<dyn Driver as Driver>⟧ (members drivers.old)) 0) args.now }
-{
-    if drivers.len() == 0 {
+fn note(drivers: &mut Drivers, events: &mut EventBuffer, note: &Note) -> Result<(), AllocError> {
+    let (caller, args) = *note;
+    if drivers.len() == 0 || !are_bare(args) {
         return Err(AllocError);
     }
     events.reserve_call(1, caller, args.len())?;
@@ -30,76 +22,15 @@ fn note(
     Ok(())
 }
 
-fn note_some(drivers: &mut Drivers, events: &mut EventBuffer) -> Result<(), AllocError> {
-    note(drivers, events, b"menu", &[])?;
-    note(drivers, events, b"map", &[Value::Int(-1)])?;
-    note(drivers, events, b"menu", &[Value::Uint(2), Value::Int(3)])
-}
-
-fn note_more(drivers: &mut Drivers, events: &mut EventBuffer) -> Result<(), AllocError> {
-    note(
-        drivers,
-        events,
-        b"menu",
-        &[Value::Int(4), Value::Int(5), Value::Bool(true)],
-    )?;
-    note(
-        drivers,
-        events,
-        b"map",
-        &[
-            Value::Int(6),
-            Value::Int(7),
-            Value::Int(8),
-            Value::Key(None),
-            Value::Int(9),
-        ],
-    )
-}
-
-fn is_by(caller: &[u8], args: &[Value], by: &[u8], with: &[Value]) -> bool {
-    caller == by && args == with
-}
-
-/// Whether the event is a call of the console by that module, with these arguments.
-fn is_note(event: Option<EventRef<'_>>, by: &[u8], with: &[Value]) -> bool {
-    match event {
-        Some(
-            EventRef::Called {
-                caller,
-                entity,
-                driver: 0,
-                object: None,
-                args,
-                reply: HostReply::Asking(Answer::Void),
-            },
-        ) => entity == EntityNo(7) && is_by(caller, args, by, with),
-        _ => false,
+fn note_all(
+    drivers: &mut Drivers,
+    events: &mut EventBuffer,
+    notes: &[Note],
+) -> Result<(), AllocError> {
+    for row in notes {
+        note(drivers, events, row)?;
     }
-}
-
-fn reads_some(log: &EventLog) -> bool {
-    is_note(log.get(0), b"menu", &[])
-        && is_note(log.get(1), b"map", &[Value::Int(-1)])
-        && is_note(log.get(2), b"menu", &[Value::Uint(2), Value::Int(3)])
-}
-
-fn reads_more(log: &EventLog) -> bool {
-    is_note(
-        log.get(3),
-        b"menu",
-        &[Value::Int(4), Value::Int(5), Value::Bool(true)],
-    ) && is_note(
-        log.get(4),
-        b"map",
-        &[
-            Value::Int(6),
-            Value::Int(7),
-            Value::Int(8),
-            Value::Key(None),
-            Value::Int(9),
-        ],
-    )
+    Ok(())
 }
 
 /// Makes a cell with the second driver, writes and reads it, and gives it up.
@@ -146,72 +77,16 @@ fn use_a_register(drivers: &mut Drivers, events: &mut EventBuffer) -> Result<(),
     Ok(())
 }
 
-fn is_made(event: Option<EventRef<'_>>) -> bool {
-    match event {
-        Some(
-            EventRef::Called {
-                caller,
-                entity: EntityNo(8),
-                driver: 1,
-                object: None,
-                args,
-                reply: HostReply::Making(Made::Key(0)),
-            },
-        ) => is_by(caller, args, b"menu", &[Value::Int(5)]),
-        _ => false,
-    }
-}
-
-fn is_ended(event: Option<EventRef<'_>>) -> bool {
-    matches!(event, Some(EventRef::Ended { driver: 1, key: 0 }))
-}
-
-fn is_written(event: Option<EventRef<'_>>) -> bool {
-    match event {
-        Some(
-            EventRef::Called {
-                caller,
-                args,
-                reply: HostReply::Asking(Answer::Void),
-                ..
-            },
-        ) => is_by(caller, args, b"map", &[Value::Int(-5)]),
-        _ => false,
-    }
-}
-
-fn is_read(event: Option<EventRef<'_>>) -> bool {
-    match event {
-        Some(
-            EventRef::Called {
-                caller,
-                args,
-                reply: HostReply::Asking(Answer::Gave(Value::Int(-5))),
-                ..
-            },
-        ) => is_by(caller, args, b"map", &[]),
-        _ => false,
-    }
-}
-
 /// What the drivers are asked.
-#[derive(Clone, Copy)]
 enum Asked {
-    /// Three notes.
-    Some,
-    /// These and two longer ones.
-    Notes,
+    Notes(&'static [Note]),
     /// A cell is made and ends, and the register is written and read.
     Each,
 }
 
-fn ask(drivers: &mut Drivers, events: &mut EventBuffer, asked: Asked) -> Result<(), AllocError> {
+fn ask(drivers: &mut Drivers, events: &mut EventBuffer, asked: &Asked) -> Result<(), AllocError> {
     match asked {
-        Asked::Some => note_some(drivers, events),
-        Asked::Notes => {
-            note_some(drivers, events)?;
-            note_more(drivers, events)
-        }
+        Asked::Notes(notes) => note_all(drivers, events, notes),
         Asked::Each => {
             use_a_cell(drivers, events)?;
             use_a_register(drivers, events)
@@ -222,7 +97,7 @@ fn ask(drivers: &mut Drivers, events: &mut EventBuffer, asked: Asked) -> Result<
 fn ask_and_end(
     mut drivers: Drivers,
     events: &mut EventBuffer,
-    asked: Asked,
+    asked: &Asked,
 ) -> Result<(), AllocError> {
     let done = ask(&mut drivers, events, asked);
     let _ = drivers.into_boxes();
@@ -230,7 +105,7 @@ fn ask_and_end(
 }
 
 /// Asks a new console and a new cell.
-fn ask_new(alloc: Global, events: &mut EventBuffer, asked: Asked) -> Result<(), AllocError> {
+fn ask_new(alloc: Global, events: &mut EventBuffer, asked: &Asked) -> Result<(), AllocError> {
     let mut boxes: Vec<Box<dyn Driver>> = Vec::new(alloc);
     boxes.push(Box::new(alloc, Console::new(alloc)?)?)?;
     boxes.push(Box::new(alloc, Cell::new(alloc)?)?)?;
@@ -240,63 +115,155 @@ fn ask_new(alloc: Global, events: &mut EventBuffer, asked: Asked) -> Result<(), 
     }
 }
 
-/// The log of what was asked, which is listened to.
-fn log_of(alloc: Global, asked: Asked) -> Result<Option<EventLog>, AllocError> {
-    let mut events = EventBuffer::new(alloc);
-    ask_new(alloc, &mut events, asked)?;
-    if events.is_listening() {
-        Ok(Some(EventLog::from_buffer(events)))
-    } else {
-        Ok(None)
-    }
+/// An event as it is wanted.
+enum Event {
+    /// The module whose script asked, the entity, the driver, the arguments and the answer. There is no object.
+    Called(&'static [u8], u32, u32, &'static [Value], HostReply),
+    /// The driver and the key.
+    Ended(u32, u64),
 }
 
-fn reads_notes(log: &EventLog) -> bool {
-    (log.len(), log.ends(), log.is_empty()) == (5, 0, false)
-        && reads_some(log)
-        && reads_more(log)
-        && log.get(5).is_none()
-}
-
-fn reads_each(log: &EventLog) -> bool {
-    (log.len(), log.ends()) == (4, 1)
-        && is_made(log.get(0))
-        && is_ended(log.get(1))
-        && is_written(log.get(2))
-        && is_read(log.get(3))
-}
-
-fn reads(log: &Option<EventLog>, asked: Asked) -> bool {
-    match (log, asked) {
-        (Some(log), Asked::Notes) => reads_notes(log),
-        (Some(log), Asked::Each) => reads_each(log),
+fn is_reply(reply: HostReply, want: HostReply) -> bool {
+    match (reply, want) {
+        (HostReply::Making(made), HostReply::Making(want)) => made == want,
+        (HostReply::Asking(answer), HostReply::Asking(want)) => answer == want,
         _ => false,
     }
 }
 
-#[test]
-fn calls_are_read_back(rt: HostRuntime) -> Result<(), AllocError> {
-    let is_read = reads(&log_of(rt.alloc(), Asked::Notes)?, Asked::Notes);
-    assert!(rt; is_read);
-    Ok(())
+fn is_event(event: EventRef<'_>, want: &Event) -> bool {
+    match (event, want) {
+        (
+            EventRef::Called {
+                caller,
+                entity,
+                driver,
+                object: None,
+                args,
+                reply,
+            },
+            Event::Called(by, of, its, with, answer),
+        ) => {
+            caller == *by
+                && entity == EntityNo(*of)
+                && driver == *its
+                && args == *with
+                && is_reply(reply, *answer)
+        }
+        (EventRef::Ended { driver, key }, Event::Ended(its, ended)) => {
+            driver == *its && key == *ended
+        }
+        _ => false,
+    }
+}
+
+/// Whether these are all events, in their order.
+fn are_events(log: &EventLog, wanted: &[Event]) -> bool {
+    for (at, want) in wanted.iter().enumerate() {
+        match log.get(at) {
+            Some(event) if is_event(event, want) => {}
+            _ => return false,
+        }
+    }
+    log.len() == wanted.len() && log.get(wanted.len()).is_none()
+}
+
+const VOID: HostReply = HostReply::Asking(Answer::Void);
+
+const NOTED: &[Note] = &[
+    (b"menu", &[]),
+    (b"map", &[Value::Int(-1)]),
+    (b"menu", &[Value::Uint(2), Value::Int(3)]),
+    (b"menu", &[Value::Int(4), Value::Int(5), Value::Bool(true)]),
+    (b"map", LONGEST),
+];
+
+const LONGEST: &[Value] = &[
+    Value::Int(6),
+    Value::Int(7),
+    Value::Int(8),
+    Value::Key(None),
+    Value::Int(9),
+];
+
+const NOTES_READ: &[Event] = &[
+    Event::Called(b"menu", 7, 0, &[], VOID),
+    Event::Called(b"map", 7, 0, &[Value::Int(-1)], VOID),
+    Event::Called(b"menu", 7, 0, &[Value::Uint(2), Value::Int(3)], VOID),
+    Event::Called(
+        b"menu",
+        7,
+        0,
+        &[Value::Int(4), Value::Int(5), Value::Bool(true)],
+        VOID,
+    ),
+    Event::Called(b"map", 7, 0, LONGEST, VOID),
+];
+
+const EACH_READ: &[Event] = &[
+    Event::Called(
+        b"menu",
+        8,
+        1,
+        &[Value::Int(5)],
+        HostReply::Making(Made::Key(0)),
+    ),
+    Event::Ended(1, 0),
+    Event::Called(b"map", 9, 0, &[Value::Int(-5)], VOID),
+    Event::Called(
+        b"map",
+        9,
+        0,
+        &[],
+        HostReply::Asking(Answer::Gave(Value::Int(-5))),
+    ),
+];
+
+/// What the drivers are asked, how many of the events are ends, and all of them.
+const LOGS: &[(Asked, usize, &[Event])] = &[
+    (Asked::Notes(NOTED), 0, NOTES_READ),
+    (Asked::Each, 1, EACH_READ),
+];
+
+fn is_log(log: &EventLog, ends: usize, wanted: &[Event]) -> bool {
+    log.ends() == ends && log.is_empty() == wanted.is_empty() && are_events(log, wanted)
+}
+
+/// Whether what was asked is listened to, and is read back.
+fn is_read(
+    alloc: Global,
+    asked: &Asked,
+    ends: usize,
+    wanted: &[Event],
+) -> Result<bool, AllocError> {
+    let mut events = EventBuffer::new(alloc);
+    ask_new(alloc, &mut events, asked)?;
+    if !events.is_listening() {
+        return Ok(false);
+    }
+    let log = EventLog::from_buffer(events);
+    Ok(is_log(&log, ends, wanted))
 }
 
 #[test]
-fn each_sort_of_event_is_read_back(rt: HostRuntime) -> Result<(), AllocError> {
-    let is_read = reads(&log_of(rt.alloc(), Asked::Each)?, Asked::Each);
-    assert!(rt; is_read);
+fn events_are_read_back(rt: HostRuntime) -> Result<(), AllocError> {
+    for (asked, ends, wanted) in LOGS {
+        assert!(rt; is_read(rt.alloc(), asked, *ends, wanted)?, "{ends} ends");
+    }
     Ok(())
 }
 
-/// Whether three calls that nobody hears are counted.
-fn counts_unheard(alloc: Global) -> Result<bool, AllocError> {
+const UNHEARD: &Asked = &Asked::Notes(NOTED);
+
+/// How many events and ends are counted where nobody hears them, and whether anybody does.
+fn unheard(alloc: Global) -> Result<(usize, usize, bool), AllocError> {
     let mut events = EventBuffer::unheard(alloc);
-    ask_new(alloc, &mut events, Asked::Some)?;
-    Ok(!events.is_listening() && (events.len(), events.ends()) == (3, 0))
+    ask_new(alloc, &mut events, UNHEARD)?;
+    Ok((events.len(), events.ends(), events.is_listening()))
 }
 
 #[test]
 fn unheard_calls_are_counted(rt: HostRuntime) -> Result<(), AllocError> {
-    assert!(rt; counts_unheard(rt.alloc())?);
+    assert_eq!(rt; unheard(rt.alloc())?, (5, 0, false));
     Ok(())
 }

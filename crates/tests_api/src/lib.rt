@@ -12,5 +12,3 @@ mod kinds;
 mod registry;
 #[cfg(test)]
 mod types;
-#[cfg(test)]
-mod views;

@@ -1,12 +1,10 @@
-//! Outside examples: a whole profile, the refusals that the documents name, limits, views, and each call once.
+//! Outside examples: a whole profile, the refusals that the documents name, limits, and what modules see.
 
 use ang_kinds::{EntityNo, Mask, TypeRef};
-use ang_registry::{Entry, EntryKind, RegError, Registry};
+use ang_registry::{Entry, EntryKind, RegError, Registry, View};
 use std::alloc::{AllocError, Global};
-use std::process::Abort;
 
 /// One call that adds an entry.
-#[derive(Clone, Copy)]
 enum Line {
     Type(&'static [u8], u32),
     Factory(&'static [u8], u32, &'static [u8]),
@@ -33,8 +31,77 @@ fn add(registry: &mut Registry, line: &Line) -> Result<EntityNo, RegError> {
     }
 }
 
+/// What is kept of an entry.
+enum Kept {
+    Kind(EntryKind),
+    Owner(Option<EntityNo>),
+    /// The numbers of the driver, and of the driver for it.
+    Asked(u32, u32),
+    Mask(u32),
+    Name(&'static [u8]),
+    ReadOnly,
+    /// The first parameter is of the enumeration of that name.
+    Takes(&'static [u8]),
+}
+
+/// The name of the enumeration that the first parameter of an entry is of.
+fn first_enumeration(entry: &Entry) -> Option<&[u8]> {
+    match &entry.signature.params.as_slice().first()?.ty {
+        TypeRef::Enumeration { name } => Some(name.as_slice()),
+        _ => None,
+    }
+}
+
+fn keeps(entry: &Entry, kept: &Kept) -> bool {
+    match kept {
+        Kept::Kind(kind) => entry.kind == *kind,
+        Kept::Owner(owner) => entry.owner == *owner,
+        Kept::Asked(driver, f) => entry.driver == *driver && entry.f == *f,
+        Kept::Mask(mask) => entry.mask == Mask(*mask),
+        Kept::Name(name) => entry.signature.name.as_slice() == *name,
+        Kept::ReadOnly => entry.signature.read_only,
+        Kept::Takes(name) => first_enumeration(entry) == Some(*name),
+    }
+}
+
+/// What a module sees.
+enum Seen {
+    /// Whether the entry of that number is seen.
+    Entry(u32, bool),
+    /// So many entries, seen or not.
+    Length(usize),
+    /// A type by its name.
+    Type(&'static [u8], Option<EntityNo>),
+    /// An enumeration by its name.
+    Enumeration(&'static [u8], Option<EntityNo>),
+    /// So many values by that name alone.
+    Values(&'static [u8], usize),
+    /// So many values of that name in the enumeration of that number.
+    Members(u32, &'static [u8], usize),
+}
+
+fn is_seen(view: &View, seen: &Seen) -> bool {
+    match seen {
+        Seen::Entry(number, want) => view.get(EntityNo(*number)).is_some() == *want,
+        Seen::Length(count) => view.len() == *count,
+        Seen::Type(name, want) => view.find_type(name) == *want,
+        Seen::Enumeration(name, want) => view.find_enumeration(name) == *want,
+        Seen::Values(name, count) => view.values(name).len() == *count,
+        Seen::Members(number, name, count) => {
+            view.members(EntityNo(*number), name).len() == *count
+        }
+    }
+}
+
+/// Whether a module of the mask sees that.
+fn sees(alloc: Global, registry: &Registry, mask: u32, seen: &Seen) -> bool {
+    match registry.seen(alloc, Mask(mask)) {
+        Ok(view) => is_seen(&view, seen),
+        Err(_) => false,
+    }
+}
+
 /// One call, and what it gives.
-#[derive(Clone, Copy)]
 enum Step {
     /// The line's entry gets this number.
     Number(u32, Line),
@@ -46,8 +113,18 @@ enum Step {
     Blanks(u32, u32),
     /// The first one is set as the mask for what is added from here on, and the second one was it.
     Mask(u32, u32),
-    /// There are that many entries.
-    Length(usize),
+    /// There are that many entries, and none is of that number.
+    Length(u32),
+    /// That is kept of the entry of this number.
+    Keeps(u32, Kept),
+    /// The type of that name has this number.
+    Type(&'static [u8], u32),
+    /// The enumeration of that name has this number.
+    Enumeration(&'static [u8], u32),
+    /// Whether a module of that mask finds a function of the name.
+    Function(u32, &'static [u8], bool),
+    /// What a module of that mask sees.
+    Sees(u32, Seen),
 }
 
 fn adds_blanks(registry: &mut Registry, from: u32, to: u32) -> bool {
@@ -59,36 +136,70 @@ fn adds_blanks(registry: &mut Registry, from: u32, to: u32) -> bool {
     true
 }
 
+/// Whether the list is so.
+fn is_so(alloc: Global, registry: &Registry, step: &Step) -> bool {
+    match step {
+        Step::Length(count) => {
+            registry.len() == *count as usize && registry.get(EntityNo(*count)).is_none()
+        }
+        Step::Keeps(number, kept) => match registry.get(EntityNo(*number)) {
+            Some(entry) => keeps(entry, kept),
+            None => false,
+        },
+        Step::Type(name, number) => registry.find_type(name) == Some(EntityNo(*number)),
+        Step::Enumeration(name, number) => {
+            registry.find_enumeration(name) == Some(EntityNo(*number))
+        }
+        Step::Function(mask, name, want) => {
+            registry.find_function(Mask(*mask), name).is_some() == *want
+        }
+        Step::Sees(mask, seen) => sees(alloc, registry, *mask, seen),
+        _ => false,
+    }
+}
+
 /// Whether a call gives what it has to.
-fn gives(registry: &mut Registry, step: &Step) -> bool {
+fn gives(alloc: Global, registry: &mut Registry, step: &Step) -> bool {
     match step {
         Step::Number(number, line) => add(registry, line) == Ok(EntityNo(*number)),
         Step::Taken(line) => add(registry, line).is_ok(),
         Step::Refused(why, line) => add(registry, line) == Err(*why),
         Step::Blanks(from, to) => adds_blanks(registry, *from, *to),
         Step::Mask(mask, before) => registry.set_default_mask(Mask(*mask)) == Mask(*before),
-        Step::Length(count) => registry.len() == *count,
+        _ => is_so(alloc, registry, step),
     }
 }
 
 /// The place of the first call that does not give what it has to.
-fn first_wrong(registry: &mut Registry, steps: &[Step]) -> Option<usize> {
+fn first_wrong(alloc: Global, registry: &mut Registry, steps: &[Step]) -> Option<usize> {
     for (at, step) in steps.iter().enumerate() {
-        if !gives(registry, step) {
+        if !gives(alloc, registry, step) {
             return Some(at);
         }
     }
     None
 }
 
+/// Calls over a list that is empty at first: their name, the ones that come first, and the others.
+type Case = (&'static str, &'static [Step], &'static [Step]);
+
+/// The number of the list of calls, and the place of the first one in it that does not give what it has to.
+fn wrong_in(alloc: Global, registry: &mut Registry, case: &Case) -> Option<(u32, usize)> {
+    if let Some(at) = first_wrong(alloc, registry, case.1) {
+        return Some((1, at));
+    }
+    let at = first_wrong(alloc, registry, case.2)?;
+    Some((2, at))
+}
+
 /// The same over a list that is empty at first.
-fn first_wrong_of_new(alloc: Global, steps: &[Step]) -> Option<usize> {
+fn wrong_in_new(alloc: Global, case: &Case) -> Option<(u32, usize)> {
     let mut registry = Registry::new(alloc);
-    first_wrong(&mut registry, steps)
+    wrong_in(alloc, &mut registry, case)
 }
 
 /// Types `Counter` and `Cell` with their members, functions of three drivers, and two global properties.
-const PROFILE: [Step; 18] = [
+const PROFILE: &[Step] = &[
     Step::Number(0, Line::Type(b"Counter", 1)),
     Step::Number(1, Line::Factory(b"Counter", 0, b"Counter@ f()")),
     Step::Number(2, Line::Factory(b"Counter", 1, b"Counter@ f(int)")),
@@ -107,90 +218,21 @@ const PROFILE: [Step; 18] = [
     Step::Number(15, Line::Global(0, 0, b"int64 reg")),
     Step::Number(16, Line::Global(0, 0, b"const int64 limit")),
     Step::Length(17),
+
+    // a method
+    Step::Keeps(10, Kept::Kind(EntryKind::Method)),
+    Step::Keeps(10, Kept::Owner(Some(EntityNo(6)))),
+    Step::Keeps(10, Kept::Asked(2, 1)),
+    Step::Keeps(10, Kept::Mask(1)),
+    Step::Keeps(10, Kept::Name(b"set")),
+    // a global property
+    Step::Keeps(16, Kept::Kind(EntryKind::Global)),
+    Step::Keeps(16, Kept::Owner(None)),
+    Step::Keeps(16, Kept::ReadOnly),
 ];
-
-/// What is kept of a method.
-fn keeps_a_method(rt: &impl Abort, registry: &Registry) {
-    match registry.get(EntityNo(10)) {
-        Some(set) => {
-            assert!(rt; set.kind == EntryKind::Method && set.owner == Some(EntityNo(6)));
-            assert_eq!(rt; (set.driver, set.f, set.mask), (2, 1, Mask(1)));
-            assert!(rt; set.signature.name.as_slice() == b"set".as_slice());
-        }
-        None => panic!(rt; "no entry 10"),
-    }
-}
-
-/// What is kept of a global property.
-fn keeps_a_global(rt: &impl Abort, registry: &Registry) {
-    match registry.get(EntityNo(16)) {
-        Some(limit) => {
-            assert!(rt; limit.kind == EntryKind::Global && limit.owner.is_none());
-            assert!(rt; limit.signature.read_only);
-        }
-        None => panic!(rt; "no entry 16"),
-    }
-}
-
-#[test]
-fn a_whole_profile_is_accepted(rt: HostRuntime) {
-    let mut registry = Registry::new(rt.alloc());
-    let wrong = first_wrong(&mut registry, &PROFILE);
-    keeps_a_method(&rt, &registry);
-    keeps_a_global(&rt, &registry);
-    let has_more = registry.get(EntityNo(17)).is_some();
-    drop(registry);
-    assert_eq!(rt; wrong, None);
-    assert!(rt; !has_more);
-}
-
-/// Calls over a list that is empty at first.
-const SHORT: [(&str, &[Step]); 4] = [
-    (
-        "a type that is not there",
-        &[Step::Refused(
-            RegError::UnknownType,
-            Line::Method(b"Cell", 0, b"int get()"),
-        )],
-    ),
-    (
-        "a type of another driver",
-        &[
-            Step::Number(0, Line::Type(b"Cell", 2)),
-            Step::Refused(
-                RegError::WrongDriver,
-                Line::Function(0, 0, b"void take(Cell@+)"),
-            ),
-        ],
-    ),
-    (
-        "a hidden name is taken too",
-        &[
-            Step::Number(0, Line::Function(0, 0, b"void p(int)")),
-            Step::Mask(2, 1),
-            Step::Refused(RegError::Duplicate, Line::Function(0, 0, b"void p(int)")),
-        ],
-    ),
-    (
-        "an empty mask",
-        &[
-            Step::Mask(0, 1),
-            Step::Refused(RegError::EmptyMask, Line::Function(0, 0, b"void p()")),
-            Step::Number(0, Line::Blank),
-        ],
-    ),
-];
-
-#[test]
-fn refusals_of_short_profiles(rt: HostRuntime) {
-    for (name, steps) in SHORT {
-        let wrong = first_wrong_of_new(rt.alloc(), steps);
-        assert_eq!(rt; wrong, None, "{name}");
-    }
-}
 
 /// Calls over the whole profile.
-const OVER_PROFILE: [Step; 23] = [
+const OVER_PROFILE: &[Step] = &[
     Step::Refused(RegError::BadDeclaration, Line::Type(b"1x", 64)),
     Step::Refused(RegError::BadDeclaration, Line::Type(b"int", 3)),
     Step::Refused(
@@ -243,18 +285,8 @@ const OVER_PROFILE: [Step; 23] = [
     Step::Taken(Line::Method(b"Cell", 0, b"void bump()")),
 ];
 
-#[test]
-fn refusals_over_a_whole_profile(rt: HostRuntime) {
-    let mut registry = Registry::new(rt.alloc());
-    let before = first_wrong(&mut registry, &PROFILE);
-    let wrong = first_wrong(&mut registry, &OVER_PROFILE);
-    drop(registry);
-    assert_eq!(rt; before, None);
-    assert_eq!(rt; wrong, None);
-}
-
 /// An enumeration of two values, a function that takes one, and a type.
-const COLORS: [Step; 5] = [
+const COLORS: &[Step] = &[
     Step::Number(0, Line::Enum(b"Color")),
     Step::Number(1, Line::Value(b"Color", b"RED", 1)),
     Step::Number(2, Line::Value(b"Color", b"BLUE", -2)),
@@ -263,7 +295,7 @@ const COLORS: [Step; 5] = [
 ];
 
 /// Calls over these.
-const OVER_COLORS: [Step; 37] = [
+const OVER_COLORS: &[Step] = &[
     Step::Refused(RegError::UnknownType, Line::Value(b"Colour", b"RED", 1)),
     Step::Refused(RegError::UnknownType, Line::Value(b"Cell", b"RED", 1)),
     Step::Refused(RegError::BadDeclaration, Line::Value(b"Colour", b"1x", 1)),
@@ -328,75 +360,31 @@ const OVER_COLORS: [Step; 37] = [
     Step::Mask(0, 1),
     Step::Refused(RegError::EmptyMask, Line::Enum(b"int")),
     Step::Number(14, Line::Value(b"Color", b"Cell", -2147483648)),
+
+    // a value, which has the mask of its enumeration, whatever the default one was
+    Step::Keeps(14, Kept::Kind(EntryKind::EnumValue(-2147483648))),
+    Step::Keeps(14, Kept::Owner(Some(EntityNo(0)))),
+    Step::Keeps(14, Kept::Mask(1)),
+    // a parameter
+    Step::Keeps(3, Kept::Takes(b"Color")),
 ];
 
-/// What is kept of a value: its enumeration, and the mask of that, whatever the default one was.
-fn keeps_a_value(rt: &impl Abort, registry: &Registry) {
-    match registry.get(EntityNo(14)) {
-        Some(value) => {
-            assert!(rt; value.kind == EntryKind::EnumValue(-2147483648));
-            assert!(rt; value.owner == Some(EntityNo(0)) && value.mask == Mask(1));
-        }
-        None => panic!(rt; "no entry 14"),
-    }
-}
-
-/// The name of the enumeration that the first parameter of an entry is of.
-fn first_enumeration(entry: &Entry) -> Option<&[u8]> {
-    match &entry.signature.params.as_slice().first()?.ty {
-        TypeRef::Enumeration { name } => Some(name.as_slice()),
-        _ => None,
-    }
-}
-
-/// What is kept of a parameter.
-fn keeps_an_enumeration(rt: &impl Abort, registry: &Registry) {
-    match registry.get(EntityNo(3)) {
-        Some(paint) => {
-            assert!(rt; first_enumeration(paint) == Some(b"Color".as_slice()));
-        }
-        None => panic!(rt; "no entry 3"),
-    }
-}
-
-#[test]
-fn refusals_over_an_enumeration(rt: HostRuntime) {
-    let mut registry = Registry::new(rt.alloc());
-    let before = first_wrong(&mut registry, &COLORS);
-    let wrong = first_wrong(&mut registry, &OVER_COLORS);
-    keeps_a_value(&rt, &registry);
-    keeps_an_enumeration(&rt, &registry);
-    drop(registry);
-    assert_eq!(rt; before, None);
-    assert_eq!(rt; wrong, None);
-}
-
-/// An enumeration for one mask, its value under another default mask, and a function for both that takes one.
-const HIDDEN_COLORS: [Step; 5] = [
+/// An enumeration for one mask, its value under another default mask, and a function for both that takes one: what names
+/// a hidden enumeration is hidden.
+const HIDDEN_COLORS: &[Step] = &[
     Step::Number(0, Line::Enum(b"Color")),
     Step::Mask(2, 1),
     Step::Number(1, Line::Value(b"Color", b"RED", 1)),
     Step::Mask(3, 2),
     Step::Number(2, Line::Function(0, 0, b"void paint(Color)")),
+    Step::Enumeration(b"Color", 0),
+    Step::Sees(1, Seen::Entry(0, true)),
+    Step::Sees(2, Seen::Entry(0, false)),
+    Step::Sees(1, Seen::Entry(1, true)),
+    Step::Sees(2, Seen::Entry(1, false)),
+    Step::Sees(1, Seen::Entry(2, true)),
+    Step::Sees(2, Seen::Entry(2, false)),
 ];
-
-#[test]
-fn what_names_a_hidden_enumeration_is_hidden(rt: HostRuntime) -> Result<(), AllocError> {
-    let mut registry = Registry::new(rt.alloc());
-    let wrong = first_wrong(&mut registry, &HIDDEN_COLORS);
-    let found = registry.find_enumeration(b"Color");
-    let mut hidden = true;
-    for number in 0..3 {
-        let for_one = sees(rt.alloc(), &registry, 1, number);
-        let for_two = sees(rt.alloc(), &registry, 2, number);
-        hidden &= for_one == Ok(true) && for_two == Ok(false);
-    }
-    drop(registry);
-    assert_eq!(rt; wrong, None);
-    assert_eq!(rt; found, Some(EntityNo(0)));
-    assert!(rt; hidden);
-    Ok(())
-}
 
 const MOST: &[u8] = b"void f(int,int,int,int,int,int,int,int,int,int,int,int,int,int,int,int,\
     int,int,int,int,int,int,int,int,int,int,int,int,int,int,int,int)";
@@ -404,8 +392,8 @@ const MOST: &[u8] = b"void f(int,int,int,int,int,int,int,int,int,int,int,int,int
 const MORE: &[u8] = b"void g(int,int,int,int,int,int,int,int,int,int,int,int,int,int,int,int,\
     int,int,int,int,int,int,int,int,int,int,int,int,int,int,int,int,int)";
 
-/// A function of the most parameters, and as many entries as there may be.
-const LIMITS: [Step; 10] = [
+/// A function of the most parameters, and as many entries as there may be. Limits go first.
+const LIMITS: &[Step] = &[
     Step::Number(0, Line::Function(0, 0, MOST)),
     Step::Mask(0, 1),
     Step::Refused(RegError::Limit, Line::Function(64, 0, MORE)),
@@ -418,47 +406,9 @@ const LIMITS: [Step; 10] = [
     Step::Length(1024),
 ];
 
-#[test]
-fn limits_go_first(rt: HostRuntime) {
-    assert_eq!(rt; first_wrong_of_new(rt.alloc(), &LIMITS), None);
-}
-
-/// Whether a module of the mask sees an entry.
-fn sees(alloc: Global, registry: &Registry, mask: u32, number: u32) -> Result<bool, AllocError> {
-    let view = registry.seen(alloc, Mask(mask))?;
-    Ok(view.get(EntityNo(number)).is_some())
-}
-
-/// Whether a module of the second mask sees a function of the first one, by its number and by its name.
-fn sees_function(alloc: Global, entry: u32, module: u32) -> Result<(bool, bool), RegError> {
-    let mut registry = Registry::new(alloc);
-    registry.set_default_mask(Mask(entry));
-    registry.function(0, 0, b"void print(int)")?;
-    let found = registry.find_function(Mask(module), b"print");
-    let view = sees(alloc, &registry, module, 0)?;
-    Ok((view, found.is_some()))
-}
-
-/// The mask of the entry, the mask of the module, and whether it sees the entry.
-const MASKS: [(u32, u32, bool); 5] = [
-    (0x0000_0001, 0x0000_0001, true),
-    (0x0000_0001, 0x0000_0002, false),
-    (0x8000_0000, 0x8000_0000, true),
-    (0x0000_0003, 0x0000_0002, true),
-    (0x0000_0001, 0x0000_0000, false),
-];
-
-#[test]
-fn a_mask_sees_what_it_meets(rt: HostRuntime) -> Result<(), RegError> {
-    for (entry, module, is_seen) in MASKS {
-        let found = sees_function(rt.alloc(), entry, module)?;
-        assert!(rt; found == (is_seen, is_seen), "{entry} and {module}");
-    }
-    Ok(())
-}
-
-/// A type for one mask, and for two masks what names it, and last a function that does not.
-const NAMING: [Step; 8] = [
+/// A type for one mask, and for two masks what names it, and last a function that does not: what names a hidden type is
+/// hidden.
+const NAMING: &[Step] = &[
     Step::Number(0, Line::Type(b"Cell", 2)),
     Step::Mask(3, 1),
     Step::Number(1, Line::Function(2, 2, b"Cell@+ made()")),
@@ -467,45 +417,162 @@ const NAMING: [Step; 8] = [
     Step::Number(4, Line::Method(b"Cell", 0, b"int get() const")),
     Step::Number(5, Line::Property(b"Cell", 0, b"int size")),
     Step::Number(6, Line::Function(2, 2, b"void plain(int)")),
+    Step::Type(b"Cell", 0),
+    Step::Sees(1, Seen::Length(7)),
+    Step::Sees(1, Seen::Type(b"Cell", Some(EntityNo(0)))),
+    Step::Sees(2, Seen::Length(7)),
+    Step::Sees(2, Seen::Type(b"Cell", None)),
+    Step::Sees(1, Seen::Entry(0, true)),
+    Step::Sees(2, Seen::Entry(0, false)),
+    Step::Sees(1, Seen::Entry(1, true)),
+    Step::Sees(2, Seen::Entry(1, false)),
+    Step::Sees(1, Seen::Entry(2, true)),
+    Step::Sees(2, Seen::Entry(2, false)),
+    Step::Sees(1, Seen::Entry(3, true)),
+    Step::Sees(2, Seen::Entry(3, false)),
+    Step::Sees(1, Seen::Entry(4, true)),
+    Step::Sees(2, Seen::Entry(4, false)),
+    Step::Sees(1, Seen::Entry(5, true)),
+    Step::Sees(2, Seen::Entry(5, false)),
+    Step::Sees(1, Seen::Entry(6, true)),
+    Step::Sees(2, Seen::Entry(6, true)),
 ];
 
-/// How many entries a module of the mask sees or not, and which one is the type.
-fn extent(
-    alloc: Global,
-    registry: &Registry,
-    mask: u32,
-) -> Result<(usize, Option<EntityNo>), AllocError> {
-    let view = registry.seen(alloc, Mask(mask))?;
-    Ok((view.len(), view.find_type(b"Cell")))
-}
+const PRINT_ONE: &[Step] = &[
+    Step::Mask(0x0000_0001, 1),
+    Step::Number(0, Line::Function(0, 0, b"void print(int)")),
+    Step::Sees(0x0000_0001, Seen::Entry(0, true)),
+    Step::Function(0x0000_0001, b"print", true),
+    Step::Sees(0x0000_0002, Seen::Entry(0, false)),
+    Step::Function(0x0000_0002, b"print", false),
+    Step::Sees(0x0000_0000, Seen::Entry(0, false)),
+    Step::Function(0x0000_0000, b"print", false),
+];
 
-/// The first entry that is seen otherwise: mask 1 sees each, and mask 2 the last one alone.
-fn seen_otherwise(alloc: Global, registry: &Registry) -> Result<Option<u32>, AllocError> {
-    for number in 0..7 {
-        let for_one = sees(alloc, registry, 1, number)?;
-        let for_two = sees(alloc, registry, 2, number)?;
-        if !for_one || for_two != (number == 6) {
-            return Ok(Some(number));
-        }
+const PRINT_LAST: &[Step] = &[
+    Step::Mask(0x8000_0000, 1),
+    Step::Number(0, Line::Function(0, 0, b"void print(int)")),
+    Step::Sees(0x8000_0000, Seen::Entry(0, true)),
+    Step::Function(0x8000_0000, b"print", true),
+];
+
+const PRINT_TWO: &[Step] = &[
+    Step::Mask(0x0000_0003, 1),
+    Step::Number(0, Line::Function(0, 0, b"void print(int)")),
+    Step::Sees(0x0000_0002, Seen::Entry(0, true)),
+    Step::Function(0x0000_0002, b"print", true),
+];
+
+/// `Color` of entry 0 for the first bit with `RED` and `BLUE`, and `Light` of entry 3 for the second one with `RED`, as
+/// modules of different masks find them by name.
+const VALUES: &[Step] = &[
+    Step::Number(0, Line::Enum(b"Color")),
+    Step::Number(1, Line::Value(b"Color", b"RED", 1)),
+    Step::Number(2, Line::Value(b"Color", b"BLUE", -2)),
+    Step::Mask(2, 1),
+    Step::Number(3, Line::Enum(b"Light")),
+    Step::Number(4, Line::Value(b"Light", b"RED", 5)),
+    Step::Sees(0, Seen::Values(b"RED", 0)),
+    Step::Sees(0, Seen::Members(0, b"RED", 0)),
+    Step::Sees(0, Seen::Members(3, b"RED", 0)),
+    Step::Sees(0, Seen::Enumeration(b"Light", None)),
+    Step::Sees(1, Seen::Values(b"RED", 1)),
+    Step::Sees(1, Seen::Members(0, b"RED", 1)),
+    Step::Sees(1, Seen::Members(3, b"RED", 0)),
+    Step::Sees(1, Seen::Enumeration(b"Light", None)),
+    Step::Sees(2, Seen::Values(b"RED", 1)),
+    Step::Sees(2, Seen::Members(0, b"RED", 0)),
+    Step::Sees(2, Seen::Members(3, b"RED", 1)),
+    Step::Sees(2, Seen::Enumeration(b"Light", Some(EntityNo(3)))),
+    Step::Sees(3, Seen::Values(b"RED", 2)),
+    Step::Sees(3, Seen::Members(0, b"RED", 1)),
+    Step::Sees(3, Seen::Members(3, b"RED", 1)),
+    Step::Sees(3, Seen::Enumeration(b"Light", Some(EntityNo(3)))),
+];
+
+const NONE: &[Step] = &[];
+
+const PROFILE_CASES: &[Case] = &[("over a whole profile", PROFILE, OVER_PROFILE)];
+
+const ENUMERATION_CASES: &[Case] = &[("over an enumeration", COLORS, OVER_COLORS)];
+
+const MASK_CASES: &[Case] = &[
+    (
+        "a hidden name is taken too",
+        NONE,
+        &[
+            Step::Number(0, Line::Function(0, 0, b"void p(int)")),
+            Step::Mask(2, 1),
+            Step::Refused(RegError::Duplicate, Line::Function(0, 0, b"void p(int)")),
+        ],
+    ),
+    (
+        "an empty mask",
+        NONE,
+        &[
+            Step::Mask(0, 1),
+            Step::Refused(RegError::EmptyMask, Line::Function(0, 0, b"void p()")),
+            Step::Number(0, Line::Blank),
+        ],
+    ),
+    ("the first bit alone", PRINT_ONE, NONE),
+    ("the last bit alone", PRINT_LAST, NONE),
+    ("two bits", PRINT_TWO, NONE),
+    ("a hidden enumeration", HIDDEN_COLORS, NONE),
+    ("a hidden type", NAMING, NONE),
+];
+
+const OTHER_CASES: &[Case] = &[
+    (
+        "a type that is not there",
+        NONE,
+        &[Step::Refused(
+            RegError::UnknownType,
+            Line::Method(b"Cell", 0, b"int get()"),
+        )],
+    ),
+    (
+        "a type of another driver",
+        NONE,
+        &[
+            Step::Number(0, Line::Type(b"Cell", 2)),
+            Step::Refused(
+                RegError::WrongDriver,
+                Line::Function(0, 0, b"void take(Cell@+)"),
+            ),
+        ],
+    ),
+    ("limits", LIMITS, NONE),
+    ("values by name", VALUES, NONE),
+];
+
+// (one test a list, since all the lists of one function are proved as one)
+#[test]
+fn a_profile_is_taken_and_refused(rt: HostRuntime) {
+    for case in PROFILE_CASES {
+        assert_eq!(rt; wrong_in_new(rt.alloc(), case), None, "{}", case.0);
     }
-    Ok(None)
 }
 
 #[test]
-fn what_names_a_hidden_type_is_hidden(rt: HostRuntime) -> Result<(), AllocError> {
-    let mut registry = Registry::new(rt.alloc());
-    let wrong = first_wrong(&mut registry, &NAMING);
-    let found = registry.find_type(b"Cell");
-    let both = extent(rt.alloc(), &registry, 1);
-    let hidden = extent(rt.alloc(), &registry, 2);
-    let otherwise = seen_otherwise(rt.alloc(), &registry);
-    drop(registry);
-    assert_eq!(rt; wrong, None);
-    assert_eq!(rt; found, Some(EntityNo(0)));
-    assert!(rt; both? == (7, Some(EntityNo(0))));
-    assert!(rt; hidden? == (7, None));
-    assert_eq!(rt; otherwise?, None);
-    Ok(())
+fn enumerations_are_taken_and_refused(rt: HostRuntime) {
+    for case in ENUMERATION_CASES {
+        assert_eq!(rt; wrong_in_new(rt.alloc(), case), None, "{}", case.0);
+    }
+}
+
+#[test]
+fn masks_are_taken_and_refused(rt: HostRuntime) {
+    for case in MASK_CASES {
+        assert_eq!(rt; wrong_in_new(rt.alloc(), case), None, "{}", case.0);
+    }
+}
+
+#[test]
+fn other_entries_are_taken_and_refused(rt: HostRuntime) {
+    for case in OTHER_CASES {
+        assert_eq!(rt; wrong_in_new(rt.alloc(), case), None, "{}", case.0);
+    }
 }
 
 // Run with each growth of memory refused in turn, a call may find none, and the next one does.
@@ -517,22 +584,28 @@ fn adds_again(registry: &mut Registry) -> bool {
     }
 }
 
+/// Whether a module of the first mask sees the first entry.
+fn sees_first(alloc: Global, registry: &Registry) -> Result<bool, AllocError> {
+    let view = registry.seen(alloc, Mask(1))?;
+    Ok(view.get(EntityNo(0)).is_some())
+}
+
 fn sees_again(alloc: Global, registry: &Registry) -> Result<bool, AllocError> {
-    match sees(alloc, registry, 1, 0) {
+    match sees_first(alloc, registry) {
         Ok(is_seen) => Ok(is_seen),
-        Err(_) => sees(alloc, registry, 1, 0),
+        Err(_) => sees_first(alloc, registry),
     }
+}
+
+/// Whether an entry is added, how many there are then, and whether it is seen.
+fn added_at_last(alloc: Global) -> Result<(bool, usize, bool), AllocError> {
+    let mut registry = Registry::new(alloc);
+    let is_added = adds_again(&mut registry);
+    Ok((is_added, registry.len(), sees_again(alloc, &registry)?))
 }
 
 #[test]
 fn a_refused_growth_changes_nothing(rt: HostRuntime) -> Result<(), AllocError> {
-    let mut registry = Registry::new(rt.alloc());
-    let is_added = adds_again(&mut registry);
-    let count = registry.len();
-    let is_seen = sees_again(rt.alloc(), &registry);
-    drop(registry);
-    assert!(rt; is_added);
-    assert_eq!(rt; count, 1);
-    assert!(rt; is_seen?);
+    assert_eq!(rt; added_at_last(rt.alloc())?, (true, 1, true));
     Ok(())
 }

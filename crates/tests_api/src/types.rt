@@ -83,19 +83,26 @@ fn lineage(alloc: Global) -> Result<Lineage, AllocError> {
     Lineage::new(alloc, lines)
 }
 
+/// Two types of integers, and their common one.
+const COMMON: &[(Prim, Prim, Prim)] = &[
+    (Prim::I8, Prim::I8, Prim::I32),
+    (Prim::U8, Prim::U16, Prim::U32),
+    (Prim::I8, Prim::U8, Prim::U32),
+    (Prim::I32, Prim::U32, Prim::U32),
+    (Prim::U32, Prim::I64, Prim::I64),
+    (Prim::I16, Prim::U64, Prim::U64),
+    (Prim::U64, Prim::I64, Prim::U64),
+];
+
 #[test]
 fn integers_meet_in_their_common_type(rt: HostRuntime) {
-    assert!(rt; common(Prim::I8, Prim::I8) == Prim::I32);
-    assert!(rt; common(Prim::U8, Prim::U16) == Prim::U32);
-    assert!(rt; common(Prim::I8, Prim::U8) == Prim::U32);
-    assert!(rt; common(Prim::I32, Prim::U32) == Prim::U32);
-    assert!(rt; common(Prim::U32, Prim::I64) == Prim::I64);
-    assert!(rt; common(Prim::I16, Prim::U64) == Prim::U64);
-    assert!(rt; common(Prim::U64, Prim::I64) == Prim::U64);
+    for (one, other, want) in COMMON {
+        assert!(rt; common(*one, *other) == *want, "{one:?} and {other:?}");
+    }
 }
 
 /// From which type to which one, and the rank.
-const RANKS: [(ArgType, ArgType, Option<u8>); 37] = [
+const RANKS: &[(ArgType, ArgType, Option<u8>)] = &[
     (INT, INT, Some(0)),
     (BOOL, BOOL, Some(0)),
     (INT, INT64, Some(2)),
@@ -135,19 +142,24 @@ const RANKS: [(ArgType, ArgType, Option<u8>); 37] = [
     (ArgType::Null, COLOR, None),
 ];
 
-fn rank_of(alloc: Global, from: ArgType, to: ArgType) -> Result<Option<u8>, AllocError> {
+/// The place of the first conversion that has another rank.
+fn first_wrong_rank(lineage: &Lineage) -> Option<usize> {
+    for (at, (from, to, want)) in RANKS.iter().enumerate() {
+        if rank(lineage, *from, *to) != *want {
+            return Some(at);
+        }
+    }
+    None
+}
+
+fn wrong_rank(alloc: Global) -> Result<Option<usize>, AllocError> {
     let lineage = lineage(alloc)?;
-    Ok(rank(&lineage, from, to))
+    Ok(first_wrong_rank(&lineage))
 }
 
 #[test]
 fn conversions_have_their_ranks(rt: HostRuntime) -> Result<(), AllocError> {
-    for (from, to, want) in RANKS {
-        assert!(rt;
-            rank_of(rt.alloc(), from, to)? == want,
-            "{from:?} to {to:?}"
-        );
-    }
+    assert_eq!(rt; wrong_rank(rt.alloc())?, None);
     Ok(())
 }
 
@@ -187,7 +199,7 @@ const TAKES: Functions = &[
 /// A name, the functions of that name, the types of the arguments, and what is picked.
 type Choice = (&'static str, Functions, &'static [ArgType], Pick);
 
-const BY_VALUE: [Choice; 10] = [
+const CHOICES: &[Choice] = &[
     ("put(int)", PUT, &[INT], Pick::One(1)),
     ("put(int) of one", FIRST_PUT, &[INT], Pick::One(0)),
     ("f(int, int)", CROSSED, &[INT, INT], Pick::Ambiguous),
@@ -198,9 +210,7 @@ const BY_VALUE: [Choice; 10] = [
     ("put(color)", PUT, &[COLOR], Pick::One(1)),
     ("f(color, int)", CROSSED, &[COLOR, INT], Pick::Ambiguous),
     ("f(int, int) of three", CLEAR, &[INT, INT], Pick::One(2)),
-];
-
-const OF_OBJECTS: [Choice; 5] = [
+    // what comes out converts to the variable
     ("get(base)", GETS, &[BASE_HANDLE], Pick::One(0)),
     ("get(shape)", GETS, &[SHAPE_HANDLE], Pick::One(1)),
     ("get(apart)", GETS, &[APART_HANDLE], Pick::NoViable),
@@ -226,16 +236,8 @@ fn picked(alloc: Global, functions: Functions, args: &[ArgType]) -> Result<Pick,
 
 #[test]
 fn the_best_candidate_is_picked(rt: HostRuntime) -> Result<(), AllocError> {
-    for (name, functions, args, want) in BY_VALUE {
-        assert!(rt; picked(rt.alloc(), functions, args)? == want, "{name}");
-    }
-    Ok(())
-}
-
-#[test]
-fn what_comes_out_converts_to_the_variable(rt: HostRuntime) -> Result<(), AllocError> {
-    for (name, functions, args, want) in OF_OBJECTS {
-        assert!(rt; picked(rt.alloc(), functions, args)? == want, "{name}");
+    for (name, functions, args, want) in CHOICES {
+        assert!(rt; picked(rt.alloc(), functions, args)? == *want, "{name}");
     }
     Ok(())
 }

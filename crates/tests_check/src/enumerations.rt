@@ -2,11 +2,11 @@
 
 use crate::host::Line;
 use crate::outcomes::Outcome::{Brings, Built, Converts, Gives, Refused, Undeclared};
-use crate::outcomes::{Row, first_wrong};
+use crate::outcomes::{Case, Row};
 use ang_kinds::ErrorKind;
 
 /// `enum Color { RED = 1, BLUE = -2 }`, `void paint(Color)` and `enum Shade { DARK = 0, RED = 3 }`, all under 00000001.
-const HOST: [Line; 8] = [
+const HOST: &[Line] = &[
     Line::Mask(1),
     Line::Enum(b"Color"),
     Line::Value(b"Color", b"RED", 1),
@@ -17,7 +17,7 @@ const HOST: [Line; 8] = [
     Line::Value(b"Shade", b"RED", 3),
 ];
 
-const REFUSED: [Row; 31] = [
+const REFUSED: &[Row] = &[
     // arguments and values are no enumerations
     (
         "void m(){ paint(1); }",
@@ -149,12 +149,7 @@ const REFUSED: [Row; 31] = [
     ),
 ];
 
-#[test]
-fn enumerations_are_used_as_they_may_be(rt: HostRuntime) {
-    assert_eq!(rt; first_wrong(rt.alloc(), &HOST, 1, &REFUSED), None);
-}
-
-const UNDECLARED: [Row; 7] = [
+const UNDECLARED: &[Row] = &[
     (
         "class Color {}",
         Undeclared(ErrorKind::Duplicate, 1, 7, "Color"),
@@ -185,12 +180,7 @@ const UNDECLARED: [Row; 7] = [
     ),
 ];
 
-#[test]
-fn enumerations_are_declared_as_they_may_be(rt: HostRuntime) {
-    assert_eq!(rt; first_wrong(rt.alloc(), &HOST, 1, &UNDECLARED), None);
-}
-
-const HIDDEN: [Row; 4] = [
+const HIDDEN: &[Row] = &[
     (
         "void m(){ Color c; }",
         Refused(ErrorKind::UnknownType, 1, 11, "Color"),
@@ -209,12 +199,7 @@ const HIDDEN: [Row; 4] = [
     ),
 ];
 
-#[test]
-fn a_mask_hides_an_enumeration_and_its_values(rt: HostRuntime) {
-    assert_eq!(rt; first_wrong(rt.alloc(), &HOST, 2, &HIDDEN), None);
-}
-
-const BUILT: [Row; 13] = [
+const BUILT: &[Row] = &[
     (
         "int m() { Color c = BLUE; paint(c); paint(Color(9)); return c + Color::RED; }",
         Built,
@@ -269,13 +254,8 @@ const BUILT: [Row; 13] = [
     ),
 ];
 
-#[test]
-fn enumerations_stand_where_int_does(rt: HostRuntime) {
-    assert_eq!(rt; first_wrong(rt.alloc(), &HOST, 1, &BUILT), None);
-}
-
 /// The values that functions return, of which some are brought into an `int` or converted to `Shade` first.
-const VALUES: [Row; 4] = [
+const VALUES: &[Row] = &[
     ("Color m() { return Color::RED; }", Gives(1, 1)),
     (
         "Color m() { return BLUE; }",
@@ -285,7 +265,20 @@ const VALUES: [Row; 4] = [
     ("Shade m() { return Shade(Color::RED); }", Converts(4, 1, 1)),
 ];
 
-#[test]
-fn a_value_is_a_number_in_two_s_complement(rt: HostRuntime) {
-    assert_eq!(rt; first_wrong(rt.alloc(), &HOST, 1, &VALUES), None);
-}
+pub const CASES: &[Case] = &[
+    ("enumerations are used as they may be", HOST, 1, REFUSED),
+    (
+        "enumerations are declared as they may be",
+        HOST,
+        1,
+        UNDECLARED,
+    ),
+    (
+        "a mask hides an enumeration and its values",
+        HOST,
+        2,
+        HIDDEN,
+    ),
+    ("enumerations stand where `int` does", HOST, 1, BUILT),
+    ("a value is a number in two's complement", HOST, 1, VALUES),
+];

@@ -1,11 +1,9 @@
-//! Hosts as rows of a test, and what modules see of them.
+//! Hosts as rows of a test.
 
 use ang_kinds::Mask;
-use ang_registry::{Registry, View};
-use std::alloc::Global;
+use ang_registry::Registry;
 
 /// One registration.
-#[derive(Clone, Copy)]
 pub enum Line {
     /// The mask of what is registered from here on.
     Mask(u32),
@@ -44,14 +42,4 @@ pub fn are_taken(registry: &mut Registry, lines: &[Line]) -> bool {
         }
     }
     true
-}
-
-/// What a module of the mask sees of a host; nothing where a registration is refused.
-pub fn view_of(alloc: Global, host: &[Line], mask: u32) -> Option<View> {
-    let mut registry = Registry::new(alloc);
-    if are_taken(&mut registry, host) {
-        registry.seen(alloc, Mask(mask)).ok()
-    } else {
-        None
-    }
 }

@@ -20,3 +20,5 @@ mod outcomes;
 mod positions;
 #[cfg(test)]
 mod rows;
+#[cfg(test)]
+mod sections;

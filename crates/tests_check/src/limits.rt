@@ -1,14 +1,14 @@
 //! How many functions, globals, parameters and locals scripts may have.
+ghost use Rattle.std.specs.Prelude.{◌≡◌};
+ghost use Rattle.ang_view.specs.Registration.{seen};
 
-use crate::host::view_of;
 use crate::outcomes::Outcome::{Built, Declared, Refused, Undeclared};
 use crate::outcomes::{Outcome, becomes};
-use ang_kinds::ErrorKind;
-use ang_registry::View;
+use ang_kinds::{ErrorKind, Mask};
+use ang_registry::{Registry, View};
 use std::alloc::{AllocError, Global};
 
 /// A text that repeats a part with a number in it.
-#[derive(Clone, Copy)]
 struct Repeated {
     first: &'static str,
     before: &'static str,
@@ -68,17 +68,20 @@ fn put(alloc: Global, out: &mut String, text: &Repeated, to: usize) -> Result<()
     out.push_str(text.last)
 }
 
-fn holds(alloc: Global, view: &View, limit: &Limit) -> bool {
+fn holds(alloc: Global, registry: &Registry, view: &View, limit: &Limit) -> bool
+    requires view { view.now ≡ seen registry.now.entries 1 }
+{
     let (text, to, outcome) = limit;
     let mut out = String::new(alloc);
-    put(alloc, &mut out, text, *to).is_ok() && becomes(alloc, view, out.as_str(), outcome)
+    put(alloc, &mut out, text, *to).is_ok()
+        && becomes(alloc, registry, Mask(1), view, out.as_str(), outcome)
 }
 
 /// A text, the number that it ends before, and what becomes of it.
 type Limit = (&'static Repeated, usize, Outcome);
 
 /// Texts up to a limit and past it.
-const LIMITS: [Limit; 8] = [
+const LIMITS: &[Limit] = &[
     (FUNCTIONS, 4096, Declared),
     (
         FUNCTIONS,
@@ -98,9 +101,11 @@ const LIMITS: [Limit; 8] = [
 ];
 
 /// The number of the first text of which something else becomes.
-fn first_wrong(alloc: Global, view: &View) -> Option<usize> {
+fn first_wrong(alloc: Global, registry: &Registry, view: &View) -> Option<usize>
+    requires view { view.now ≡ seen registry.now.entries 1 }
+{
     for (at, limit) in LIMITS.iter().enumerate() {
-        if !holds(alloc, view, limit) {
+        if !holds(alloc, registry, view, limit) {
             return Some(at);
         }
     }
@@ -108,9 +113,10 @@ fn first_wrong(alloc: Global, view: &View) -> Option<usize> {
 }
 
 fn wrong_limit(alloc: Global) -> Option<usize> {
-    match view_of(alloc, &[], 1) {
-        Some(view) => first_wrong(alloc, &view),
-        None => Some(LIMITS.len()),
+    let registry = Registry::new(alloc);
+    match registry.seen(alloc, Mask(1)) {
+        Ok(view) => first_wrong(alloc, &registry, &view),
+        Err(_) => Some(LIMITS.len()),
     }
 }
 

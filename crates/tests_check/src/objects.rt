@@ -2,11 +2,11 @@
 
 use crate::host::Line;
 use crate::outcomes::Outcome::Refused;
-use crate::outcomes::{Row, first_wrong};
+use crate::outcomes::{Case, Row};
 use ang_kinds::ErrorKind;
 
 /// A type that is made without arguments too, and one that is made from a number alone.
-const HOST: [Line; 8] = [
+const HOST: &[Line] = &[
     Line::Type(b"Counter", 1),
     Line::Factory(b"Counter", 0, b"Counter@ f()"),
     Line::Method(b"Counter", 0, b"void bump()"),
@@ -17,7 +17,7 @@ const HOST: [Line; 8] = [
     Line::Function(2, 2, b"Cell@+ pick(Cell@+)"),
 ];
 
-const OBJECTS: [Row; 14] = [
+const OBJECTS: &[Row] = &[
     (
         "void m() { Cell x; }",
         Refused(ErrorKind::NoDefault, 1, 12, "Cell"),
@@ -76,7 +76,4 @@ const OBJECTS: [Row; 14] = [
     ),
 ];
 
-#[test]
-fn objects_are_used_as_they_may_be(rt: HostRuntime) {
-    assert_eq!(rt; first_wrong(rt.alloc(), &HOST, 1, &OBJECTS), None);
-}
+pub const CASES: &[Case] = &[("objects are used as they may be", HOST, 1, OBJECTS)];

@@ -185,7 +185,6 @@ const OTHER: ArgType = ArgType::Handle {
 };
 
 /// What is typed.
-#[derive(Clone, Copy)]
 enum Asked {
     /// The operator between values of these types.
     Between(ArgType, TokenKind, ArgType),
@@ -269,7 +268,7 @@ fn first_wrong(alloc: Global, rows: &[Row]) -> Option<usize> {
 }
 
 /// Two operands, the operator between them, and the type that they have together.
-const TYPES: [Row; 12] = [
+const TYPES: &[Row] = &[
     (
         Between(
             ArgType::Plain(Prim::I8),
@@ -368,13 +367,8 @@ const TYPES: [Row; 12] = [
     ),
 ];
 
-#[test]
-fn two_integers_work_in_their_common_type(rt: HostRuntime) {
-    assert_eq!(rt; first_wrong(rt.alloc(), &TYPES), None);
-}
-
 /// Two operands, the operator between them, and what is refused in which column.
-const REFUSALS: [Row; 7] = [
+const REFUSALS: &[Row] = &[
     (
         Between(
             ArgType::Plain(Prim::I32),
@@ -433,13 +427,8 @@ const REFUSALS: [Row; 7] = [
     ),
 ];
 
-#[test]
-fn the_first_operand_that_cannot_stand_is_named(rt: HostRuntime) {
-    assert_eq!(rt; first_wrong(rt.alloc(), &REFUSALS), None);
-}
-
 /// One operand.
-const RAISED: [Row; 6] = [
+const RAISED: &[Row] = &[
     (
         InFront(TokenKind::Minus, ArgType::Plain(Prim::U8)),
         Ok(ArgType::Plain(Prim::U32)),
@@ -463,13 +452,8 @@ const RAISED: [Row; 6] = [
     (Literal(b"0xFF"), Ok(ArgType::Plain(Prim::U32))),
 ];
 
-#[test]
-fn one_operand_is_raised(rt: HostRuntime) {
-    assert_eq!(rt; first_wrong(rt.alloc(), &RAISED), None);
-}
-
 /// What is changed.
-const TARGETS: [Row; 5] = [
+const TARGETS: &[Row] = &[
     (GroupCountedUp, Ok(ArgType::Plain(Prim::I8))),
     (ConstantCountedDown, Err(Some((ErrorKind::Const, 2)))),
     (Stored(I8, TokenKind::PlusAssign, I32), Ok(I8)),
@@ -483,13 +467,8 @@ const TARGETS: [Row; 5] = [
     ),
 ];
 
-#[test]
-fn a_target_is_a_variable_that_can_be_written(rt: HostRuntime) {
-    assert_eq!(rt; first_wrong(rt.alloc(), &TARGETS), None);
-}
-
 /// What stands in front of `is` or `!is` and after it, and what comes of it.
-const IDENTITIES: [Row; 8] = [
+const IDENTITIES: &[Row] = &[
     (Between(ArgType::Null, TokenKind::Is, HANDLE), Ok(BOOL)),
     (Between(ArgType::Null, TokenKind::NotIs, HANDLE), Ok(BOOL)),
     (Between(CELL, TokenKind::Is, OTHER), Ok(BOOL)),
@@ -512,13 +491,8 @@ const IDENTITIES: [Row; 8] = [
     ),
 ];
 
-#[test]
-fn identity_is_of_objects_handles_and_null(rt: HostRuntime) {
-    assert_eq!(rt; first_wrong(rt.alloc(), &IDENTITIES), None);
-}
-
 /// A variable's type, whether it is `const`, a value's type, and what comes of `@v = e`.
-const SEATS: [Row; 7] = [
+const SEATS: &[Row] = &[
     (Seated(HANDLE, false, HANDLE), Ok(HANDLE)),
     (Seated(HANDLE, false, CELL), Ok(HANDLE)),
     (Seated(HANDLE, false, ArgType::Null), Ok(HANDLE)),
@@ -540,13 +514,8 @@ const SEATS: [Row; 7] = [
     ),
 ];
 
-#[test]
-fn a_handle_is_put_in_the_place_of_another(rt: HostRuntime) {
-    assert_eq!(rt; first_wrong(rt.alloc(), &SEATS), None);
-}
-
 /// Objects that are assigned by value.
-const BY_VALUE: [Row; 2] = [
+const BY_VALUE: &[Row] = &[
     (
         Stored(CELL, TokenKind::Assign, CELL),
         Err(Some((ErrorKind::NoAssign, 4))),
@@ -557,13 +526,8 @@ const BY_VALUE: [Row; 2] = [
     ),
 ];
 
-#[test]
-fn objects_are_not_assigned_by_value(rt: HostRuntime) {
-    assert_eq!(rt; first_wrong(rt.alloc(), &BY_VALUE), None);
-}
-
 /// Two values and what comes of `c ? a : b`.
-const CHOICES: [Row; 12] = [
+const CHOICES: &[Row] = &[
     (
         Chosen(I32, ArgType::Plain(Prim::U32)),
         Ok(ArgType::Plain(Prim::U32)),
@@ -593,13 +557,8 @@ const CHOICES: [Row; 12] = [
     ),
 ];
 
-#[test]
-fn a_choice_has_the_type_of_both(rt: HostRuntime) {
-    assert_eq!(rt; first_wrong(rt.alloc(), &CHOICES), None);
-}
-
 /// Two operands of which one is of an enumeration, the operator between them, and what comes of it.
-const OF_ENUMERATIONS: [Row; 8] = [
+const OF_ENUMERATIONS: &[Row] = &[
     (Between(COLOR, TokenKind::Plus, COLOR), Ok(I32)),
     (Between(COLOR, TokenKind::ShiftLeft, I8), Ok(I32)),
     (Between(COLOR, TokenKind::Equal, SIDE), Ok(BOOL)),
@@ -622,13 +581,8 @@ const OF_ENUMERATIONS: [Row; 8] = [
     ),
 ];
 
-#[test]
-fn an_enumeration_is_worked_with_as_an_int(rt: HostRuntime) {
-    assert_eq!(rt; first_wrong(rt.alloc(), &OF_ENUMERATIONS), None);
-}
-
 /// One operand that is of an enumeration.
-const ONE_ENUMERATION: [Row; 5] = [
+const ONE_ENUMERATION: &[Row] = &[
     (InFront(TokenKind::Minus, COLOR), Ok(I32)),
     (
         InFront(TokenKind::At, COLOR),
@@ -642,13 +596,8 @@ const ONE_ENUMERATION: [Row; 5] = [
     (CountedUp(COLOR), Err(Some((ErrorKind::BadConversion, 2)))),
 ];
 
-#[test]
-fn one_enumeration_becomes_an_int_and_is_not_counted(rt: HostRuntime) {
-    assert_eq!(rt; first_wrong(rt.alloc(), &ONE_ENUMERATION), None);
-}
-
 /// A variable's type, the sign of an assignment, a value's type, and what comes of them.
-const STORED: [Row; 6] = [
+const STORED: &[Row] = &[
     (Stored(COLOR, TokenKind::Assign, COLOR), Ok(COLOR)),
     (Stored(I32, TokenKind::Assign, COLOR), Ok(I32)),
     (Stored(I8, TokenKind::PlusAssign, COLOR), Ok(I8)),
@@ -666,7 +615,26 @@ const STORED: [Row; 6] = [
     ),
 ];
 
+const CASES: &[(&str, &[Row])] = &[
+    ("two integers work in their common type", TYPES),
+    ("the first operand that cannot stand is named", REFUSALS),
+    ("one operand is raised", RAISED),
+    ("a target is a variable that can be written", TARGETS),
+    ("identity is of objects, handles and null", IDENTITIES),
+    ("a handle is put in the place of another", SEATS),
+    ("objects are not assigned by value", BY_VALUE),
+    ("a choice has the type of both", CHOICES),
+    ("an enumeration is worked with as an int", OF_ENUMERATIONS),
+    (
+        "one enumeration becomes an int and is not counted",
+        ONE_ENUMERATION,
+    ),
+    ("a value of an enumeration is put in its variables", STORED),
+];
+
 #[test]
-fn a_value_of_an_enumeration_is_put_in_its_variables(rt: HostRuntime) {
-    assert_eq!(rt; first_wrong(rt.alloc(), &STORED), None);
+fn operators_are_typed_by_their_operands(rt: HostRuntime) {
+    for (name, rows) in CASES {
+        assert_eq!(rt; first_wrong(rt.alloc(), rows), None, "{name}");
+    }
 }

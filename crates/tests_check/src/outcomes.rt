@@ -1,19 +1,25 @@
-//! What a section comes to, as rows of a test.
+//! What sections come to, as rows of a test.
+ghost use Rattle.std.specs.Prelude.{◌≡◌, [], option_copied, map as list_map};
+ghost use Rattle.ang_view.specs.Registration.{seen};
+ghost use Rattle.ang_names_listed.specs.Declarations.{declarations_of};
+ghost use Rattle.ang_names_listed.specs.Sources.{source_of};
+ghost use Rattle.ang_names.specs.Phases.{refusals_of};
+ghost use Rattle.ang_names_classes.specs.Resolved.{names_of};
+ghost use Rattle.ang_check.specs.Denials.{AreErrors};
 
-use crate::host::{Line, view_of};
-use ang_check::check;
-use ang_kinds::{EntityNo, Error, ErrorKind, Position, Prim, Unbuilt};
+use crate::host::{Line, are_taken};
+use ang_check::{check, denials};
+use ang_kinds::{Denial, EntityNo, Error, ErrorKind, Mask, Position, Prim, Unbuilt};
 use ang_lex::lex;
-use ang_names::declare;
+use ang_names::{Names, declare};
 use ang_parse::parse;
-use ang_registry::View;
+use ang_registry::{Registry, View};
 use ang_tree::Script;
 use ang_typed::{Typed, TypedExpression, TypedStatement};
-use std::alloc::Global;
+use std::alloc::{AllocError, Global};
 use std::slice;
 
 /// What becomes of a section that is read.
-#[derive(Clone, Copy)]
 pub enum Outcome {
     /// Its declarations have that error alone: its kind, line and column, and the name that it is about.
     Undeclared(ErrorKind, u32, u32, &'static str),
@@ -35,12 +41,18 @@ pub enum Outcome {
     Converts(u32, u32, u64),
     /// The statements of the body of that number stand at these lines and columns, from 0.
     Stands(usize, &'static [(u16, u16)]),
+    /// It is refused, and these hidden entries would have resolved a use: column, entry, and the masks of the entry
+    /// and of the module.
+    Denied(&'static [DenialRow]),
 }
+
+/// A denial as it is wanted, in the first line.
+pub type DenialRow = (u32, u32, u32, u32);
 
 /// A section, and what becomes of it.
 pub type Row = (&'static str, Outcome);
 
-pub fn script_of(alloc: Global, text: &[u8]) -> Option<Script> {
+fn script_of(alloc: Global, text: &[u8]) -> Option<Script> {
     let tokens = lex(alloc, text, 0).ok()?;
     parse(alloc, text, tokens.as_slice()).ok()
 }
@@ -85,12 +97,16 @@ fn are_at(errors: &[Error], wanted: &[(ErrorKind, u32)]) -> bool {
     errors.len() == wanted.len()
 }
 
-fn are_errors(errors: &[Error], outcome: &Outcome) -> bool {
+/// Whether these are all errors, of bodies where the declarations are accepted.
+fn are_errors(errors: &[Error], are_of_bodies: bool, outcome: &Outcome) -> bool {
     match outcome {
-        Outcome::Refused(kind, line, column, name) => {
-            is_only_error(errors, (*kind, *line, *column, name))
+        Outcome::Undeclared(kind, line, column, name) => {
+            !are_of_bodies && is_only_error(errors, (*kind, *line, *column, name))
         }
-        Outcome::Errors(wanted) => are_at(errors, wanted),
+        Outcome::Refused(kind, line, column, name) => {
+            are_of_bodies && is_only_error(errors, (*kind, *line, *column, name))
+        }
+        Outcome::Errors(wanted) => are_of_bodies && are_at(errors, wanted),
         _ => false,
     }
 }
@@ -208,54 +224,169 @@ fn is_module(module: &Typed, outcome: &Outcome) -> bool {
     }
 }
 
-fn is_of_bodies(checked: &Result<Typed, Unbuilt>, outcome: &Outcome) -> bool {
-    match checked {
-        Ok(module) => is_module(module, outcome),
-        Err(Unbuilt::Errors(errors)) => are_errors(errors.as_slice(), outcome),
+fn is_row(denial: &Denial, want: &DenialRow) -> bool {
+    denial.place.sect == 0
+        && denial.place.line == 1
+        && denial.place.column == want.0
+        && denial.entity.0 == want.1
+        && denial.entity_mask.0 == want.2
+        && denial.module_mask.0 == want.3
+}
+
+fn are_rows(denials: &[Denial], wanted: &[DenialRow]) -> bool {
+    for (at, denial) in denials.iter().enumerate() {
+        match wanted.get(at) {
+            Some(want) if is_row(denial, want) => {}
+            _ => return false,
+        }
+    }
+    denials.len() == wanted.len()
+}
+
+fn are_found(found: &Result<Vec<Denial>, AllocError>, wanted: &[DenialRow]) -> bool {
+    match found {
+        Ok(found) => are_rows(found.as_slice(), wanted),
+        Err(_) => false,
+    }
+}
+
+/// Whether a refusal has these errors, or these denials. The names are there where the declarations are accepted.
+fn is_refusal(
+    alloc: Global,
+    registry: &Registry,
+    mask: Mask,
+    scripts: &[Script],
+    names: Option<&Names>,
+    errors: &[Error],
+    outcome: &Outcome,
+) -> bool
+    requires errors { AreErrors (seen registry.now.entries mask.0)
+        (list_map source_of scripts.now) (option_copied names) errors.now }
+{
+    match outcome {
+        Outcome::Denied(wanted) => {
+            are_found(
+                &denials(alloc, registry, mask, scripts, names, errors),
+                wanted,
+            )
+        }
+        _ => are_errors(errors, names.is_some(), outcome),
+    }
+}
+
+/// Whether that becomes of scripts whose declarations are accepted.
+fn is_of_bodies(
+    alloc: Global,
+    registry: &Registry,
+    mask: Mask,
+    view: &View,
+    scripts: &[Script],
+    names: &Names,
+    outcome: &Outcome,
+) -> bool
+    requires view { view.now ≡ seen registry.now.entries mask.0 }
+    requires accepted { refusals_of view.now (list_map source_of scripts.now) ≡ [] }
+    requires names { names.now ≡ names_of view.now
+        (declarations_of (list_map source_of scripts.now)) }
+{
+    match check(alloc, view, names, scripts) {
+        Ok(module) => is_module(&module, outcome),
+        Err(Unbuilt::Errors(errors)) => {
+            let errors = errors.as_slice();
+            is_refusal(alloc, registry, mask, scripts, Some(names), errors, outcome)
+        }
         Err(Unbuilt::Memory) => false,
     }
 }
 
-fn is_of_declarations(refused: &Unbuilt, outcome: &Outcome) -> bool {
-    match (refused, outcome) {
-        (Unbuilt::Errors(errors), Outcome::Undeclared(kind, line, column, name)) => {
-            is_only_error(errors.as_slice(), (*kind, *line, *column, name))
-        }
-        _ => false,
-    }
-}
-
-fn comes_to(alloc: Global, view: &View, scripts: &[Script], outcome: &Outcome) -> bool {
+/// Whether that becomes of scripts.
+fn comes_to(
+    alloc: Global,
+    registry: &Registry,
+    mask: Mask,
+    view: &View,
+    scripts: &[Script],
+    outcome: &Outcome,
+) -> bool
+    requires view { view.now ≡ seen registry.now.entries mask.0 }
+{
     match declare(alloc, view, scripts) {
         Ok(names) => {
             matches!(outcome, Outcome::Declared)
-                || is_of_bodies(&check(alloc, view, &names, scripts), outcome)
+                || is_of_bodies(alloc, registry, mask, view, scripts, &names, outcome)
         }
-        Err(refused) => is_of_declarations(&refused, outcome),
+        Err(Unbuilt::Errors(errors)) => {
+            let errors = errors.as_slice();
+            is_refusal(alloc, registry, mask, scripts, None, errors, outcome)
+        }
+        Err(Unbuilt::Memory) => false,
     }
 }
 
-/// Whether that becomes of a section, which has to be read.
-pub fn becomes(alloc: Global, view: &View, text: &str, outcome: &Outcome) -> bool {
+/// Whether that becomes of a section, which has to be read, in a module of that mask.
+pub fn becomes(
+    alloc: Global,
+    registry: &Registry,
+    mask: Mask,
+    view: &View,
+    text: &str,
+    outcome: &Outcome,
+) -> bool
+    requires view { view.now ≡ seen registry.now.entries mask.0 }
+{
     match script_of(alloc, text.as_bytes()) {
-        Some(script) => comes_to(alloc, view, slice::from_ref(&script), outcome),
+        Some(script) => {
+            comes_to(
+                alloc,
+                registry,
+                mask,
+                view,
+                slice::from_ref(&script),
+                outcome,
+            )
+        }
         None => false,
     }
 }
 
-fn first_wrong_under(alloc: Global, view: &View, rows: &[Row]) -> Option<&'static str> {
+/// A name, a host, the mask of a module, and sections.
+pub type Case = (&'static str, &'static [Line], u32, &'static [Row]);
+
+fn first_wrong_seen(
+    alloc: Global,
+    registry: &Registry,
+    mask: Mask,
+    view: &View,
+    rows: &[Row],
+) -> Option<&'static str>
+    requires view { view.now ≡ seen registry.now.entries mask.0 }
+{
     for (text, outcome) in rows {
-        if !becomes(alloc, view, text, outcome) {
+        if !becomes(alloc, registry, mask, view, text, outcome) {
             return Some(text);
         }
     }
     None
 }
 
-/// The first section of which something else becomes, in a module of that mask.
-pub fn first_wrong(alloc: Global, host: &[Line], mask: u32, rows: &[Row]) -> Option<&'static str> {
-    match view_of(alloc, host, mask) {
-        Some(view) => first_wrong_under(alloc, &view, rows),
-        None => Some("the host is refused"),
+fn first_wrong_of(
+    alloc: Global,
+    registry: &Registry,
+    mask: Mask,
+    rows: &[Row],
+) -> Option<&'static str> {
+    match registry.seen(alloc, mask) {
+        Ok(view) => first_wrong_seen(alloc, registry, mask, &view, rows),
+        Err(_) => Some("there is no memory"),
+    }
+}
+
+/// The first section of which something else becomes.
+pub fn first_wrong(alloc: Global, case: &Case) -> Option<&'static str> {
+    let mut registry = Registry::new(alloc);
+    if are_taken(&mut registry, case.1) {
+        first_wrong_of(alloc, &registry, Mask(case.2), case.3)
+    } else {
+        Some("the host is refused")
     }
 }

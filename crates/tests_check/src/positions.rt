@@ -2,11 +2,11 @@
 
 use crate::host::Line;
 use crate::outcomes::Outcome::Stands;
-use crate::outcomes::{Row, first_wrong};
+use crate::outcomes::{Case, Row};
 
-const HOST: [Line; 0] = [];
+const HOST: &[Line] = &[];
 
-const FUNCTIONS: [Row; 7] = [
+const FUNCTIONS: &[Row] = &[
     ("void f() {}", Stands(0, &[])),
     (
         "void f() { int a = 1, b; a = b; ; const int c = 2; }",
@@ -46,12 +46,7 @@ const FUNCTIONS: [Row; 7] = [
     ),
 ];
 
-#[test]
-fn statements_stand_at_their_first_tokens(rt: HostRuntime) {
-    assert_eq!(rt; first_wrong(rt.alloc(), &HOST, 1, &FUNCTIONS), None);
-}
-
-const MEMBERS: [Row; 5] = [
+const MEMBERS: &[Row] = &[
     ("class A { A() { int a; } }", Stands(0, &[(0, 16), (0, 23)])),
     (
         "class A { A(int a) {} } class B : A { B() { super(1); ; } }",
@@ -71,7 +66,12 @@ const MEMBERS: [Row; 5] = [
     ),
 ];
 
-#[test]
-fn constructors_begin_at_super_and_end_at_the_brace(rt: HostRuntime) {
-    assert_eq!(rt; first_wrong(rt.alloc(), &HOST, 1, &MEMBERS), None);
-}
+pub const CASES: &[Case] = &[
+    ("statements stand at their first tokens", HOST, 1, FUNCTIONS),
+    (
+        "constructors begin at `super` and end at the brace",
+        HOST,
+        1,
+        MEMBERS,
+    ),
+];

@@ -2,12 +2,12 @@
 
 use crate::host::Line;
 use crate::outcomes::Outcome::{Built, Calls, Errors, Refused};
-use crate::outcomes::{Row, first_wrong};
+use crate::outcomes::{Case, Row};
 use ang_kinds::ErrorKind;
 
 /// `void put(int64)` under 00000003 (entry 0), and under 00000001 `void put(int)`, `const int64 limit`, `int64 reg` and
 /// `int64 sum(int64, int64)`.
-const HOST: [Line; 7] = [
+const HOST: &[Line] = &[
     Line::Mask(3),
     Line::Function(0, 0, b"void put(int64)"),
     Line::Mask(1),
@@ -17,7 +17,7 @@ const HOST: [Line; 7] = [
     Line::Function(0, 1, b"int64 sum(int64, int64)"),
 ];
 
-const BODIES: [Row; 16] = [
+const BODIES: &[Row] = &[
     (
         "void m() { if (1) {} }",
         Refused(ErrorKind::NotBool, 1, 16, ""),
@@ -86,12 +86,7 @@ const BODIES: [Row; 16] = [
     ),
 ];
 
-#[test]
-fn bodies_give_their_first_refusal(rt: HostRuntime) {
-    assert_eq!(rt; first_wrong(rt.alloc(), &HOST, 1, &BODIES), None);
-}
-
-const LOCALS: [Row; 11] = [
+const LOCALS: &[Row] = &[
     (
         "void m() { int x; int x; }",
         Refused(ErrorKind::Duplicate, 1, 23, "x"),
@@ -138,12 +133,7 @@ const LOCALS: [Row; 11] = [
     ),
 ];
 
-#[test]
-fn locals_are_known_in_their_block(rt: HostRuntime) {
-    assert_eq!(rt; first_wrong(rt.alloc(), &HOST, 1, &LOCALS), None);
-}
-
-const ORDER: [Row; 5] = [
+const ORDER: &[Row] = &[
     (
         "void m() { if (a) b; else c; }",
         Refused(ErrorKind::UnknownName, 1, 16, "a"),
@@ -166,12 +156,7 @@ const ORDER: [Row; 5] = [
     ),
 ];
 
-#[test]
-fn parts_are_judged_in_the_order_of_the_text(rt: HostRuntime) {
-    assert_eq!(rt; first_wrong(rt.alloc(), &HOST, 1, &ORDER), None);
-}
-
-const SEVERAL: [Row; 1] = [(
+const SEVERAL: &[Row] = &[(
     "void a() { break; break; } int g = true, h = z; int b() { g = 1; }",
     Errors(&[
         (ErrorKind::Jump, 12),
@@ -181,15 +166,10 @@ const SEVERAL: [Row; 1] = [(
     ]),
 )];
 
-#[test]
-fn each_body_and_initializer_gives_one_error(rt: HostRuntime) {
-    assert_eq!(rt; first_wrong(rt.alloc(), &HOST, 1, &SEVERAL), None);
-}
-
 /// What a module of the mask 1 calls, and one of the mask 2.
-const FOR_ONE: [Row; 1] = [("void main(){ put(5); }", Calls(1))];
+const FOR_ONE: &[Row] = &[("void main(){ put(5); }", Calls(1))];
 
-const FOR_TWO: [Row; 2] = [
+const FOR_TWO: &[Row] = &[
     ("void main(){ put(5); }", Calls(0)),
     (
         "void main(){ sum(1, 2); }",
@@ -197,8 +177,21 @@ const FOR_TWO: [Row; 2] = [
     ),
 ];
 
-#[test]
-fn the_mask_decides_which_function_is_called(rt: HostRuntime) {
-    assert_eq!(rt; first_wrong(rt.alloc(), &HOST, 1, &FOR_ONE), None);
-    assert_eq!(rt; first_wrong(rt.alloc(), &HOST, 2, &FOR_TWO), None);
-}
+pub const CASES: &[Case] = &[
+    ("bodies give their first refusal", HOST, 1, BODIES),
+    ("locals are known in their block", HOST, 1, LOCALS),
+    ("parts are judged in the order of the text", HOST, 1, ORDER),
+    (
+        "each body and initializer gives one error",
+        HOST,
+        1,
+        SEVERAL,
+    ),
+    (
+        "the mask decides which function is called",
+        HOST,
+        1,
+        FOR_ONE,
+    ),
+    ("another mask decides otherwise", HOST, 2, FOR_TWO),
+];

@@ -1,20 +1,23 @@
-//! Tests of the way from resolved trees to code, by public calls: core trees and how code asks entries, the
-//! generator of bodies, whole modules, and numbers.
+//! Tests of the way from resolved trees to code, by public calls: core trees and how code asks entries, whole modules,
+//! and numbers.
 #![tactic(auto)]
 
+/// A list that is written without one line for each item.
+macro_rules! list {
+    ($($item:expr),* $(,)?) => {
+        &[$($item),*]
+    };
+}
+
 #[cfg(test)]
-mod bodies;
-#[cfg(test)]
-mod forms;
+mod lowered;
 #[cfg(test)]
 mod modules;
 #[cfg(test)]
 mod numbers;
 #[cfg(test)]
-mod objects;
-#[cfg(test)]
 mod shown;
 #[cfg(test)]
-mod trees;
-#[cfg(test)]
 mod uses;
+#[cfg(test)]
+mod written;

@@ -1,62 +1,49 @@
-//! A small module, with the code that docs/CLAIMS.md ("Code") gives for it.
+//! Small modules, with the code that docs/CLAIMS.md ("Code") gives for each construct.
+use crate::written::Step::{
+    At, Begin, Break, Call, Choose, Continue, Count, Declare, DoWhile, Evaluate, If, Local, Number,
+    Out, Return, Truth, Two, Value, While,
+};
+use crate::written::Two::{Compare, Operate};
+use crate::written::{INT, Step, Written, module};
 use ang_code::{Instruction, Mark, RoutineCode};
 use ang_gen::generate_module;
-use ang_kinds::{Comparison, List, Operator, Pass, Position, Prim};
+use ang_kinds::{Comparison, Operator, Pass, Position, Prim};
 use ang_lower::lower;
 use ang_meaning::{Callee, Operation, Passing, Update};
-use ang_typed::{
-    Global as GlobalVariable, StepKind, Typed, TypedBlock, TypedExpression, TypedFunction,
-    TypedLoop, TypedParameter, TypedSite, TypedStatement, TypedVariable,
-};
+use ang_typed::{StepKind, TypedCallee, TypedParameter, TypedVariable};
 use ang_types::ArgType;
 use std::alloc::{AllocError, Global};
 
-const INT: ArgType = ArgType::Plain(Prim::I32);
+// ---- modules
 
-fn boxed(alloc: Global, e: TypedExpression) -> Result<Box<TypedExpression>, AllocError> {
-    Ok(Box::new(alloc, e)?)
-}
+const IN: TypedParameter = TypedParameter {
+    ty: INT,
+    pass: Pass::Value,
+};
 
-fn number(alloc: Global, value: u64) -> Result<Box<TypedExpression>, AllocError> {
-    let ty = Prim::I32;
-    boxed(alloc, TypedExpression::Number { ty, value })
-}
+/// `int f() {}`
+const NOTHING: Written = Written {
+    parameters: &[],
+    result: INT,
+    statements: &[],
+    positions: &[],
+    globals: &[],
+};
 
-/// The parameter n, which is local 0.
-const N: TypedSite = TypedSite::Named(TypedVariable::Local(0));
+/// `void f(int n) { while (n > 0) { --n; } } int a; int b = 5;`
+const LOOPING: Written = Written {
+    parameters: &[IN],
+    result: ArgType::Void,
+    statements: list! {
+        Local(0), Number(0), Two(Compare(Comparison::Greater)),
+        Begin, At(TypedVariable::Local(0)), Count(StepKind::DecrementBefore), Evaluate,
+        While,
+    },
+    positions: POSITIONS,
+    globals: list! { &[], &[Number(5)] },
+};
 
-/// `n > 0`
-fn positive(alloc: Global) -> Result<Box<TypedExpression>, AllocError> {
-    let right = number(alloc, 0)?;
-    let left = boxed(alloc, TypedExpression::Read { site: N, ty: INT })?;
-    boxed(
-        alloc,
-        TypedExpression::Compare {
-            comparison: Comparison::Greater,
-            ty: Prim::I32,
-            left,
-            right,
-        },
-    )
-}
-
-/// `--n;`
-fn less(alloc: Global) -> Result<TypedStatement, AllocError> {
-    let step = StepKind::DecrementBefore;
-    let ty = Prim::I32;
-    let e = boxed(alloc, TypedExpression::Step { site: N, ty, step })?;
-    Ok(TypedStatement::Expression(Some(e)))
-}
-
-/// `while (n > 0) { --n; }`
-fn repeated(alloc: Global) -> Result<Box<TypedLoop>, AllocError> {
-    let statements = vec![in alloc; less(alloc)?]?;
-    let condition = positive(alloc)?;
-    let body = TypedBlock { statements };
-    Ok(Box::new(alloc, TypedLoop { condition, body })?)
-}
-
-/// Where `while` and `--n` stand in the text of `looping`.
+/// Where `while` and `--n` stand in the text.
 const POSITIONS: &[Position] = &[
     Position {
         line: 0,
@@ -68,55 +55,49 @@ const POSITIONS: &[Position] = &[
     },
 ];
 
-/// `void f(int n) { while (n > 0) { --n; } }`
-fn looping(alloc: Global) -> Result<TypedFunction, AllocError> {
-    let ty = INT;
-    let pass = Pass::Value;
-    let positions = Vec::from_slice(alloc, POSITIONS)?;
-    let parameters = vec![in alloc; TypedParameter { ty, pass }]?;
-    let statements = vec![in alloc; TypedStatement::While(repeated(alloc)?)]?;
-    Ok(TypedFunction {
-        parameters: List::from_vec(parameters),
-        result: ArgType::Void,
-        body: TypedBlock { statements },
-        positions: List::from_vec(positions),
-    })
-}
+/// `return b ? a : 2;` with the parameters a and b.
+const CHOOSING: Written = Written {
+    parameters: &[IN, IN],
+    statements: list! { Local(1), Local(0), Number(2), Choose, Return },
+    ..NOTHING
+};
 
-/// `int a; int b = 5;`
-fn globals(alloc: Global) -> Result<Vec<GlobalVariable>, AllocError> {
-    let mut globals = Vec::with_capacity(alloc, 2)?;
-    globals.push(GlobalVariable {
-        ty: INT,
-        initializer: None,
-    })?;
-    globals.push(GlobalVariable {
-        ty: INT,
-        initializer: Some(number(alloc, 5)?),
-    })?;
-    Ok(globals)
-}
+/// `while (b) { int x = 7; if (b) break; else continue; }` with the parameter b.
+const LEAVING: Written = Written {
+    parameters: &[IN],
+    statements: list! {
+        Local(0), Begin, Number(7), Declare, Local(0), Begin, Break, Begin, Continue, If, While,
+    },
+    ..NOTHING
+};
 
-/// The module of these.
-fn module(alloc: Global) -> Result<Typed, AllocError> {
-    let functions = vec![in alloc; looping(alloc)?]?;
-    let globals = globals(alloc)?;
-    Ok(Typed {
-        functions: List::from_vec(functions),
-        globals: List::from_vec(globals),
-        classes: List::from_vec(Vec::new(alloc)),
-        methods: List::from_vec(Vec::new(alloc)),
-        imports: List::from_vec(Vec::new(alloc)),
-    })
-}
+/// `if (b) return 7;` with the parameter b.
+const RETURNING: Written = Written {
+    parameters: &[IN],
+    statements: list! { Local(0), Begin, Number(7), Return, Begin, If },
+    ..NOTHING
+};
 
-/// The code of a module that is not used again.
-fn codes_of(alloc: Global, module: Typed) -> Result<Vec<RoutineCode>, AllocError> {
-    generate_module(alloc, lower(alloc, &module)?)
-}
+/// `do { } while (true);`
+const REPEATING: Written = Written {
+    statements: list! { Begin, Truth(true), DoWhile },
+    ..NOTHING
+};
+
+/// `1 - f(a, a);` where the second parameter of f is `&out`, with the parameter a.
+const CALLING: Written = Written {
+    parameters: &[IN],
+    statements: list! {
+        Number(1), Local(0), Value, Out(TypedVariable::Local(0), INT, INT), Call(TypedCallee::Own(3)),
+        Two(Operate(Operator::Subtract)), Evaluate,
+    },
+    ..NOTHING
+};
+
+// ---- codes
 
 /// How code takes its arguments, the primitive type of its value, its height, and its instructions.
-pub type Code = (
+type Code = (
     &'static [Passing],
     Option<Prim>,
     usize,
@@ -130,7 +111,8 @@ const LESS: Update = Update {
     old: false,
 };
 
-const LOOPING: Code = (
+/// The jump back of a loop is the loop's own, though it stands after the loop's body.
+const LOOPED: Code = (
     &[Passing::In],
     None,
     2,
@@ -162,11 +144,118 @@ const INITIALIZER: Code = (
     ],
 );
 
-const CODES: [Code; 2] = [LOOPING, INITIALIZER];
+const CHOICE: &[Instruction] = &[
+    Instruction::Load(0),
+    Instruction::JumpIfFalse(2),
+    Instruction::Load(1),
+    Instruction::Jump(1),
+    Instruction::PushBits(2),
+    Instruction::Return(0),
+    Instruction::PushBits(0),
+    Instruction::Return(0),
+];
 
-/// For each code the first instruction of each mark, and the column of its statement. The jump back of a loop is the
-/// loop's own, though it stands after the loop's body.
-const MARKS: [&[(u32, u16)]; 2] = [&[(0, 16), (5, 32), (8, 16)], &[]];
+const LOOP_LEFT: &[Instruction] = &[
+    Instruction::Tick,
+    Instruction::Load(0),
+    Instruction::JumpIfFalse(10),
+    Instruction::PushBits(7),
+    Instruction::Load(1),
+    Instruction::JumpIfFalse(3),
+    Instruction::Leave(1),
+    Instruction::Jump(5),
+    Instruction::Jump(2),
+    Instruction::Leave(1),
+    Instruction::Jump(1),
+    Instruction::Leave(1),
+    Instruction::LoopBack(11),
+    Instruction::PushBits(0),
+    Instruction::Return(0),
+];
+
+const CHOICE_WITHOUT_ELSE: &[Instruction] = &[
+    Instruction::Load(0),
+    Instruction::JumpIfFalse(2),
+    Instruction::PushBits(7),
+    Instruction::Return(0),
+    Instruction::PushBits(0),
+    Instruction::Return(0),
+];
+
+const DO_LOOP: &[Instruction] = &[
+    Instruction::Jump(3),
+    Instruction::Tick,
+    Instruction::PushBits(1),
+    Instruction::JumpIfFalse(1),
+    Instruction::LoopBack(2),
+    Instruction::PushBits(0),
+    Instruction::Return(0),
+];
+
+/// Operands from left to right.
+const CALL: &[Instruction] = &[
+    Instruction::PushBits(1),
+    Instruction::Load(1),
+    Instruction::PushBits(0),
+    Instruction::Enter(Callee::Own(3)),
+    Instruction::Swap {
+        to: Some(Prim::I32),
+        under: 1,
+        with: 3,
+    },
+    Instruction::DropUnder(1),
+    Instruction::Apply(Operation::Binary(Operator::Subtract, Prim::I32)),
+    Instruction::Drop,
+    Instruction::PushBits(0),
+    Instruction::Return(0),
+];
+
+/// The first instruction of each mark of a code, and the column of its statement.
+type Marks = &'static [(u32, u16)];
+
+/// A module, its codes, and the marks of each, if the module says where its statements stand.
+type Row = (&'static str, Written, &'static [Code], &'static [Marks]);
+
+const ROWS: &[Row] = &[
+    (
+        "a function and an initializer",
+        LOOPING,
+        &[LOOPED, INITIALIZER],
+        &[&[(0, 16), (5, 32), (8, 16)], &[]],
+    ),
+    (
+        "a choice of values",
+        CHOOSING,
+        &[(&[Passing::In, Passing::In], Some(Prim::I32), 1, CHOICE)],
+        &[],
+    ),
+    (
+        "a loop that is left",
+        LEAVING,
+        &[(&[Passing::In], Some(Prim::I32), 2, LOOP_LEFT)],
+        &[],
+    ),
+    (
+        "an `if` without `else`",
+        RETURNING,
+        &[(&[Passing::In], Some(Prim::I32), 1, CHOICE_WITHOUT_ELSE)],
+        &[],
+    ),
+    (
+        "a loop that tests last",
+        REPEATING,
+        &[(&[], Some(Prim::I32), 1, DO_LOOP)],
+        &[],
+    ),
+    (
+        "a call with `&out`",
+        CALLING,
+        &[(&[Passing::In], Some(Prim::I32), 3, CALL)],
+        &[],
+    ),
+];
+
+// ---- what they come to
 
 fn is_same_operation(one: Operation, other: Operation) -> bool {
     match (one, other) {
@@ -233,25 +322,13 @@ fn is_code(code: &RoutineCode, want: Option<&Code>) -> bool {
 }
 
 /// The place of the first code that is not the one that is wanted, or that one of the two lists lacks.
-pub fn first_unlike(codes: &[RoutineCode], wanted: &[Code]) -> Option<usize> {
+fn first_unlike(codes: &[RoutineCode], wanted: &[Code]) -> Option<usize> {
     for (at, code) in codes.iter().enumerate() {
         if !is_code(code, wanted.get(at)) {
             return Some(at);
         }
     }
     (codes.len() < wanted.len()).then_some(codes.len())
-}
-
-fn first_wrong(alloc: Global, module: Typed) -> Result<Option<usize>, AllocError> {
-    let codes = codes_of(alloc, module)?;
-    Ok(first_unlike(&codes, &CODES))
-}
-
-#[test]
-fn functions_and_then_initializers(rt: HostRuntime) -> Result<(), AllocError> {
-    let wrong = first_wrong(rt.alloc(), module(rt.alloc())?)?;
-    assert_eq!(rt; wrong, None);
-    Ok(())
 }
 
 fn are_marks(marks: &[Mark], wanted: &[(u32, u16)]) -> bool {
@@ -264,20 +341,48 @@ fn are_marks(marks: &[Mark], wanted: &[(u32, u16)]) -> bool {
     marks.len() == wanted.len()
 }
 
+/// What of a module's codes is not as it should be.
+#[derive(Clone, Copy, PartialEq, Eq, Debug)]
+enum Wrong {
+    /// The code of that number.
+    Code(usize),
+    /// The marks of a code.
+    Marks,
+}
+
 /// Whether each code has the marks that are wanted.
-fn are_marked(codes: &[RoutineCode]) -> bool {
+fn are_marked(codes: &[RoutineCode], wanted: &[Marks]) -> bool {
     for (at, code) in codes.iter().enumerate() {
-        match MARKS.get(at) {
-            Some(wanted) if are_marks(code.marks.as_slice(), wanted) => {}
+        match wanted.get(at) {
+            Some(marks) if are_marks(code.marks.as_slice(), marks) => {}
             _ => return false,
         }
     }
-    codes.len() == MARKS.len()
+    codes.len() == wanted.len()
+}
+
+fn wrong_of(codes: &[RoutineCode], row: &Row) -> Option<Wrong> {
+    match first_unlike(codes, row.2) {
+        Some(at) => Some(Wrong::Code(at)),
+        None if row.1.positions.is_empty() => None,
+        None => (!are_marked(codes, row.3)).then_some(Wrong::Marks),
+    }
+}
+
+fn codes_of(alloc: Global, written: &Written) -> Result<Vec<RoutineCode>, AllocError> {
+    let module = module(alloc, written)?;
+    generate_module(alloc, lower(alloc, &module)?)
+}
+
+fn wrong_in(alloc: Global, row: &Row) -> Result<Option<Wrong>, AllocError> {
+    let codes = codes_of(alloc, &row.1)?;
+    Ok(wrong_of(codes.as_slice(), row))
 }
 
 #[test]
-fn instructions_are_of_the_innermost_statement(rt: HostRuntime) -> Result<(), AllocError> {
-    let codes = codes_of(rt.alloc(), module(rt.alloc())?)?;
-    assert!(rt; are_marked(codes.as_slice()));
+fn modules_have_their_code(rt: HostRuntime) -> Result<(), AllocError> {
+    for row in ROWS {
+        assert_eq!(rt; wrong_in(rt.alloc(), row)?, None, "{}", row.0);
+    }
     Ok(())
 }

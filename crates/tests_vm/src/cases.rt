@@ -1,9 +1,10 @@
 //! Runs of code, beside what they are to give and to list.
 use crate::program::table;
 use crate::runs::Turn::{Call, Faults, Gives, Initializes};
-use crate::runs::{Case, Turn, wrong_in};
+use crate::runs::{Case, Turn, Wrong, wrong_in};
 use ang_kinds::Fault;
-use std::test::Fail;
+use ang_vm_stack::table::Table;
+use std::alloc::{AllocError, Global};
 
 const A: u32 = 1;
 
@@ -149,27 +150,31 @@ const SCRIPT_OBJECTS: &[Case] = list! {
         "host c 7 2 - (1) made #0 / end 2 #0"),
 };
 
-#[test]
-fn host_objects_end_at_their_places(rt: HostRuntime) -> Result<(), Fail> {
-    let table = table(rt.alloc())?;
-    for case in HOST_OBJECTS {
-        assert_eq!(rt; wrong_in(rt.alloc(), &table, case)?, None, "{}", case.0);
+const CASES: &[&[Case]] = &[&[CASE], HOST_OBJECTS, SCRIPT_OBJECTS];
+
+/// The first case that is not as it should be.
+fn first_wrong(
+    alloc: Global,
+    table: &Table,
+    cases: &[Case],
+) -> Result<Option<(&'static str, Wrong)>, AllocError> {
+    for case in cases {
+        if let Some(wrong) = wrong_in(alloc, table, case)? {
+            return Ok(Some((case.0, wrong)));
+        }
     }
-    Ok(())
+    Ok(None)
+}
+
+fn wrong_case(alloc: Global, cases: &[Case]) -> Result<Option<(&'static str, Wrong)>, AllocError> {
+    let table = table(alloc)?;
+    first_wrong(alloc, &table, cases)
 }
 
 #[test]
-fn script_objects_end_with_their_fields(rt: HostRuntime) -> Result<(), Fail> {
-    let table = table(rt.alloc())?;
-    for case in SCRIPT_OBJECTS {
-        assert_eq!(rt; wrong_in(rt.alloc(), &table, case)?, None, "{}", case.0);
+fn runs_give_and_ask_and_end_objects(rt: HostRuntime) -> Result<(), AllocError> {
+    for cases in CASES {
+        assert_eq!(rt; wrong_case(rt.alloc(), cases)?, None);
     }
-    Ok(())
-}
-
-#[test]
-fn runs_give_and_ask(rt: HostRuntime) -> Result<(), Fail> {
-    let table = table(rt.alloc())?;
-    assert_eq!(rt; wrong_in(rt.alloc(), &table, &CASE)?, None);
     Ok(())
 }

@@ -1,4 +1,5 @@
 //! What the host registers: sample drivers by the numbers of their entities, and instructions that ask them.
+use crate::program::put;
 use ang_code::Instruction;
 use ang_host::Role;
 use ang_kinds::{EntityNo, List, Prim};
@@ -115,7 +116,7 @@ fn entity(alloc: Global, row: &Option<Entity>) -> Result<Option<HostUse>, AllocE
 pub fn entities(alloc: Global) -> Result<Vec<Option<HostUse>>, AllocError> {
     let mut entities = Vec::new(alloc);
     for row in &ENTITIES {
-        entities.push(entity(alloc, row)?)?;
+        put(&mut entities, entity(alloc, row)?)?;
     }
     Ok(entities)
 }

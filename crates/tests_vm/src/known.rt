@@ -4,7 +4,7 @@ use ang_kinds::Prim::I64;
 use ang_vm_stack::step::Step;
 
 /// Each from place 7 on, where 5 and 3 are in use.
-pub const KNOWN: [Row; 83] = [
+pub const KNOWN: &[Row] = &[
     (Step::AddLocals64(1, 0), (10, 3, 5, 3, 8)),
     (Step::SubtractLocals64(1, 0), (10, 3, 5, 3, 2)),
     (Step::MultiplyLocals64(1, 0), (10, 3, 5, 3, 15)),

@@ -47,6 +47,11 @@ pub struct Module {
 /// The modules, by number.
 const MODULES: [Module; 4] = [NUMBERS, HANDLES, EXPORTER, CLASSES];
 
+/// One item more.
+pub fn put<T: Drop>(items: &mut Vec<T>, item: T) -> Result<(), AllocError> {
+    Ok(items.push(item)?)
+}
+
 fn body(alloc: Global, ty: Option<Prim>, text: &Text) -> Result<LoadedBody, AllocError> {
     let code = RoutineCode {
         params: text.0.to_vec(alloc)?,
@@ -61,7 +66,7 @@ fn body(alloc: Global, ty: Option<Prim>, text: &Text) -> Result<LoadedBody, Allo
 fn bodies(alloc: Global, written: &Module) -> Result<Vec<LoadedBody>, AllocError> {
     let mut bodies = Vec::new(alloc);
     for text in written.texts {
-        bodies.push(body(alloc, written.result, text)?)?;
+        put(&mut bodies, body(alloc, written.result, text)?)?;
     }
     Ok(bodies)
 }
@@ -69,10 +74,11 @@ fn bodies(alloc: Global, written: &Module) -> Result<Vec<LoadedBody>, AllocError
 fn imports(alloc: Global, rows: &[ImportRow]) -> Result<Vec<LinkedImport>, AllocError> {
     let mut imports = Vec::new(alloc);
     for (params, bound) in rows {
-        imports.push(LinkedImport {
+        let import = LinkedImport {
             params: Vec::from_slice(alloc, params)?,
             bound: *bound,
-        })?;
+        };
+        put(&mut imports, import)?;
     }
     Ok(imports)
 }
@@ -105,7 +111,7 @@ fn classes(alloc: Global, home: u32, rows: &[ClassRow]) -> Result<Vec<ClassCode>
     for (number, row) in rows.iter().enumerate() {
         let class = class(alloc, number, row)?;
         let methods = methods(alloc, home, row.3)?;
-        classes.push(ClassCode { class, methods })?;
+        put(&mut classes, ClassCode { class, methods })?;
     }
     Ok(classes)
 }
@@ -113,13 +119,13 @@ fn classes(alloc: Global, home: u32, rows: &[ClassRow]) -> Result<Vec<ClassCode>
 fn slots(alloc: Global, rows: &[&[Passing]]) -> Result<Vec<Vec<Passing>>, AllocError> {
     let mut slots = Vec::new(alloc);
     for params in rows {
-        slots.push(Vec::from_slice(alloc, params)?)?;
+        put(&mut slots, Vec::from_slice(alloc, params)?)?;
     }
     Ok(slots)
 }
 
 /// The code of a module.
-pub fn module_code(alloc: Global, home: u32, written: &Module) -> Result<ModuleCode, AllocError> {
+fn module_code(alloc: Global, home: u32, written: &Module) -> Result<ModuleCode, AllocError> {
     Ok(ModuleCode {
         name: vec![in alloc; written.name; 1]?,
         bodies: bodies(alloc, written)?,
@@ -130,20 +136,30 @@ pub fn module_code(alloc: Global, home: u32, written: &Module) -> Result<ModuleC
     })
 }
 
-/// The table of all modules, each of which sees all entities.
-pub fn table(alloc: Global) -> Result<Table, AllocError> {
+/// The table of these modules, each of which sees all entities.
+pub fn table_of(alloc: Global, written: &[Module]) -> Result<Table, AllocError> {
     let mut modules = Vec::new(alloc);
-    for (home, written) in MODULES.iter().enumerate() {
-        modules.push(module_code(alloc, home as u32, written)?)?;
+    let mut home: u32 = 0;
+    for module in written {
+        put(&mut modules, module_code(alloc, home, module)?)?;
+        home = home.wrapping_add(1);
     }
     Ok(Table { modules })
+}
+
+/// The table of all modules.
+pub fn table(alloc: Global) -> Result<Table, AllocError> {
+    table_of(alloc, &MODULES)
 }
 
 /// What the globals of all modules hold at first.
 pub fn first_globals(alloc: Global) -> Result<Vec<Box<Vec<Slot>>>, AllocError> {
     let mut globals = Vec::new(alloc);
     for written in &MODULES {
-        globals.push(Box::new(alloc, Vec::from_slice(alloc, written.globals)?)?)?;
+        put(
+            &mut globals,
+            Box::new(alloc, Vec::from_slice(alloc, written.globals)?)?,
+        )?;
     }
     Ok(globals)
 }

@@ -14,7 +14,6 @@ use ang_vm_stack::table::Table;
 use std::alloc::{AllocError, Global};
 
 /// A run of a body with a budget, and what it gives.
-#[derive(Clone, Copy)]
 pub enum Turn {
     /// A call, with a number or nothing.
     Call(usize, Option<u64>, u64, Result<u64, Fault>),

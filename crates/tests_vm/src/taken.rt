@@ -1,6 +1,4 @@
 //! Steps: where they stand in a text, and what each does at once.
-ghost use Rattle.std.specs.Prelude.{◌<◌, ◌^◌, length};
-
 use crate::known::KNOWN;
 use crate::operators::{LATER, PLUS};
 use ang_code::Instruction;
@@ -35,7 +33,7 @@ pub type Row = (Step, Left);
 pub type Left = (usize, usize, u64, u64, u64);
 
 /// An odd number is 1 as a truth value. Where a comparison does not hold, four instructions more are passed.
-const TAKEN: [Row; 30] = [
+const TAKEN: &[Row] = &[
     (Step::Push(4), (8, 3, 5, 3, 4)),
     (Step::Keep(0), (9, 1, 3, 3, 0)),
     (Step::Move(1, 0), (10, 2, 5, 5, 0)),
@@ -69,7 +67,7 @@ const TAKEN: [Row; 30] = [
 ];
 
 /// A tick is taken, at a loop's end too.
-const BACK: [Row; 9] = [
+const BACK: &[Row] = &[
     (Step::ChangeBack(LATER, 1, 2, 3), (7, 2, 7, 3, 0)),
     (Step::AddBack32(true, 0, 1, 3), (7, 2, 5, 4, 0)),
     (Step::AddBack64(true, 0, 1, 3), (7, 2, 5, 4, 0)),
@@ -83,7 +81,7 @@ const BACK: [Row; 9] = [
 
 /// Calls, returns, host calls, loads, fields, globals and handles are left to the run, and so is what faults, finds no
 /// value, brings it to a rare type or names no instructions. Each says which it is.
-const LEFT: [(Step, Dispatch); 21] = [
+const LEFT: &[(Step, Dispatch)] = &[
     (Step::Other, Dispatch::Alone),
     (Step::Ask(1), Dispatch::Alone),
     (Step::Load(1), Dispatch::Load),
@@ -155,65 +153,90 @@ fn left(ticks: u64, want: Left) -> Result<After, Dispatch> {
     })
 }
 
-#[test]
-fn steps_are_taken(rt: HostRuntime) {
-    for (step, want) in TAKEN {
-        let after = want.0;
-        assert!(rt; taken(2, [5, 3, 0], 9, step) == left(9, want), "to {after}");
+/// The place of the first step that comes to something else where 5 and 3 are in use, with nine ticks.
+fn first_wrong(rows: &[Row], ticks: u64) -> Option<usize> {
+    for (at, (step, want)) in rows.iter().enumerate() {
+        if taken(2, [5, 3, 0], 9, *step) != left(ticks, *want) {
+            return Some(at);
+        }
     }
-    for (step, want) in KNOWN {
-        let after = want.0;
-        assert!(rt;
-            taken(2, [5, 3, 0], 9, step) == left(9, want),
-            "known, to {after}"
-        );
+    None
+}
+
+/// The place of the first step that is not left to the run as that kind of step, with so many ticks.
+fn first_taken(rows: &[(Step, Dispatch)], ticks: u64) -> Option<usize> {
+    for (at, (step, kind)) in rows.iter().enumerate() {
+        if taken(2, [5, 3, 0], ticks, *step) != Err(*kind) {
+            return Some(at);
+        }
     }
-    for (step, want) in BACK {
-        let after = want.0;
-        assert!(rt;
-            taken(2, [5, 3, 0], 9, step) == left(8, want),
-            "back to {after}"
-        );
-        assert!(rt;
-            taken(2, [5, 3, 0], 0, step) == Err(Dispatch::Value),
-            "no tick, back to {after}"
-        );
+    None
+}
+
+/// The place of the first step that is taken without a tick.
+fn first_without_tick(rows: &[Row]) -> Option<usize> {
+    for (at, (step, _)) in rows.iter().enumerate() {
+        if taken(2, [5, 3, 0], 0, *step) != Err(Dispatch::Value) {
+            return Some(at);
+        }
     }
-    let tops = taken(3, [2, 9, 5], 9, Step::KeepTops(SUBTRACT, I64, 0));
-    assert!(rt; tops == left(9, (10, 1, 4, 9, 5)));
-    let under = taken(3, [2, 9, 5], 9, Step::DropUnder(2));
-    assert!(rt; under == left(9, (8, 1, 5, 9, 5)));
-    let out = taken(3, [2, 9, 5], 9, Step::KeepOut(None, 0));
-    assert!(rt; out == left(9, (10, 1, 9, 9, 5)));
-    let truth = taken(3, [2, 9, 5], 9, Step::KeepOut(Some(Prim::Bool), 0));
-    assert!(rt; truth == left(9, (10, 1, 1, 9, 5)));
-    let last = taken(4, [2, 9, 5], 9, Step::KeepLastOut(Some(I64), 0));
-    assert!(rt; last == left(9, (10, 1, 5, 9, 5)));
-    let untrue = taken(3, [5, 3, 0], 9, Step::JumpIfFalse(4));
-    assert!(rt; untrue == left(9, (12, 2, 5, 3, 0)));
-    let spent = taken(2, [5, 3, 0], 0, Step::LeaveAddBack32(true, 1, 0, 4, 3));
-    assert!(rt; spent == Err(Dispatch::Leave));
-    let above_one = taken(2, [5, 3, 0], 9, Step::LeaveAddBack32(true, 1, 0, 4, 3));
-    assert!(rt; above_one == left(8, (8, 1, 9, 3, 0)));
-    let above_two = taken(3, [2, 9, 5], 9, Step::LeaveAddBack32(false, 2, 0, 4, 20));
-    assert!(rt; above_two == left(8, (0, 1, 6, 9, 5)));
-    let masked = taken(1, [5, 3, 0], 9, Step::MaskXor(U64, 0, 0, 4));
-    assert!(rt; masked == left(9, (12, 2, 5, 1, 0)));
+    None
+}
+
+/// How many values are in use, the numbers in the first three places, and how many ticks there are; a step; and the
+/// ticks that are left and what it comes to, or how it is left to the run.
+type Single = (usize, [u64; 3], u64, Step, Result<(u64, Left), Dispatch>);
+
+const SINGLES: &[Single] = list! {
+    (3, [2, 9, 5], 9, Step::KeepTops(SUBTRACT, I64, 0), Ok((9, (10, 1, 4, 9, 5)))),
+    (3, [2, 9, 5], 9, Step::DropUnder(2), Ok((9, (8, 1, 5, 9, 5)))),
+    (3, [2, 9, 5], 9, Step::KeepOut(None, 0), Ok((9, (10, 1, 9, 9, 5)))),
+    (3, [2, 9, 5], 9, Step::KeepOut(Some(Prim::Bool), 0), Ok((9, (10, 1, 1, 9, 5)))),
+    (4, [2, 9, 5], 9, Step::KeepLastOut(Some(I64), 0), Ok((9, (10, 1, 5, 9, 5)))),
+    (3, [5, 3, 0], 9, Step::JumpIfFalse(4), Ok((9, (12, 2, 5, 3, 0)))),
+    (2, [5, 3, 0], 0, Step::LeaveAddBack32(true, 1, 0, 4, 3), Err(Dispatch::Leave)),
+    (2, [5, 3, 0], 9, Step::LeaveAddBack32(true, 1, 0, 4, 3), Ok((8, (8, 1, 9, 3, 0)))),
+    (3, [2, 9, 5], 9, Step::LeaveAddBack32(false, 2, 0, 4, 20), Ok((8, (0, 1, 6, 9, 5)))),
+    (1, [5, 3, 0], 9, Step::MaskXor(U64, 0, 0, 4), Ok((9, (12, 2, 5, 1, 0)))),
+    // no room
+    (2, [5, 3, 0], 9, Step::MaskXor(U64, 1, 0, 2), Err(Dispatch::Value)),
+    (4, [2, 9, 5], 9, Step::Push(4), Err(Dispatch::Value)),
+    // a rare type
+    (3, [2, 9, 5], 9, Step::KeepOut(Some(Prim::I8), 0), Err(Dispatch::Value)),
+};
+
+fn is_single(single: &Single) -> bool {
+    let (top, numbers, ticks, step, want) = *single;
+    match want {
+        Ok((rest, after)) => taken(top, numbers, ticks, step) == left(rest, after),
+        Err(kind) => taken(top, numbers, ticks, step) == Err(kind),
+    }
+}
+
+fn first_wrong_single() -> Option<usize> {
+    for (at, single) in SINGLES.iter().enumerate() {
+        if !is_single(single) {
+            return Some(at);
+        }
+    }
+    None
+}
+
+/// In each list of steps the first that is not as it should be.
+fn wrong_steps() -> [Option<usize>; 6] {
+    [
+        first_wrong(TAKEN, 9),
+        first_wrong(KNOWN, 9),
+        first_wrong(BACK, 8),
+        first_without_tick(BACK),
+        first_wrong_single(),
+        first_taken(LEFT, 9),
+    ]
 }
 
 #[test]
-fn steps_are_left(rt: HostRuntime) {
-    assert!(rt;
-        taken(2, [5, 3, 0], 9, Step::MaskXor(U64, 1, 0, 2)) == Err(Dispatch::Value),
-        "no room"
-    );
-    let pushed = taken(4, [2, 9, 5], 9, Step::Push(4));
-    assert!(rt; pushed == Err(Dispatch::Value), "no room");
-    let small = taken(3, [2, 9, 5], 9, Step::KeepOut(Some(Prim::I8), 0));
-    assert!(rt; small == Err(Dispatch::Value), "rare type");
-    for (step, kind) in LEFT {
-        assert!(rt; taken(2, [5, 3, 0], 9, step) == Err(kind), "{kind:?}");
-    }
+fn steps_are_taken_or_left(rt: HostRuntime) {
+    assert_eq!(rt; wrong_steps(), [None; 6]);
 }
 
 /// `int64 i = 0; for (; i < 10; i++) {} return i;`
@@ -232,8 +255,11 @@ const COUNTING: &[Instruction] = &[
     Return(1),
 ];
 
-/// Steps of a text by their places, and the number of all.
-const STEPS: [(usize, Option<Step>); 12] = [
+/// Steps of a text by their places.
+type Places = &'static [(usize, Option<Step>)];
+
+/// The last place is past the text.
+const STEPS: Places = &[
     (0, Some(Step::Push(0))),
     (1, Some(Step::Tick)),
     (2, Some(Step::LessConstant(0, 10, 4))),
@@ -265,7 +291,7 @@ const ASKING: &[Instruction] = &[
 ];
 
 /// A host call whose operands are pushed one after the other begins where the first of them is loaded.
-const ASKED: [(usize, Option<Step>); 6] = [
+const ASKED: Places = &[
     (0, Some(Step::Load(0))),
     (1, Some(Step::AddConstant64(2, 1))),
     (4, Some(Step::Other)),
@@ -289,7 +315,7 @@ const CALLING: &[Instruction] = &[
 ];
 
 /// What gives back 0 is one step with the return after it, as that of a function without a value.
-const CALLS: [(usize, Option<Step>); 8] = [
+const CALLS: Places = &[
     (0, Some(Step::Move(1, 2))),
     (1, Some(Step::Keep(2))),
     (3, Some(Step::Enter(Callee::Own(3)))),
@@ -389,7 +415,7 @@ const PAIRED: &[Instruction] = &[
 ];
 
 /// Each of them is one step. Three values and more are given up alone.
-const PAIRS: [(usize, Option<Step>); 22] = [
+const PAIRS: Places = &[
     (0, Some(Step::MultiplyShift64(1, 0, 16))),
     (5, Some(Step::AddTestGreater64(1, 0, 9, 4))),
     (11, Some(Step::SubtractAddKeep64(1, 0, 1, 0))),
@@ -460,7 +486,7 @@ const OUTS: &[Instruction] = &[
 ];
 
 /// One of them, or the last of two, is stored by the step that gives up the call's value.
-const OUT_STEPS: [(usize, Option<Step>); 6] = [
+const OUT_STEPS: Places = &[
     (0, Some(Step::KeepOut(Some(I64), 0))),
     (3, Some(Step::Swap(None, 2, 4))),
     (4, Some(Step::KeepLastOut(Some(Prim::Bool), 0))),
@@ -488,7 +514,7 @@ const HASHING: &[Instruction] = list! {
 };
 
 /// The steps of the hash. The mask is of the type of the `^` after it.
-const HASHED: [(usize, Option<Step>); 8] = [
+const HASHED: Places = &[
     (0, Some(Step::MaskXor(U64, 1, 0, 255))),
     (2, Some(Step::AndTopConstant(U64, 255))),
     (5, Some(Step::MultiplyKeepTopConstantU64(0x1_0000_01B3, 0))),
@@ -523,7 +549,7 @@ const OBJECTS: &[Instruction] = &[
 ];
 
 /// Each is one step, but where the object is the value that was pushed, or the value is kept.
-const FIELDS: [(usize, Option<Step>); 8] = [
+const FIELDS: Places = &[
     (0, Some(Step::MoveField(1, 2, 2, 4))),
     (1, Some(Step::Other)),
     (2, Some(Step::PutField(3, 4))),
@@ -547,7 +573,7 @@ const GLOBALS: &[Instruction] = &[
 ];
 
 /// Each is one step, but where the value is kept.
-const GLOBAL_STEPS: [(usize, Option<Step>); 5] = [
+const GLOBAL_STEPS: Places = &[
     (0, Some(Step::MoveGlobal(2, 3))),
     (1, Some(Step::PutGlobal(3))),
     (3, Some(Step::ChangeGlobal(LATER, 4))),
@@ -572,7 +598,7 @@ const COMPARING: &[Instruction] = &[
 ];
 
 /// Each pair is one step, but where the second one is the value that the first one pushes.
-const COMPARED: [(usize, Option<Step>); 6] = [
+const COMPARED: Places = &[
     (
         0,
         Some(Step::Same(HandleOperand::Local(1), HandleOperand::Local(0))),
@@ -684,14 +710,15 @@ fn stands(step: Option<Step>, wanted: Option<Step>) -> bool {
     }
 }
 
-/// The first of the places at which another step stands.
+/// The first of the places at which another step stands. No text is of a million instructions.
 fn first_other(
     alloc: Global,
     text: &[Instruction],
     wanted: &[(usize, Option<Step>)],
-) -> Result<Option<usize>, AllocError>
-    requires few { length text.now < 2 ^ 63 }
-{
+) -> Result<Option<usize>, AllocError> {
+    if text.len() > 1_000_000 {
+        return Ok(Some(text.len()));
+    }
     let steps = fuse(alloc, text)?;
     for (at, step) in wanted {
         if !stands(steps.get(*at).copied(), *step) {
@@ -701,17 +728,23 @@ fn first_other(
     Ok(None)
 }
 
+const TEXTS: &[(&str, &[Instruction], Places)] = &[
+    ("counting", COUNTING, STEPS),
+    ("asking", ASKING, ASKED),
+    ("calling", CALLING, CALLS),
+    ("pairs", PAIRED, PAIRS),
+    ("`&out`", OUTS, OUT_STEPS),
+    ("hashing", HASHING, HASHED),
+    ("objects", OBJECTS, FIELDS),
+    ("globals", GLOBALS, GLOBAL_STEPS),
+    ("comparing", COMPARING, COMPARED),
+];
+
 /// A place inside what is done at once has a step of its own.
 #[test]
 fn each_place_has_its_step(rt: HostRuntime) -> Result<(), AllocError> {
-    assert_eq!(rt; first_other(rt.alloc(), COUNTING, &STEPS)?, None);
-    assert_eq!(rt; first_other(rt.alloc(), ASKING, &ASKED)?, None);
-    assert_eq!(rt; first_other(rt.alloc(), CALLING, &CALLS)?, None);
-    assert_eq!(rt; first_other(rt.alloc(), PAIRED, &PAIRS)?, None);
-    assert_eq!(rt; first_other(rt.alloc(), OUTS, &OUT_STEPS)?, None);
-    assert_eq!(rt; first_other(rt.alloc(), HASHING, &HASHED)?, None);
-    assert_eq!(rt; first_other(rt.alloc(), OBJECTS, &FIELDS)?, None);
-    assert_eq!(rt; first_other(rt.alloc(), GLOBALS, &GLOBAL_STEPS)?, None);
-    assert_eq!(rt; first_other(rt.alloc(), COMPARING, &COMPARED)?, None);
+    for (name, text, places) in TEXTS {
+        assert_eq!(rt; first_other(rt.alloc(), text, places)?, None, "{name}");
+    }
     Ok(())
 }
