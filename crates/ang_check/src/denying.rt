@@ -16,7 +16,7 @@ use ang_check_denials::{Masked, denied};
 use ang_check_uses::Scope;
 use ang_kinds::{Denial, Error, Mask};
 use ang_names::{names_over, phase_refusals};
-use ang_names_known::{Names, lineage_of};
+use ang_names_known::{KnownView, Names, lineage_of};
 use ang_registry::Registry;
 use ang_tree::Script;
 use ang_types::Refused;
@@ -44,7 +44,8 @@ fn rows_over(
         masked.now.mask (spec.scope_of view.now names.now)) refused.now) }
 {
     let lineage = lineage_of(alloc, names)?;
-    let scope = Scope::new(view, names, &lineage);
+    let known = KnownView::new(alloc, view)?;
+    let scope = Scope::new(&known, names, &lineage);
     denied(alloc, masked, &scope, refused)
 }
 

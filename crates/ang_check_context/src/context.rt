@@ -14,7 +14,7 @@ use ang_check_operators::{TypingError, refused, use_refused};
 use ang_check_uses::{Resolution, Scope, maker_meant, resolution_of};
 use ang_kinds::ErrorKind;
 use ang_lex::{Token, text_of};
-use ang_names_known::{Access, Family, Names, may_use};
+use ang_names_known::{Access, Family, KnownView, Names, may_use};
 use ang_types::{ArgType, Asks, Lineage};
 use ang_view::View;
 use std::alloc::{AllocError, Global};
@@ -25,7 +25,7 @@ use std::marker::Model;
 /// or constructor it is.
 #[derive(Drop)]
 pub struct BodyContext<'a> {
-    view: &'a View,
+    view: &'a KnownView<'a>,
     names: &'a Names,
     lineage: &'a Lineage,
     text: &'a [u8],
@@ -52,7 +52,7 @@ impl<'a> BodyContext<'a> {
     /// Borrows these for the typing of one body. `text` is the whole section in which the body
     /// stands. Nothing checks that they are of one build.
     pub fn new(
-        view: &'a View,
+        view: &'a KnownView<'a>,
         names: &'a Names,
         lineage: &'a Lineage,
         text: &'a [u8],
@@ -86,7 +86,7 @@ impl<'a> BodyContext<'a> {
     pub fn view(&self) -> &'a View
         ensures same { result.now ≡ self.now.view }
     {
-        self.view
+        self.view.view()
     }
 
     /// What the scripts declare.

@@ -1,5 +1,6 @@
 -- Methods that a contest takes in by their places.
-use Rattle.std.proofs.Common.{◌≡◌, refl, ap, sym, ◌∙◌, ℕ, ◌+◌, suc, zero, Bool, true, false, cond, List, [], ◌∷◌, ◌++◌, drop, add-one, slice_get, Option, Some, None, option_map, option_to_list}
+use Rattle.std.proofs.Common.{◌≡◌, ◌<◌, ◌-◌, length, arith, refl, ap, sym, ◌∙◌, ℕ, ◌+◌, suc, zero, Bool, true, false, cond, List, [], ◌∷◌, ◌++◌, drop, add-one, slice_get, Option, Some, None, option_map, option_to_list}
+use Rattle.std.proofs.lemmas.List.{length-drop}
 use Rattle.ang_kinds.specs.declared.error.ErrorKind.{ErrorKind}
 use Rattle.ang_kinds.specs.declared.error.ErrorKind.TheVariants as kind
 use Rattle.ang_types.specs.declared.arg_type.ArgType.{ArgType}
@@ -74,6 +75,20 @@ callables_from d n all k (x ∷ xs) e =
     ap (λ o. option_to_list (method_at d n o) ++ callables_by (method_by d n all) (placed contender.Method (k + 1) xs)) (first_left all xs x k e)
     ∙ ap (λ cs. option_to_list (callable_as d n x) ++ cs) (callables_from d n all (k + 1) xs (rest_left all xs x k e))
     ∙ sym (first_as d n x xs)
+
+-- what is left from a place on begins with the method there
+pub left_at : (d : Dispatch) (n : ℕ) (all : List FoundMethod) (k : ℕ) → k < length all
+    → method_entries d n k (drop k all) ≡ entry_in (contender.Method k) (method_at d n (slice_get all k)) ++ method_entries d n (k + 1) (drop (k + 1) all)
+left_at d n all k lt = by (drop k all) refl
+  where
+    by : (rest : List FoundMethod) → rest ≡ drop k all
+        → method_entries d n k rest ≡ entry_in (contender.Method k) (method_at d n (slice_get all k)) ++ method_entries d n (k + 1) (drop (k + 1) all)
+    by [] e =
+        let none : length (drop k all) ≡ 0 = sym (ap (λ (xs : List FoundMethod). length xs) e) in
+        let left : length (drop k all) ≡ length all - k = length-drop k all in
+        absurd (omega (arith, none, left, lt))
+    by (x ∷ xs) e =
+        (λ i. entry_in (contender.Method k) (method_at d n (sym (first_left all xs x k e) i)) ++ method_entries d n (k + 1) (rest_left all xs x k e i))
 
 -- ---- what comes of it
 

@@ -3,3 +3,5 @@ pub mod ChosenLaws
 pub mod ContestLaws
 pub mod Contests
 pub mod RankLaws
+pub mod ToldLaws
+pub mod ToldChoices

@@ -4,3 +4,4 @@ pub mod Choosing
 pub mod Contest
 pub mod Scores
 pub mod Uses
+pub mod Told

@@ -6,12 +6,14 @@ ghost use Rattle.ang_types.specs.Overloads.{Params};
 ghost use Rattle.ang_types.specs.Ranks.{Ancestors};
 ghost use Rattle.ang_kinds.specs.declared.types.Pass.TheVariants.{RefInOut};
 ghost use Rattle.ang_names_known.specs.Host as host;
+ghost use Rattle.ang_names_known.specs.Kinds.{kinds_at};
 ghost use Rattle.ang_names_known.specs.Lookup.{parameters_of};
 ghost use Rattle.ang_check_uses.specs.Contest as spec;
 
 use crate::ranking::{rank_host, rank_host_method, rank_method, rank_written};
 use crate::scope::Scope;
 use crate::score::{Contender, Outcome, Score};
+use crate::told::ToldRanks;
 use ang_kinds::Param;
 use ang_names_known::ScriptFunction;
 use ang_types::{ArgType, Lineage};
@@ -137,6 +139,55 @@ impl Contest {
         let is_viable = rank_host_method(scope, receiver, params, args, &mut self.ranks)?;
         self.score
             .enter(alloc, contender, is_viable, self.ranks.as_slice())
+    }
+
+    /// Takes in a candidate whose parameters have the kinds of these numbers. It takes no memory where none of its ranks is
+    /// lower than the least ones.
+    ///
+    /// The only error is want of memory.
+    #[inline(always)]
+    pub fn enter_told(
+        &mut self,
+        alloc: Global,
+        told: &ToldRanks<'_>,
+        contender: Contender,
+        numbers: &[u32],
+    ) -> Result<(), AllocError>
+        ensures entered { OnOk result ((params : Params) →
+            kinds_at told.now.kinds numbers.now ≡ list_map Some params → self.new
+            ≡ spec.entered told.now.ancestors told.now.args self.old contender params) }
+    {
+        if !self.score.is_viable {
+            self.enter_anew(alloc, told, contender, numbers)?;
+            return Ok(());
+        }
+        let comparison = told.compare(numbers, self.score.least.as_slice());
+        if comparison.is_viable && comparison.is_lower {
+            self.enter_anew(alloc, told, contender, numbers)?;
+            return Ok(());
+        }
+        self.score.keep(contender, comparison);
+        Ok(())
+    }
+
+    /// The same, whatever its ranks are.
+    #[inline(never)]
+    fn enter_anew(
+        &mut self,
+        alloc: Global,
+        told: &ToldRanks<'_>,
+        contender: Contender,
+        numbers: &[u32],
+    ) -> Result<(), AllocError>
+        ensures entered { OnOk result ((params : Params) →
+            kinds_at told.now.kinds numbers.now ≡ list_map Some params → self.new
+            ≡ spec.entered told.now.ancestors told.now.args self.old contender params) }
+    {
+        self.ranks.clear();
+        let is_viable = told.rank(numbers, &mut self.ranks)?;
+        self.score
+            .enter(alloc, contender, is_viable, self.ranks.as_slice())?;
+        Ok(())
     }
 
     /// Whether none was taken in. It takes no memory.

@@ -1,7 +1,7 @@
 //! What a use is asked over.
 ghost use Rattle.std.specs.Prelude.{◌≡◌, ◌≤◌, length};
 
-use ang_names_known::Names;
+use ang_names_known::{KnownView, Names};
 use ang_types::Lineage;
 use ang_view::View;
 use std::marker::Model;
@@ -10,7 +10,7 @@ use std::marker::Model;
 /// type.
 #[derive(Drop)]
 pub struct Scope<'a> {
-    view: &'a View,
+    view: &'a KnownView<'a>,
     names: &'a Names,
     lineage: &'a Lineage,
 }
@@ -28,7 +28,7 @@ impl<'a> Model for Scope<'a> {
 
 impl<'a> Scope<'a> {
     /// Borrows these for the uses of one build. Nothing checks that they are of one.
-    pub fn new(view: &'a View, names: &'a Names, lineage: &'a Lineage) -> Scope<'a>
+    pub fn new(view: &'a KnownView<'a>, names: &'a Names, lineage: &'a Lineage) -> Scope<'a>
         requires few { length names.now.families ≤ 256 }
         ensures view { result.view ≡ view.now }
         ensures names { result.names ≡ names.now }
@@ -43,6 +43,13 @@ impl<'a> Scope<'a> {
 
     /// What the module sees of the host.
     pub fn view(&self) -> &'a View
+        ensures same { result.now ≡ self.now.view }
+    {
+        self.view.view()
+    }
+
+    /// The same, with the kinds of its parameters.
+    pub fn known_view(&self) -> &'a KnownView<'a>
         ensures same { result.now ≡ self.now.view }
     {
         self.view

@@ -9,3 +9,6 @@ pub mod Adding
 pub mod AddingProperties
 pub mod SoFar
 pub mod Among
+pub mod KeptNumbers
+pub mod SameKinds
+pub mod MethodPlaces

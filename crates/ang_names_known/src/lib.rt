@@ -7,27 +7,36 @@
 #![tactic(auto)]
 
 mod borrowed;
+mod crowded;
 mod family_types;
+mod found;
 mod functions;
 mod host;
 mod indexed;
+mod kinds;
+mod known;
+mod known_view;
 pub mod laws;
 mod lineage;
 mod lookup;
 mod members;
 mod methods;
 mod names;
+mod numbering;
 mod places;
 mod space;
 
 pub use borrowed::BorrowedText;
 pub use family_types::{FIRST_FAMILY, family_of_type, family_type};
+pub use found::FoundMethods;
 pub use functions::parameters_of;
 pub use host::{
     SeenFunction, SeenProperty, Wanted, WantedProperty, found_at, host_type, host_where,
     property_at, property_where,
 };
 pub use indexed::IndexedNames as Names;
+pub use known::KnownFunctions;
+pub use known_view::{KnownEntries, KnownView};
 pub use lineage::lineage_of;
 pub use lookup::{
     default_of, is_read_only, is_under, may_use, same_call, same_heading, same_parameters,

@@ -3,7 +3,7 @@ use Rattle.ang_view.specs.Registration.{entry_at}
 use Rattle.ang_names_known.specs.Host.{is_wanted}
 use Rattle.ang_check_uses.specs.Choosing.{is_seen}
 use Rattle.ang_check_uses.proofs.ChosenLaws.{host_entered}
-use Rattle.ang_check_uses.proofs.choosing.enter_entry.Goals as goal
+use Rattle.ang_check_uses.proofs.told_hosts.enter_entry.Goals as goal
 
 pub returns : goal.returns
 returns c =

@@ -2,7 +2,7 @@ use Rattle.std.proofs.Common.{◌≡◌, drop}
 use Rattle.std.specs.List.{flat_map}
 use Rattle.ang_check_uses.specs.Choosing.{host_entry}
 use Rattle.ang_check_uses.specs.Contest.{after}
-use Rattle.ang_check_uses.proofs.choosing.enter_entries.Given as goal
+use Rattle.ang_check_uses.proofs.told_hosts.enter_entries.Given as goal
 
 abbrev pub invariant-loop-number : goal.invariant-loop-number
 invariant-loop-number l =

@@ -2,7 +2,7 @@ use Rattle.std.proofs.Common.{◌≡◌, drop}
 use Rattle.std.specs.List.{flat_map}
 use Rattle.ang_check_uses.specs.Choosing.{function_entry}
 use Rattle.ang_check_uses.specs.Contest.{after}
-use Rattle.ang_check_uses.proofs.choosing.enter_functions.Given as goal
+use Rattle.ang_check_uses.proofs.told_scripts.enter_functions.Given as goal
 
 abbrev pub invariant-loop-number : goal.invariant-loop-number
 invariant-loop-number l =

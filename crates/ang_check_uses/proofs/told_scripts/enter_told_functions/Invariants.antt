@@ -1,0 +1,10 @@
+use Rattle.std.proofs.Common.{◌≡◌, drop}
+use Rattle.std.specs.List.{flat_map}
+use Rattle.ang_check_uses.specs.Choosing.{function_entry, functions_in}
+use Rattle.ang_check_uses.specs.Contest.{after}
+use Rattle.ang_check_uses.proofs.told_scripts.enter_told_functions.Given as goal
+
+abbrev pub invariant-loop-number : goal.invariant-loop-number
+invariant-loop-number l =
+    after l.told.ancestors l.told.args l.initial.contest (flat_map (function_entry l.declared (functions_in l.declared l.functions)) l.numbers)
+    ≡ after l.told.ancestors l.told.args l.contest (flat_map (function_entry l.declared (functions_in l.declared l.functions)) (drop l.number-index l.numbers))

@@ -1,0 +1,208 @@
+//! The functions and imports of the scripts that a call can mean, as they are taken in.
+ghost use Rattle.std.specs.Prelude.{◌≡◌, ℕ, OnOk, option_map, slice_get};
+ghost use Rattle.std.specs.List.{flat_map};
+ghost use Rattle.ang_names_known.specs.Kinds.{Says, numbered};
+ghost use Rattle.ang_names_known.specs.Lookup.{functions_named as numbers_named, parameters_of};
+ghost use Rattle.ang_check_uses.specs.declared.scripts.FunctionList.TheVariants as list;
+ghost use Rattle.ang_check_uses.specs.Choosing as spec;
+ghost use Rattle.ang_check_uses.specs.Contest as contests;
+
+use crate::contest::Contest;
+use crate::scope::Scope;
+use crate::score::Contender;
+use crate::scripts::FunctionList;
+use crate::told::{ToldRanks, is_worth_telling};
+use ang_names_known::{KnownFunctions, ScriptFunction};
+use ang_types::{ArgType, Lineage};
+use std::alloc::{AllocError, Global};
+
+fn contender_in(declared: FunctionList, number: usize) -> Contender
+    ensures exact { result ≡ spec.contender_in declared number }
+{
+    match declared {
+        FunctionList::Functions => Contender::Function(number),
+        FunctionList::Imports => Contender::Import(number),
+    }
+}
+
+/// Takes in the function of this number, where there is one.
+#[tactic(auto, using(crate::proofs::ChosenLaws::function_params))]
+fn enter_function(
+    contest: &mut Contest,
+    alloc: Global,
+    lineage: &Lineage,
+    args: &[ArgType],
+    declared: FunctionList,
+    functions: &[ScriptFunction],
+    number: usize,
+) -> Result<(), AllocError>
+    ensures entered { OnOk result (contest.new ≡ contests.after lineage.now args.now contest.old
+        (spec.function_entry declared functions.now number)) }
+{
+    match functions.get(number) {
+        None => Ok(()),
+        Some(function) => {
+            let contender = contender_in(declared, number);
+            contest.enter(alloc, lineage, args, contender, function)
+        }
+    }
+}
+
+/// Takes in the functions of these numbers.
+#[tactic(auto, using(crate::proofs::Contests::after_append))]
+fn enter_functions(
+    contest: &mut Contest,
+    alloc: Global,
+    lineage: &Lineage,
+    args: &[ArgType],
+    declared: FunctionList,
+    functions: &[ScriptFunction],
+    numbers: &[usize],
+) -> Result<(), AllocError>
+    ensures entered { OnOk result (contest.new ≡ contests.after lineage.now args.now contest.old
+        (flat_map (spec.function_entry declared functions.now) numbers.now)) }
+{
+    for number in numbers {
+        enter_function(contest, alloc, lineage, args, declared, functions, *number)?;
+    }
+    Ok(())
+}
+
+/// The numbers of the kinds of a function's parameters.
+#[inline(always)]
+fn row_of<'a>(
+    functions: &'a KnownFunctions<'_>,
+    declared: FunctionList,
+    number: usize,
+) -> Option<&'a [u32]>
+    ensures says { (t : ℕ) → Says t functions.now.kinds (option_map (λ row. row.now) result)
+        (option_map parameters_of
+        (slice_get (spec.functions_in declared functions.now) number)) }
+{
+    match declared {
+        FunctionList::Functions => functions.of_function(number),
+        FunctionList::Imports => functions.of_import(number),
+    }
+}
+
+/// Takes in the function of this number, where there is one, by the ranks that are told.
+#[tactic(auto, using(crate::proofs::ToldChoices::no_function, crate::proofs::ToldChoices::function_told))]
+#[inline(always)]
+fn enter_told_function(
+    contest: &mut Contest,
+    alloc: Global,
+    told: &ToldRanks<'_>,
+    declared: FunctionList,
+    functions: &KnownFunctions<'_>,
+    number: usize,
+) -> Result<(), AllocError>
+    requires kinds { told.now.kinds ≡ numbered 0 functions.now.kinds }
+    ensures entered { OnOk result (contest.new
+        ≡ contests.after told.now.ancestors told.now.args contest.old
+        (spec.function_entry declared (spec.functions_in declared functions.now) number)) }
+{
+    match row_of(functions, declared, number) {
+        None => Ok(()),
+        Some(row) => {
+            contest.enter_told(alloc, told, contender_in(declared, number), row)?;
+            Ok(())
+        }
+    }
+}
+
+/// Takes in the functions of these numbers, by the ranks that are told.
+#[tactic(auto, using(crate::proofs::Contests::after_append))]
+fn enter_told_functions(
+    contest: &mut Contest,
+    alloc: Global,
+    told: &ToldRanks<'_>,
+    declared: FunctionList,
+    functions: &KnownFunctions<'_>,
+    numbers: &[usize],
+) -> Result<(), AllocError>
+    requires kinds { told.now.kinds ≡ numbered 0 functions.now.kinds }
+    ensures entered { OnOk result (contest.new
+        ≡ contests.after told.now.ancestors told.now.args contest.old
+        (flat_map (spec.function_entry declared (spec.functions_in declared functions.now))
+        numbers.now)) }
+{
+    for number in numbers {
+        enter_told_function(contest, alloc, told, declared, functions, *number)?;
+    }
+    Ok(())
+}
+
+/// Takes in functions and imports of these numbers, by ranks that are found out at once.
+fn enter_at_once(
+    contest: &mut Contest,
+    alloc: Global,
+    lineage: &Lineage,
+    args: &[ArgType],
+    known: &KnownFunctions<'_>,
+    functions: &[usize],
+    imports: &[usize],
+) -> Result<(), AllocError>
+    ensures entered { OnOk result (contest.new ≡ contests.after lineage.now args.now
+        (contests.after lineage.now args.now contest.old
+        (flat_map (spec.function_entry list.Functions known.now.functions) functions.now))
+        (flat_map (spec.function_entry list.Imports known.now.imports) imports.now)) }
+{
+    let told = ToldRanks::new(alloc, lineage, 0, known.kinds(), args)?;
+    enter_told_functions(
+        contest,
+        alloc,
+        &told,
+        FunctionList::Functions,
+        known,
+        functions,
+    )?;
+    enter_told_functions(contest, alloc, &told, FunctionList::Imports, known, imports)
+}
+
+/// Takes in all functions and imports of a name.
+///
+/// The only error is want of memory.
+pub fn enter_scripts(
+    contest: &mut Contest,
+    alloc: Global,
+    scope: &Scope<'_>,
+    args: &[ArgType],
+    name: &[u8],
+) -> Result<(), AllocError>
+    ensures entered { OnOk result (contest.new ≡ contests.after scope.now.ancestors args.now
+        (contests.after scope.now.ancestors args.now contest.old
+        (flat_map (spec.function_entry list.Functions scope.now.names.functions)
+        (numbers_named scope.now.names.functions name.now)))
+        (flat_map (spec.function_entry list.Imports scope.now.names.imports)
+        (numbers_named scope.now.names.imports name.now))) }
+{
+    let lineage = scope.lineage();
+    let names = scope.names();
+    let functions = names.functions_named(name);
+    let imports = names.imports_named(name);
+    let known = names.known_functions();
+    if is_worth_telling(
+        functions.len().saturating_add(imports.len()),
+        known.kinds().len(),
+    ) {
+        return enter_at_once(contest, alloc, lineage, args, &known, functions, imports);
+    }
+    enter_functions(
+        contest,
+        alloc,
+        lineage,
+        args,
+        FunctionList::Functions,
+        names.functions(),
+        functions,
+    )?;
+    enter_functions(
+        contest,
+        alloc,
+        lineage,
+        args,
+        FunctionList::Imports,
+        names.imports(),
+        imports,
+    )
+}

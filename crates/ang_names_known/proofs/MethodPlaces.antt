@@ -1,0 +1,84 @@
+-- Methods by their places.
+use Rattle.std.proofs.Common.{◌≡◌, ◌||◌, ℕ, zero, suc, List, [], ◌∷◌, ◌++◌, length, map, take, Option, Some, None, refl, sym, ap, ◌∙◌}
+use Rattle.std.specs.Prelude.{slice_get, option_map, option_to_list}
+use Rattle.std.specs.List.{list_any}
+use Rattle.std.proofs.lemmas.List.{map-append}
+use Rattle.std.proofs.lemmas.Option.{same_Some}
+use Rattle.ang_names_known.specs.declared.methods.MethodPlace.{MethodPlace}
+use Rattle.ang_names_known.specs.declared.names.Family.{Family}
+use Rattle.ang_names_known.specs.Lookup.{FoundMethod, stands_in}
+use Rattle.ang_names_known.specs.MethodPlaces.{AreFound, found_at, found_in, stands_at, stands_with}
+
+append_assoc : {A : Type 0} → (xs ys zs : List A) → (xs ++ ys) ++ zs ≡ xs ++ (ys ++ zs)
+append_assoc [] ys zs = refl
+append_assoc (x ∷ xs) ys zs = ap (λ r. x ∷ r) (append_assoc xs ys zs)
+
+found_append : (fs : List Family) (ps qs : List MethodPlace) → found_in fs (ps ++ qs) ≡ found_in fs ps ++ found_in fs qs
+found_append fs [] qs = refl
+found_append fs (p ∷ ps) qs =
+    ap (λ r. option_to_list (found_at fs p) ++ r) (found_append fs ps qs) ∙ sym (append_assoc (option_to_list (found_at fs p)) (found_in fs ps) (found_in fs qs))
+
+one_found : (fs : List Family) (p : MethodPlace) (m : FoundMethod) → found_at fs p ≡ Some m → found_in fs (p ∷ []) ≡ m ∷ []
+one_found fs p m e = ap (λ o. option_to_list o ++ []) e
+
+-- a place more, at which a method stands
+pub found_more : (fs : List Family) (ps : List MethodPlace) (p : MethodPlace) (m : FoundMethod) → found_at fs p ≡ Some m → found_in fs (ps ++ p ∷ []) ≡ found_in fs ps ++ m ∷ []
+found_more fs ps p m e = found_append fs ps (p ∷ []) ∙ ap (λ r. found_in fs ps ++ r) (one_found fs p m e)
+
+pub are_found_more : (fs : List Family) (ps : List MethodPlace) (p : MethodPlace) (m : FoundMethod) → AreFound fs ps → found_at fs p ≡ Some m → AreFound fs (ps ++ p ∷ [])
+are_found_more fs ps p m are e =
+    map-append (found_at fs) ps (p ∷ [])
+    ∙ (λ i. are i ++ e i ∷ [])
+    ∙ sym (map-append Some (found_in fs ps) (m ∷ []))
+    ∙ ap (map Some) (sym (found_more fs ps p m e))
+
+-- ---- one after the other
+
+record Split (fs : List Family) (p : MethodPlace) (ps : List MethodPlace) : Type 0 where
+  method : FoundMethod
+  here : found_at fs p ≡ Some method
+  there : AreFound fs ps
+
+split : (fs : List Family) (p : MethodPlace) (ps : List MethodPlace) → AreFound fs (p ∷ ps) → Split fs p ps
+split fs p ps are = by (found_at fs p) refl are
+  where
+    none : (found : List FoundMethod) → None ∷ map (found_at fs) ps ≡ map Some found → ⊥
+    none [] e = cc
+    none (x ∷ xs) e = cc
+
+    by : (o : Option FoundMethod) → found_at fs p ≡ o → o ∷ map (found_at fs) ps ≡ map Some (option_to_list o ++ found_in fs ps) → Split fs p ps
+    by None is e = absurd (none (found_in fs ps) e)
+    by (Some m) is e = let left : map (found_at fs) ps ≡ map Some (found_in fs ps) = cc in record { method = m; here = is; there = left }
+
+-- the method at a place among them
+pub get_found : (fs : List Family) (ps : List MethodPlace) (n : ℕ) (p : MethodPlace) → AreFound fs ps → slice_get ps n ≡ Some p → found_at fs p ≡ slice_get (found_in fs ps) n
+get_found fs [] n p are e = cc
+get_found fs (q ∷ ps) zero p are e =
+    let s = split fs q ps are in
+    let same : q ≡ p = same_Some q p e in
+    ap (found_at fs) (sym same) ∙ s.here ∙ sym (ap (λ o. slice_get (option_to_list o ++ found_in fs ps) 0) s.here)
+get_found fs (q ∷ ps) (suc n) p are e =
+    let s = split fs q ps are in
+    get_found fs ps n p s.there e ∙ sym (ap (λ o. slice_get (option_to_list o ++ found_in fs ps) (suc n)) s.here)
+
+pub none_found : (fs : List Family) (ps : List MethodPlace) (n : ℕ) → AreFound fs ps → slice_get ps n ≡ None → slice_get (found_in fs ps) n ≡ None
+none_found fs [] n are e = refl
+none_found fs (q ∷ ps) zero are e = cc
+none_found fs (q ∷ ps) (suc n) are e =
+    let s = split fs q ps are in
+    ap (λ o. slice_get (option_to_list o ++ found_in fs ps) (suc n)) s.here ∙ none_found fs ps n s.there e
+
+pub as_many : (fs : List Family) (ps : List MethodPlace) → AreFound fs ps → length ps ≡ length (found_in fs ps)
+as_many fs [] are = refl
+as_many fs (p ∷ ps) are =
+    let s = split fs p ps are in
+    ap suc (as_many fs ps s.there) ∙ sym (ap (λ o. length (option_to_list o ++ found_in fs ps)) s.here)
+
+-- slots of the first places are those of the first methods
+pub few_found : (fs : List Family) (slot k : ℕ) (ps : List MethodPlace) → AreFound fs ps → list_any (stands_at fs slot) (take k ps) ≡ list_any (stands_in slot) (take k (found_in fs ps))
+few_found fs slot zero ps are = refl
+few_found fs slot (suc k) [] are = refl
+few_found fs slot (suc k) (p ∷ ps) are =
+    let s = split fs p ps are in
+    (λ i. stands_with slot (s.here i) || few_found fs slot k ps s.there i)
+    ∙ sym (ap (λ o. list_any (stands_in slot) (take (suc k) (option_to_list o ++ found_in fs ps))) s.here)

@@ -1,0 +1,128 @@
+-- The kinds of parameters by number. A kind is a type and a passing. The first two numbers are those of the receiver of a method, one that may be
+-- changed and one that is read only, of whatever type the method is called on; the others are those of kinds in a list.
+use Rattle.std.specs.Prelude.{ℕ, ◌≡◌, Bool, true, false, ◌&&◌, ◌==◌, List, [], ◌∷◌, ◌++◌, map, slice_get, if◌then◌else◌, Option, Some, None, option_map, option_and_then}
+use Rattle.ang_kinds.specs.declared.types.Pass.{Pass}
+use Rattle.ang_kinds.specs.declared.types.Pass.TheVariants as pass
+use Rattle.ang_types.specs.declared.arg_type.ArgType.{ArgType}
+use Rattle.ang_types.specs.declared.arg_type.ArgType.TheVariants as type
+use Rattle.ang_types.specs.Overloads.{Params}
+use Rattle.ang_view.specs.declared.entry.Entry.{Entry}
+use Rattle.ang_view.specs.declared.entry.EntryKind.{EntryKind}
+use Rattle.ang_view.specs.declared.entry.EntryKind.TheVariants as entry
+use Rattle.ang_view.specs.Numbers.{pass_number}
+use Rattle.ang_view.specs.Registration.{RegistrationList}
+use Rattle.ang_names_known.specs.declared.names.ScriptFunction.{ScriptFunction}
+use Rattle.ang_names_known.specs.declared.names.ScriptMethod.{ScriptMethod}
+use Rattle.ang_names_known.specs.Host.{host_parameters, host_type}
+use Rattle.ang_names_known.specs.Lookup.{parameters_of, same_type}
+
+-- a type and a passing
+abbrev pub Kind : Type 0
+Kind = ArgType × Pass
+
+abbrev pub is_kind : Kind → ArgType → Pass → Bool
+is_kind k t p = same_type k.0 t && (pass_number k.1 == pass_number p)
+
+-- the receiver of a method that is called on the type of number t
+abbrev pub receiver : ℕ → Bool → Kind
+receiver t read_only = (type.Object t read_only, pass.RefInOut)
+
+-- all kinds, in the order of their numbers, where methods are called on the type of number t
+abbrev pub numbered : ℕ → List Kind → List Kind
+numbered t kinds = receiver t false ∷ receiver t true ∷ kinds
+
+abbrev pub receiver_number : Bool → ℕ
+receiver_number false = 0
+receiver_number true = 1
+
+-- the kinds of these numbers
+abbrev pub kinds_at : List Kind → List ℕ → List (Option Kind)
+kinds_at kinds ns = map (slice_get kinds) ns
+
+-- each kind that has a number keeps it, whatever type methods are called on
+abbrev pub Keeps : List Kind → List Kind → Type 0
+Keeps old new = (n : ℕ) (k : Kind) → slice_get old n ≡ Some k → slice_get new n ≡ Some k
+
+-- ---- rows of numbers: one for each function of a list, where it is one that can be called
+
+abbrev pub Rows : Type 0
+Rows = List (Option (List ℕ))
+
+-- what the rows say
+abbrev pub kinds_of : List Kind → Rows → List (Option (List (Option Kind)))
+kinds_of kinds rows = map (option_map (kinds_at kinds)) rows
+
+-- what they have to say of functions with these parameters
+abbrev pub told_of : List (Option Params) → List (Option (List (Option Kind)))
+told_of params = map (option_map (map Some)) params
+
+-- the rows are those of functions with these parameters, whatever type methods are called on
+abbrev pub AreRows : List Kind → Rows → (ℕ → List (Option Params)) → Type 0
+AreRows kinds rows params = (t : ℕ) → kinds_of (numbered t kinds) rows ≡ told_of (params t)
+
+-- a row is that of a function with these parameters, where methods are called on the type of number t; or there is neither
+abbrev pub Says : ℕ → List Kind → Option (List ℕ) → Option Params → Type 0
+Says t kinds row params = option_map (kinds_at (numbered t kinds)) row ≡ option_map (map Some) params
+
+abbrev pub params_in : Option (Option Params) → Option Params
+params_in None = None
+params_in (Some params) = params
+
+-- ---- of what there are rows
+
+abbrev pub function_params : List ScriptFunction → List (Option Params)
+function_params fs = map (λ (f : ScriptFunction). Some (parameters_of f)) fs
+
+-- a method's parameters with its receiver in front
+abbrev pub params_on : ℕ → ScriptMethod → Params
+params_on t m = receiver t m.read_only ∷ parameters_of m.function
+
+abbrev pub method_params : ℕ → List ScriptMethod → List (Option Params)
+method_params t ms = map (λ (m : ScriptMethod). Some (params_on t m)) ms
+
+-- of a function or factory of the host its parameters, of a method with its receiver in front, and of nothing else any
+abbrev pub params_by : ℕ → EntryKind → Bool → Params → Option Params
+params_by t entry.HostType read_only params = None
+params_by t entry.Factory read_only params = Some params
+params_by t entry.Method read_only params = Some (receiver t read_only ∷ params)
+params_by t entry.Property read_only params = None
+params_by t entry.Function read_only params = Some params
+params_by t entry.Global read_only params = None
+params_by t entry.Enumeration read_only params = None
+params_by t (entry.EnumValue v) read_only params = None
+
+-- parameters, where the type of the result is seen too
+abbrev pub seen_with : Option ArgType → Option Params → Option Params
+seen_with None params = None
+seen_with (Some t) params = params
+
+abbrev pub entry_params : RegistrationList → ℕ → Option Entry → Option Params
+entry_params V t None = None
+entry_params V t (Some x) =
+    option_and_then (params_by t x.kind x.signature.read_only) (seen_with (host_type V x.signature.result) (host_parameters V x.signature.params))
+
+abbrev pub view_params : RegistrationList → ℕ → List (Option Params)
+view_params V t = map (entry_params V t) V
+
+-- parameters in front of those that follow, if there are any
+abbrev pub after : Params → Option Params → Option Params
+after front None = None
+after front (Some params) = Some (front ++ params)
+
+abbrev pub row_if : Bool → List ℕ → Option (List ℕ)
+row_if all ns = if all then Some ns else None
+
+-- the number of an entry's receiver, if it has one; none of what can't be called
+abbrev pub receiver_row : EntryKind → Bool → Option (List ℕ)
+receiver_row entry.HostType read_only = None
+receiver_row entry.Factory read_only = Some []
+receiver_row entry.Method read_only = Some (receiver_number read_only ∷ [])
+receiver_row entry.Property read_only = None
+receiver_row entry.Function read_only = Some []
+receiver_row entry.Global read_only = None
+receiver_row entry.Enumeration read_only = None
+receiver_row (entry.EnumValue v) read_only = None
+
+-- these numbers are those of the kinds of parameters, or there are none of these
+abbrev pub SaysIf : Bool → List Kind → List ℕ → Option Params → Type 0
+SaysIf all kinds ns params = option_map (kinds_at kinds) (row_if all ns) ≡ option_map (map Some) params
