@@ -4,9 +4,9 @@ ghost use Rattle.ang_view.specs.Registration.{entry_at};
 ghost use Rattle.ang_names_known.specs.Host as host;
 ghost use Rattle.ang_check_denials.specs.Made as spec;
 
-use ang_check_uses::{is_wanted, params_with_receiver};
+use ang_check_uses::params_with_receiver;
 use ang_kinds::EntityNo;
-use ang_names_known::{BorrowedText, SeenFunction, Wanted, found_at};
+use ang_names_known::{BorrowedText, SeenFunction, Wanted, found_at, is_wanted};
 use ang_types::Candidate;
 use ang_view::{Entry, EntryKind, View};
 use std::alloc::{AllocError, Global};

@@ -16,8 +16,8 @@ use crate::called::{CallSite, called_own, with_receiver};
 use ang_check_context::{BodyContext, Receiver, types_of};
 use ang_check_operators::{Operand, TypingError};
 use ang_check_uses::{
-    Callable, Called, Contender, Contest, Outcome, Reach, Resolution, ToldRanks, called_at,
-    is_worth_telling,
+    Callable, Called, Contender, Contest, Outcome, Reach, Resolution, ToldContest, called_at,
+    is_worth_telling, types_with_receiver,
 };
 use ang_kinds::{ErrorKind, List, Pass};
 use ang_lex::Token;
@@ -199,16 +199,16 @@ fn can_be_called(methods: &FoundMethods<'_>, dispatch: Dispatch, place: usize) -
 #[inline(always)]
 fn enter_told(
     alloc: Global,
-    contest: &mut Contest,
-    told: &ToldRanks<'_>,
+    contest: &mut ToldContest<'_>,
     methods: &FoundMethods<'_>,
     dispatch: Dispatch,
     number: u32,
     place: usize,
 ) -> Result<(), AllocError>
-    requires kinds { told.now.kinds ≡ numbered number methods.now.kinds }
-    ensures entered { OnOk result (contest.new
-        ≡ contests.after told.now.ancestors told.now.args contest.old
+    requires kinds { contest.old.telling.kinds ≡ numbered number methods.now.kinds }
+    ensures same { OnOk result (contest.new.telling ≡ contest.old.telling) }
+    ensures entered { OnOk result (contest.new.standing ≡ contests.after
+        contest.old.telling.ancestors contest.old.telling.args contest.old.standing
         (contests.entry_in (Contender.Method place)
         (methods_spec.method_at dispatch number (slice_get methods.now.methods place)))) }
 {
@@ -218,7 +218,7 @@ fn enter_told(
     match methods.row(place) {
         None => Ok(()),
         Some(row) => {
-            contest.enter_told(alloc, told, Contender::Method(place), row)?;
+            contest.enter(alloc, Contender::Method(place), row)?;
             Ok(())
         }
     }
@@ -236,12 +236,12 @@ fn methods_at_once(
     ensures entered { IfOk result (λ contest. contest ≡ contests.after lineage.now args.now
         contests.fresh (methods_spec.method_entries dispatch number 0 methods.now.methods)) }
 {
-    let told = ToldRanks::new(alloc, lineage, number, methods.kinds(), args)?;
-    let mut contest = Contest::new(alloc);
+    let fresh = Contest::new(alloc);
+    let mut contest = ToldContest::new(alloc, fresh, lineage, number, methods.kinds(), args)?;
     for place in 0..methods.len() {
-        enter_told(alloc, &mut contest, &told, methods, dispatch, number, place)?;
+        enter_told(alloc, &mut contest, methods, dispatch, number, place)?;
     }
-    Ok(contest)
+    Ok(contest.into_contest())
 }
 
 /// These methods, as they are taken in for arguments of these types. The receiver's is the first of these.
@@ -310,9 +310,8 @@ fn types_on(
     ensures exact { IfOk result (λ types. types.items
         ≡ Object number read_only ∷ all_types (view_operands operands.now)) }
 {
-    let mut types = types_of(alloc, operands)?;
-    types.insert(0, ArgType::Object { number, read_only })?;
-    Ok(types)
+    let types = types_of(alloc, operands)?;
+    types_with_receiver(alloc, number, read_only, types.as_slice())
 }
 
 /// Whether no method takes the operands on a receiver that may be changed.

@@ -4,4 +4,5 @@ pub mod ContestLaws
 pub mod Contests
 pub mod RankLaws
 pub mod ToldLaws
+pub mod LevelLaws
 pub mod ToldChoices

@@ -1,15 +1,13 @@
--- Ranks that are told are those of the parameters whose kinds the numbers name; and what a comparison with the least ones says.
-use Rattle.std.proofs.Common.{◌≡◌, ℕ, ◌||◌, Bool, true, false, List, [], ◌∷◌, map, Option, Some, None, refl, ap, ◌∙◌}
-use Rattle.std.specs.Prelude.{slice_get, option_map, nat_lt, if◌then◌else◌}
+-- Ranks that are told are those of the parameters whose kinds the numbers name.
+use Rattle.std.proofs.Common.{◌≡◌, ℕ, List, [], ◌∷◌, map, Some, refl, ap, ◌∙◌}
+use Rattle.std.specs.Prelude.{slice_get, option_map}
 use Rattle.std.proofs.lemmas.Option.{slice_get-map}
 use Rattle.ang_types.specs.declared.arg_type.ArgType.{ArgType}
 use Rattle.ang_types.specs.Overloads.{Params}
 use Rattle.ang_types.specs.Ranks.{Ancestors, argument_rank}
 use Rattle.ang_names_known.specs.Kinds.{Kind, kinds_at}
-use Rattle.ang_check_uses.specs.Contest.{has_lower, ranks_of, with_rank}
-use Rattle.ang_check_uses.specs.Told.{compared_after, in_place, rank_in, ranks_at, told_ranks, told_row}
-
--- ---- ranks by numbers
+use Rattle.ang_check_uses.specs.Contest.{ranks_of, with_rank}
+use Rattle.ang_check_uses.specs.Told.{in_place, rank_in, ranks_at, told_ranks, told_row}
 
 rank_told : (l : Ancestors) (kinds : List Kind) (a : ArgType) (n : ℕ) (p : Kind) → slice_get kinds n ≡ Some p → rank_in (told_row l kinds a) n ≡ argument_rank l p.0 p.1 a
 rank_told l kinds a n p e =
@@ -29,24 +27,3 @@ ranks_told l kinds (a ∷ args) (n ∷ ns) (p ∷ ps) e =
     let here : slice_get kinds n ≡ Some p = cc in
     let there : kinds_at kinds ns ≡ map Some ps = cc in
     λ i. with_rank (rank_told l kinds a n p here i) (ranks_told l kinds args ns ps there i)
-
--- ---- comparisons, rank by rank
-
-or_further : (lower b : Bool) (rest : Bool) → (lower || (if b then true else rest)) ≡ ((lower || b) || rest)
-or_further true b rest = refl
-or_further false true rest = refl
-or_further false false rest = refl
-
-pub compared_more : (lower higher : Bool) (r m : ℕ) (o : Option (List ℕ)) (least : List ℕ)
-    → compared_after lower higher (with_rank (Some r) o) (m ∷ least) ≡ compared_after (lower || nat_lt r m) (higher || nat_lt m r) o least
-compared_more lower higher r m None least = refl
-compared_more lower higher r m (Some ranks) least =
-    λ i. Some (or_further lower (nat_lt r m) (has_lower ranks least) i, or_further higher (nat_lt m r) (has_lower least ranks) i)
-
-pub compared_alone : (lower higher : Bool) (r : ℕ) (o : Option (List ℕ)) → compared_after lower higher (with_rank (Some r) o) [] ≡ compared_after lower higher o []
-compared_alone lower higher r None = refl
-compared_alone lower higher r (Some []) = refl
-compared_alone lower higher r (Some (s ∷ ranks)) = refl
-
-pub compared_none : (lower higher : Bool) (o : Option (List ℕ)) (least : List ℕ) → compared_after lower higher (with_rank None o) least ≡ None
-compared_none lower higher o least = refl

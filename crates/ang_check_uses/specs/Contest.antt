@@ -78,6 +78,10 @@ compared s t ranks least true false = led t ranks
 compared s t ranks least false true = record s { empty = false }
 compared s t ranks least false false = met s t s.front
 
+-- one that changes neither the least ranks nor who has them
+abbrev pub passed : Standing → Standing
+passed s = record s { empty = false }
+
 abbrev pub entered_viable : Standing → Contender → List ℕ → Option (List ℕ) → Standing
 entered_viable s t ranks None = led t ranks
 entered_viable s t ranks (Some least) = compared s t ranks least (has_lower ranks least) (has_lower least ranks)

@@ -150,20 +150,18 @@ fn functions_entered(
         contests.fresh (contests.entries_by (spec.function_by scope.now name.now)
         (spec.functions_named scope.now name.now))) }
 {
-    let mut contest = Contest::new(alloc);
-    enter_scripts(&mut contest, alloc, scope, args, name)?;
+    let contest = enter_scripts(Contest::new(alloc), alloc, scope, args, name)?;
     let wanted = Wanted::Function(BorrowedText::new(name));
     let numbers = scope.view().find(name);
     enter_hosts(
-        &mut contest,
+        contest,
         alloc,
         scope,
         args,
         &wanted,
         HostCallKind::Function,
         numbers,
-    )?;
-    Ok(contest)
+    )
 }
 
 /// What a call of the functions of a name means.
@@ -200,9 +198,15 @@ fn hosts_entered(
     ensures entered { IfOk result (λ contest. contest ≡ contests.after scope.now.ancestors args.now
         contests.fresh (flat_map (spec.host_entry usage wanted.now scope.now.view) numbers.now)) }
 {
-    let mut contest = Contest::new(alloc);
-    enter_hosts(&mut contest, alloc, scope, args, wanted, usage, numbers)?;
-    Ok(contest)
+    enter_hosts(
+        Contest::new(alloc),
+        alloc,
+        scope,
+        args,
+        wanted,
+        usage,
+        numbers,
+    )
 }
 
 /// The best factory of a host type for arguments of these types, or this kind of refusal where none takes them.

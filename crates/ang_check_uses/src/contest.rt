@@ -9,6 +9,7 @@ ghost use Rattle.ang_names_known.specs.Host as host;
 ghost use Rattle.ang_names_known.specs.Kinds.{kinds_at};
 ghost use Rattle.ang_names_known.specs.Lookup.{parameters_of};
 ghost use Rattle.ang_check_uses.specs.Contest as spec;
+ghost use Rattle.ang_check_uses.specs.Levels.{known_ranks};
 
 use crate::ranking::{rank_host, rank_host_method, rank_method, rank_written};
 use crate::scope::Scope;
@@ -23,7 +24,8 @@ use std::marker::Model;
 /// What is kept of the candidates of a call, each of which is looked at once and where it lies: the least rank of each
 /// argument among the viable ones, and the one that has all of these.
 ///
-/// The lineage and the arguments have to be the same for all candidates.
+/// The lineage and the arguments have to be the same for all candidates. Where a function answers an error nothing is promised
+/// of the contest.
 #[derive(Drop)]
 pub struct Contest {
     score: Score,
@@ -141,38 +143,11 @@ impl Contest {
             .enter(alloc, contender, is_viable, self.ranks.as_slice())
     }
 
-    /// Takes in a candidate whose parameters have the kinds of these numbers. It takes no memory where none of its ranks is
-    /// lower than the least ones.
+    /// Takes in a candidate whose parameters have the kinds of these numbers.
     ///
     /// The only error is want of memory.
-    #[inline(always)]
-    pub fn enter_told(
-        &mut self,
-        alloc: Global,
-        told: &ToldRanks<'_>,
-        contender: Contender,
-        numbers: &[u32],
-    ) -> Result<(), AllocError>
-        ensures entered { OnOk result ((params : Params) →
-            kinds_at told.now.kinds numbers.now ≡ list_map Some params → self.new
-            ≡ spec.entered told.now.ancestors told.now.args self.old contender params) }
-    {
-        if !self.score.is_viable {
-            self.enter_anew(alloc, told, contender, numbers)?;
-            return Ok(());
-        }
-        let comparison = told.compare(numbers, self.score.least.as_slice());
-        if comparison.is_viable && comparison.is_lower {
-            self.enter_anew(alloc, told, contender, numbers)?;
-            return Ok(());
-        }
-        self.score.keep(contender, comparison);
-        Ok(())
-    }
-
-    /// The same, whatever its ranks are.
-    #[inline(never)]
-    fn enter_anew(
+    #[tactic(auto, unfolding(crate::specs::Contest::entered), using(crate::proofs::RankLaws::none_in_front))]
+    pub(crate) fn enter_told(
         &mut self,
         alloc: Global,
         told: &ToldRanks<'_>,
@@ -186,8 +161,31 @@ impl Contest {
         self.ranks.clear();
         let is_viable = told.rank(numbers, &mut self.ranks)?;
         self.score
-            .enter(alloc, contender, is_viable, self.ranks.as_slice())?;
-        Ok(())
+            .enter(alloc, contender, is_viable, self.ranks.as_slice())
+    }
+
+    /// Takes in a candidate that isn't viable, or of which no rank is lower than the least one of its argument, and some is
+    /// higher. It takes no memory.
+    #[inline(always)]
+    pub(crate) fn pass(&mut self)
+        ensures passed { self.new ≡ spec.passed self.old }
+    {
+        self.score.pass();
+    }
+
+    /// Takes in a candidate that has all of the least ranks. It takes no memory.
+    #[inline(always)]
+    pub(crate) fn meet(&mut self, contender: Contender)
+        ensures met { self.new ≡ spec.met self.old contender self.old.front }
+    {
+        self.score.meet(contender);
+    }
+
+    /// The least rank of each argument, where some candidate is viable, and else none.
+    pub(crate) fn least(&self) -> &[u8]
+        ensures exact { result.now ≡ known_ranks self.now.least }
+    {
+        self.score.least_ranks()
     }
 
     /// Whether none was taken in. It takes no memory.

@@ -1,10 +1,9 @@
 //! What is kept of the candidates that a contest has seen.
-ghost use Rattle.std.specs.Prelude.{◌≡◌, ℕ, List, Option, true, false, OnOk, IfOk};
+ghost use Rattle.std.specs.Prelude.{◌≡◌, true, OnOk, IfOk};
 ghost use Rattle.ang_check_uses.specs.Contest as spec;
+ghost use Rattle.ang_check_uses.specs.Levels.{known_ranks};
 ghost use Rattle.ang_check_uses.specs.Scores.{ranks_if, standing};
-ghost use Rattle.ang_check_uses.specs.Told.{comparison_of, is_lower_too, said_by};
 
-use crate::told::Comparison;
 use ang_kinds::EntityNo;
 use std::alloc::{AllocError, Global};
 
@@ -175,9 +174,9 @@ impl Score {
         Ok(())
     }
 
-    /// Takes in a viable candidate that has just the least ranks.
+    /// Takes in a viable candidate that has just the least ranks. It takes no memory.
     #[inline(always)]
-    fn meet(&mut self, contender: Contender)
+    pub fn meet(&mut self, contender: Contender)
         ensures met { standing self.new
             ≡ spec.met (standing self.old) contender (standing self.old).front }
     {
@@ -191,18 +190,22 @@ impl Score {
         }
     }
 
-    /// Takes in a candidate of which no rank is lower than the least ones, or one that is not viable. It takes no memory.
+    /// Takes in a candidate that changes neither the least ranks nor who has them. It takes no memory.
     #[inline(always)]
-    pub fn keep(&mut self, contender: Contender, comparison: Comparison)
-        requires viable { self.old.is_viable ≡ true }
-        ensures kept { (ranks : Option (List ℕ)) →
-            said_by comparison ≡ comparison_of ranks self.old.least.items →
-            is_lower_too comparison ≡ false → standing self.new
-            ≡ spec.entered_with (standing self.old) contender ranks }
+    pub fn pass(&mut self)
+        ensures passed { standing self.new ≡ spec.passed (standing self.old) }
     {
         self.is_empty = false;
-        if comparison.is_viable && !comparison.is_higher {
-            self.meet(contender);
+    }
+
+    /// The least rank of each argument, where some candidate is viable, and else none.
+    pub fn least_ranks(&self) -> &[u8]
+        ensures exact { result.now ≡ known_ranks (standing self.now).least }
+    {
+        if self.is_viable {
+            self.least.as_slice()
+        } else {
+            &[]
         }
     }
 

@@ -1,7 +1,6 @@
 //! The ranks of the arguments of one call for all kinds of parameters, which are found out once.
-ghost use Rattle.std.specs.Prelude.{◌≡◌, ◌∷◌, [], ℕ, List, IfOk, Some, map as list_map};
+ghost use Rattle.std.specs.Prelude.{◌≡◌, IfOk, Some, length, map as list_map};
 ghost use Rattle.ang_types.specs.Overloads.{Params};
-ghost use Rattle.ang_types.specs.Ranks.{Ancestors, argument_rank};
 ghost use Rattle.ang_names_known.specs.Kinds.{kinds_at, numbered};
 ghost use Rattle.ang_check_uses.specs.Contest as contests;
 ghost use Rattle.ang_check_uses.specs.Scores.{in_front, ranks_if};
@@ -47,17 +46,6 @@ impl<'a> Model for ToldRanks<'a> {
         ≡ spec.told_ranks t.lineage.now (numbered t.receiver t.kinds.now) t.args.now };
 }
 
-/// What the ranks of a candidate are beside the least ones.
-#[derive(Clone, Copy)]
-pub struct Comparison {
-    /// Whether each argument has a rank.
-    pub is_viable: bool,
-    /// Whether some rank is less than the least one of its argument.
-    pub is_lower: bool,
-    /// Whether some rank is greater.
-    pub is_higher: bool,
-}
-
 /// The ranks of an argument for all kinds.
 ///
 /// The only error is want of memory.
@@ -89,7 +77,6 @@ fn ranks_of_argument(
 }
 
 /// The rank of an argument for the kind of a number.
-#[inline(always)]
 fn rank_at(row: &[Option<u8>], number: u32) -> Option<u8>
     ensures exact { result ≡ spec.rank_in row.now number }
 {
@@ -127,38 +114,6 @@ fn rank_told(
         [] => Ok(true),
         _ => Ok(false),
     }
-}
-
-/// What the ranks for the kinds of these numbers are beside the least ones.
-#[tactic(auto, using(crate::proofs::ToldLaws::compared_more, crate::proofs::ToldLaws::compared_alone))]
-#[inline(always)]
-fn compare_told(rows: &[Vec<Option<u8>>], numbers: &[u32], least: &[u8]) -> Comparison
-    ensures compared { spec.said_by result
-        ≡ spec.comparison_of (spec.ranks_at (spec.rows_of rows.now) numbers.now) least.now }
-{
-    let mut comparison = Comparison {
-        is_viable: false,
-        is_lower: false,
-        is_higher: false,
-    };
-    let mut rest = numbers;
-    let mut lowest = least;
-    for row in rows {
-        let Some((number, others)) = rest.split_first() else {
-            return comparison;
-        };
-        let Some(rank) = rank_at(row.as_slice(), *number) else {
-            return comparison;
-        };
-        if let Some((least, after)) = lowest.split_first() {
-            comparison.is_lower |= rank < *least;
-            comparison.is_higher |= *least < rank;
-            lowest = after;
-        }
-        rest = others;
-    }
-    comparison.is_viable = rest.is_empty();
-    comparison
 }
 
 impl<'a> ToldRanks<'a> {
@@ -204,15 +159,18 @@ impl<'a> ToldRanks<'a> {
         Ok(all)
     }
 
-    /// What the ranks for parameters of these kinds are beside the least ones. It takes no memory.
-    #[inline(always)]
-    pub(crate) fn compare(&self, numbers: &[u32], least: &[u8]) -> Comparison
-        ensures compared { (params : Params) →
-            kinds_at self.now.kinds numbers.now ≡ list_map Some params →
-            spec.said_by result
-            ≡ spec.comparison_of (contests.ranks_of self.now.ancestors params self.now.args)
-            least.now }
+    /// The ranks themselves, a row for each argument.
+    pub(crate) fn rows(&self) -> &[Vec<Option<u8>>]
+        ensures exact { spec.rows_of result.now
+            ≡ spec.told_ranks self.now.ancestors self.now.kinds self.now.args }
     {
-        compare_told(self.rows.as_slice(), numbers, least)
+        self.rows.as_slice()
+    }
+
+    /// How many arguments there are.
+    pub(crate) fn arguments(&self) -> usize
+        ensures exact { result ≡ length self.now.args }
+    {
+        self.args.len()
     }
 }

@@ -1,5 +1,5 @@
 //! The functions, factories and methods of the host that a call can mean, as they are taken in.
-ghost use Rattle.std.specs.Prelude.{◌≡◌, true, Some, is_some, OnOk};
+ghost use Rattle.std.specs.Prelude.{◌≡◌, true, Some, is_some, IfOk, OnOk};
 ghost use Rattle.std.specs.List.{flat_map};
 ghost use Rattle.ang_types.specs.Overloads.{Params};
 ghost use Rattle.ang_names_known.specs.Host as host;
@@ -12,32 +12,13 @@ use crate::contest::Contest;
 use crate::hosts::HostCallKind;
 use crate::scope::Scope;
 use crate::score::Contender;
-use crate::told::{ToldRanks, is_worth_telling};
+use crate::told::is_worth_telling;
+use crate::told_contest::ToldContest;
 use ang_kinds::{EntityNo, Param};
-use ang_names_known::{KnownEntries, Wanted, host_type};
+use ang_names_known::{KnownEntries, Wanted, host_type, is_wanted};
 use ang_types::ArgType;
-use ang_view::{Entry, EntryKind, View, belongs_to};
+use ang_view::{Entry, View};
 use std::alloc::{AllocError, Global};
-
-/// Whether an entry is what is wanted. It takes no memory.
-pub fn is_wanted(wanted: &Wanted<'_>, entry: &Entry) -> bool
-    ensures exact { result ≡ host.is_wanted wanted.now entry.now }
-{
-    match wanted {
-        Wanted::Function(name) => {
-            matches!(entry.kind, EntryKind::Function)
-                && entry.signature.name.as_slice() == name.bytes()
-        }
-        Wanted::Factory(number) => {
-            matches!(entry.kind, EntryKind::Factory) && belongs_to(entry.owner, *number as usize)
-        }
-        Wanted::Method(number, name) => {
-            matches!(entry.kind, EntryKind::Method)
-                && belongs_to(entry.owner, *number as usize)
-                && entry.signature.name.as_slice() == name.bytes()
-        }
-    }
-}
 
 /// Whether the types of all parameters of a host's function are seen.
 #[tactic(auto, using(crate::proofs::ChosenLaws::all_seen, crate::proofs::ChosenLaws::none_seen))]
@@ -141,9 +122,8 @@ fn enter_entries(
 /// Takes in the entry of this number, where it is wanted and all of its types are seen, by the ranks that are told.
 #[inline(always)]
 fn enter_told_entry(
-    contest: &mut Contest,
+    contest: &mut ToldContest<'_>,
     alloc: Global,
-    told: &ToldRanks<'_>,
     wanted: &Wanted<'_>,
     usage: HostCallKind,
     view: &View,
@@ -152,9 +132,11 @@ fn enter_told_entry(
 ) -> Result<(), AllocError>
     requires usage { spec.is_used_as usage wanted.now ≡ true }
     requires view { entries.now.view ≡ view.now }
-    requires kinds { told.now.kinds ≡ numbered (spec.receiver_as usage) entries.now.kinds }
-    ensures entered { OnOk result (contest.new
-        ≡ contests.after told.now.ancestors told.now.args contest.old
+    requires kinds { contest.old.telling.kinds
+        ≡ numbered (spec.receiver_as usage) entries.now.kinds }
+    ensures same { OnOk result (contest.new.telling ≡ contest.old.telling) }
+    ensures entered { OnOk result (contest.new.standing ≡ contests.after
+        contest.old.telling.ancestors contest.old.telling.args contest.old.standing
         (spec.host_entry usage wanted.now view.now number)) }
 {
     let Some(entry) = view.get(number) else {
@@ -166,7 +148,7 @@ fn enter_told_entry(
     match entries.row(number) {
         None => Ok(()),
         Some(row) => {
-            contest.enter_told(alloc, told, Contender::Entry(number), row)?;
+            contest.enter(alloc, Contender::Entry(number), row)?;
             Ok(())
         }
     }
@@ -175,9 +157,8 @@ fn enter_told_entry(
 /// Takes in those of these entries that are wanted, by the ranks that are told.
 #[tactic(auto, using(crate::proofs::Contests::after_append))]
 fn enter_told_entries(
-    contest: &mut Contest,
+    contest: &mut ToldContest<'_>,
     alloc: Global,
-    told: &ToldRanks<'_>,
     wanted: &Wanted<'_>,
     usage: HostCallKind,
     view: &View,
@@ -186,13 +167,15 @@ fn enter_told_entries(
 ) -> Result<(), AllocError>
     requires usage { spec.is_used_as usage wanted.now ≡ true }
     requires view { entries.now.view ≡ view.now }
-    requires kinds { told.now.kinds ≡ numbered (spec.receiver_as usage) entries.now.kinds }
-    ensures entered { OnOk result (contest.new
-        ≡ contests.after told.now.ancestors told.now.args contest.old
+    requires kinds { contest.old.telling.kinds
+        ≡ numbered (spec.receiver_as usage) entries.now.kinds }
+    ensures same { OnOk result (contest.new.telling ≡ contest.old.telling) }
+    ensures entered { OnOk result (contest.new.standing ≡ contests.after
+        contest.old.telling.ancestors contest.old.telling.args contest.old.standing
         (flat_map (spec.host_entry usage wanted.now view.now) numbers.now)) }
 {
     for number in numbers {
-        enter_told_entry(contest, alloc, told, wanted, usage, view, entries, *number)?;
+        enter_told_entry(contest, alloc, wanted, usage, view, entries, *number)?;
     }
     Ok(())
 }
@@ -207,30 +190,54 @@ fn receiver_as(usage: HostCallKind) -> u32
     }
 }
 
+/// Takes in those of these entries that are wanted, by ranks that are found out at once.
+fn enter_at_once(
+    contest: Contest,
+    alloc: Global,
+    scope: &Scope<'_>,
+    args: &[ArgType],
+    wanted: &Wanted<'_>,
+    usage: HostCallKind,
+    entries: &KnownEntries<'_>,
+    numbers: &[EntityNo],
+) -> Result<Contest, AllocError>
+    requires usage { spec.is_used_as usage wanted.now ≡ true }
+    requires view { entries.now.view ≡ scope.now.view }
+    ensures entered { IfOk result (λ entered. entered
+        ≡ contests.after scope.now.ancestors args.now contest
+        (flat_map (spec.host_entry usage wanted.now scope.now.view) numbers.now)) }
+{
+    let (lineage, receiver) = (scope.lineage(), receiver_as(usage));
+    let mut told = ToldContest::new(alloc, contest, lineage, receiver, entries.kinds(), args)?;
+    let view = scope.view();
+    enter_told_entries(&mut told, alloc, wanted, usage, view, entries, numbers)?;
+    Ok(told.into_contest())
+}
+
 /// Takes in those of these entries that are wanted: few of them one by one, many by ranks that are found out at once.
 ///
 /// The only error is want of memory.
 pub fn enter_hosts(
-    contest: &mut Contest,
+    contest: Contest,
     alloc: Global,
     scope: &Scope<'_>,
     args: &[ArgType],
     wanted: &Wanted<'_>,
     usage: HostCallKind,
     numbers: &[EntityNo],
-) -> Result<(), AllocError>
+) -> Result<Contest, AllocError>
     requires usage { spec.is_used_as usage wanted.now ≡ true }
-    ensures entered { OnOk result (contest.new ≡ contests.after scope.now.ancestors args.now
-        contest.old (flat_map (spec.host_entry usage wanted.now scope.now.view) numbers.now)) }
+    ensures entered { IfOk result (λ entered. entered
+        ≡ contests.after scope.now.ancestors args.now contest
+        (flat_map (spec.host_entry usage wanted.now scope.now.view) numbers.now)) }
 {
     let entries = scope.known_view().known_entries();
-    let kinds = entries.kinds();
-    if !is_worth_telling(numbers.len(), kinds.len()) {
-        return enter_entries(contest, alloc, scope, args, wanted, usage, numbers);
+    if is_worth_telling(numbers.len(), entries.kinds().len()) {
+        return enter_at_once(
+            contest, alloc, scope, args, wanted, usage, &entries, numbers,
+        );
     }
-    let told = ToldRanks::new(alloc, scope.lineage(), receiver_as(usage), kinds, args)?;
-    let view = scope.view();
-    enter_told_entries(
-        contest, alloc, &told, wanted, usage, view, &entries, numbers,
-    )
+    let mut contest = contest;
+    enter_entries(&mut contest, alloc, scope, args, wanted, usage, numbers)?;
+    Ok(contest)
 }

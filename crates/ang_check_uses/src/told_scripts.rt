@@ -1,5 +1,5 @@
 //! The functions and imports of the scripts that a call can mean, as they are taken in.
-ghost use Rattle.std.specs.Prelude.{◌≡◌, ℕ, OnOk, option_map, slice_get};
+ghost use Rattle.std.specs.Prelude.{◌≡◌, ℕ, IfOk, OnOk, option_map, slice_get};
 ghost use Rattle.std.specs.List.{flat_map};
 ghost use Rattle.ang_names_known.specs.Kinds.{Says, numbered};
 ghost use Rattle.ang_names_known.specs.Lookup.{functions_named as numbers_named, parameters_of};
@@ -11,7 +11,8 @@ use crate::contest::Contest;
 use crate::scope::Scope;
 use crate::score::Contender;
 use crate::scripts::FunctionList;
-use crate::told::{ToldRanks, is_worth_telling};
+use crate::told::is_worth_telling;
+use crate::told_contest::ToldContest;
 use ang_names_known::{KnownFunctions, ScriptFunction};
 use ang_types::{ArgType, Lineage};
 use std::alloc::{AllocError, Global};
@@ -89,22 +90,22 @@ fn row_of<'a>(
 #[tactic(auto, using(crate::proofs::ToldChoices::no_function, crate::proofs::ToldChoices::function_told))]
 #[inline(always)]
 fn enter_told_function(
-    contest: &mut Contest,
+    contest: &mut ToldContest<'_>,
     alloc: Global,
-    told: &ToldRanks<'_>,
     declared: FunctionList,
     functions: &KnownFunctions<'_>,
     number: usize,
 ) -> Result<(), AllocError>
-    requires kinds { told.now.kinds ≡ numbered 0 functions.now.kinds }
-    ensures entered { OnOk result (contest.new
-        ≡ contests.after told.now.ancestors told.now.args contest.old
+    requires kinds { contest.old.telling.kinds ≡ numbered 0 functions.now.kinds }
+    ensures same { OnOk result (contest.new.telling ≡ contest.old.telling) }
+    ensures entered { OnOk result (contest.new.standing ≡ contests.after
+        contest.old.telling.ancestors contest.old.telling.args contest.old.standing
         (spec.function_entry declared (spec.functions_in declared functions.now) number)) }
 {
     match row_of(functions, declared, number) {
         None => Ok(()),
         Some(row) => {
-            contest.enter_told(alloc, told, contender_in(declared, number), row)?;
+            contest.enter(alloc, contender_in(declared, number), row)?;
             Ok(())
         }
     }
@@ -113,82 +114,66 @@ fn enter_told_function(
 /// Takes in the functions of these numbers, by the ranks that are told.
 #[tactic(auto, using(crate::proofs::Contests::after_append))]
 fn enter_told_functions(
-    contest: &mut Contest,
+    contest: &mut ToldContest<'_>,
     alloc: Global,
-    told: &ToldRanks<'_>,
     declared: FunctionList,
     functions: &KnownFunctions<'_>,
     numbers: &[usize],
 ) -> Result<(), AllocError>
-    requires kinds { told.now.kinds ≡ numbered 0 functions.now.kinds }
-    ensures entered { OnOk result (contest.new
-        ≡ contests.after told.now.ancestors told.now.args contest.old
+    requires kinds { contest.old.telling.kinds ≡ numbered 0 functions.now.kinds }
+    ensures same { OnOk result (contest.new.telling ≡ contest.old.telling) }
+    ensures entered { OnOk result (contest.new.standing ≡ contests.after
+        contest.old.telling.ancestors contest.old.telling.args contest.old.standing
         (flat_map (spec.function_entry declared (spec.functions_in declared functions.now))
         numbers.now)) }
 {
     for number in numbers {
-        enter_told_function(contest, alloc, told, declared, functions, *number)?;
+        enter_told_function(contest, alloc, declared, functions, *number)?;
     }
     Ok(())
 }
 
 /// Takes in functions and imports of these numbers, by ranks that are found out at once.
 fn enter_at_once(
-    contest: &mut Contest,
+    contest: Contest,
     alloc: Global,
     lineage: &Lineage,
     args: &[ArgType],
     known: &KnownFunctions<'_>,
     functions: &[usize],
     imports: &[usize],
-) -> Result<(), AllocError>
-    ensures entered { OnOk result (contest.new ≡ contests.after lineage.now args.now
-        (contests.after lineage.now args.now contest.old
+) -> Result<Contest, AllocError>
+    ensures entered { IfOk result (λ entered. entered ≡ contests.after lineage.now args.now
+        (contests.after lineage.now args.now contest
         (flat_map (spec.function_entry list.Functions known.now.functions) functions.now))
         (flat_map (spec.function_entry list.Imports known.now.imports) imports.now)) }
 {
-    let told = ToldRanks::new(alloc, lineage, 0, known.kinds(), args)?;
-    enter_told_functions(
-        contest,
-        alloc,
-        &told,
-        FunctionList::Functions,
-        known,
-        functions,
-    )?;
-    enter_told_functions(contest, alloc, &told, FunctionList::Imports, known, imports)
+    let mut told = ToldContest::new(alloc, contest, lineage, 0, known.kinds(), args)?;
+    enter_told_functions(&mut told, alloc, FunctionList::Functions, known, functions)?;
+    enter_told_functions(&mut told, alloc, FunctionList::Imports, known, imports)?;
+    Ok(told.into_contest())
 }
 
-/// Takes in all functions and imports of a name.
-///
-/// The only error is want of memory.
-pub fn enter_scripts(
-    contest: &mut Contest,
+/// Takes in functions and imports of these numbers, one by one.
+fn enter_one_by_one(
+    contest: Contest,
     alloc: Global,
     scope: &Scope<'_>,
     args: &[ArgType],
-    name: &[u8],
-) -> Result<(), AllocError>
-    ensures entered { OnOk result (contest.new ≡ contests.after scope.now.ancestors args.now
-        (contests.after scope.now.ancestors args.now contest.old
-        (flat_map (spec.function_entry list.Functions scope.now.names.functions)
-        (numbers_named scope.now.names.functions name.now)))
-        (flat_map (spec.function_entry list.Imports scope.now.names.imports)
-        (numbers_named scope.now.names.imports name.now))) }
+    functions: &[usize],
+    imports: &[usize],
+) -> Result<Contest, AllocError>
+    ensures entered { IfOk result (λ entered. entered
+        ≡ contests.after scope.now.ancestors args.now
+        (contests.after scope.now.ancestors args.now contest
+        (flat_map (spec.function_entry list.Functions scope.now.names.functions) functions.now))
+        (flat_map (spec.function_entry list.Imports scope.now.names.imports) imports.now)) }
 {
     let lineage = scope.lineage();
     let names = scope.names();
-    let functions = names.functions_named(name);
-    let imports = names.imports_named(name);
-    let known = names.known_functions();
-    if is_worth_telling(
-        functions.len().saturating_add(imports.len()),
-        known.kinds().len(),
-    ) {
-        return enter_at_once(contest, alloc, lineage, args, &known, functions, imports);
-    }
+    let mut contest = contest;
     enter_functions(
-        contest,
+        &mut contest,
         alloc,
         lineage,
         args,
@@ -197,12 +182,44 @@ pub fn enter_scripts(
         functions,
     )?;
     enter_functions(
-        contest,
+        &mut contest,
         alloc,
         lineage,
         args,
         FunctionList::Imports,
         names.imports(),
         imports,
-    )
+    )?;
+    Ok(contest)
+}
+
+/// Takes in all functions and imports of a name: few of them one by one, many by ranks that are found out at once.
+///
+/// The only error is want of memory.
+pub fn enter_scripts(
+    contest: Contest,
+    alloc: Global,
+    scope: &Scope<'_>,
+    args: &[ArgType],
+    name: &[u8],
+) -> Result<Contest, AllocError>
+    ensures entered { IfOk result (λ entered. entered
+        ≡ contests.after scope.now.ancestors args.now
+        (contests.after scope.now.ancestors args.now contest
+        (flat_map (spec.function_entry list.Functions scope.now.names.functions)
+        (numbers_named scope.now.names.functions name.now)))
+        (flat_map (spec.function_entry list.Imports scope.now.names.imports)
+        (numbers_named scope.now.names.imports name.now))) }
+{
+    let names = scope.names();
+    let functions = names.functions_named(name);
+    let imports = names.imports_named(name);
+    let known = names.known_functions();
+    let count = functions.len().saturating_add(imports.len());
+    if is_worth_telling(count, known.kinds().len()) {
+        let lineage = scope.lineage();
+        enter_at_once(contest, alloc, lineage, args, &known, functions, imports)
+    } else {
+        enter_one_by_one(contest, alloc, scope, args, functions, imports)
+    }
 }

@@ -144,7 +144,8 @@ fn function_in(
     }))
 }
 
-fn is_wanted(wanted: &Wanted<'_>, entry: &Entry) -> bool
+/// Whether an entry is what is wanted. It takes no memory.
+pub fn is_wanted(wanted: &Wanted<'_>, entry: &Entry) -> bool
     ensures exact { result ≡ spec.is_wanted wanted.now entry.now }
 {
     match wanted {

@@ -31,7 +31,7 @@ pub use family_types::{FIRST_FAMILY, family_of_type, family_type};
 pub use found::FoundMethods;
 pub use functions::parameters_of;
 pub use host::{
-    SeenFunction, SeenProperty, Wanted, WantedProperty, found_at, host_type, host_where,
+    SeenFunction, SeenProperty, Wanted, WantedProperty, found_at, host_type, host_where, is_wanted,
     property_at, property_where,
 };
 pub use indexed::IndexedNames as Names;
