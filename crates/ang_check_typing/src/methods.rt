@@ -215,13 +215,14 @@ fn enter_told(
     if !can_be_called(methods, dispatch, place) {
         return Ok(());
     }
-    match methods.row(place) {
-        None => Ok(()),
-        Some(row) => {
-            contest.enter(alloc, Contender::Method(place), row)?;
-            Ok(())
-        }
+    let Some(row) = methods.row(place) else {
+        return Ok(());
+    };
+    if contest.passes(row) {
+        return Ok(());
     }
+    contest.enter(alloc, Contender::Method(place), row)?;
+    Ok(())
 }
 
 /// These methods, as they are taken in by ranks that are found out at once.

@@ -1,6 +1,6 @@
 -- How the ranks of arguments stand beside the least ones, as a number: 0 is the least rank, 1 a higher one, 2 a lower one, or one where there is
 -- no least one, and 3 none.
-use Rattle.std.specs.Prelude.{ℕ, ◌≡◌, ◌≢◌, List, [], ◌∷◌, nat_lt, if◌then◌else◌, map, max, slice_get, Option, Some, None, Vec}
+use Rattle.std.specs.Prelude.{ℕ, ◌≡◌, ◌≢◌, List, [], ◌∷◌, nat_lt, if◌then◌else◌, drop, map, max, slice_get, Option, Some, None, Vec}
 use Rattle.std.specs.declared.alloc.Global.{Global}
 use Rattle.ang_check_uses.specs.Contest.{Standing}
 use Rattle.ang_check_uses.specs.Told.{Telling, told_ranks}
@@ -17,26 +17,23 @@ levels_of ranks least = map (λ (r : Option ℕ). level_of r least) ranks
 -- those of each argument
 abbrev pub levels_beside : List (List (Option ℕ)) → List ℕ → List (List ℕ)
 levels_beside [] least = []
-levels_beside (row ∷ rows) [] = levels_of row None ∷ levels_beside rows []
-levels_beside (row ∷ rows) (m ∷ least) = levels_of row (Some m) ∷ levels_beside rows least
+levels_beside (row ∷ rows) least = levels_of row (slice_get least 0) ∷ levels_beside rows (drop 1 least)
 
 abbrev pub levels_in : List (Vec ℕ Global) → List (List ℕ)
 levels_in rows = map (λ (v : Vec ℕ Global). v.items) rows
 
-abbrev pub in_place : Option ℕ → ℕ
-in_place None = 3
-in_place (Some level) = level
+-- the greater one, if there are both
+abbrev pub greater : Option ℕ → Option ℕ → Option ℕ
+greater None other = None
+greater (Some level) None = None
+greater (Some level) (Some other) = Some (max level other)
 
--- the level for the kind of a number
-abbrev pub level_in : List ℕ → ℕ → ℕ
-level_in levels n = in_place (slice_get levels n)
-
--- the greatest of the levels for the kinds of these numbers, and 3 where there is not one for each argument
-abbrev pub worst : List (List ℕ) → List ℕ → ℕ
-worst [] [] = 0
-worst [] (n ∷ ns) = 3
-worst (levels ∷ rows) [] = 3
-worst (levels ∷ rows) (n ∷ ns) = max (level_in levels n) (worst rows ns)
+-- the greatest of the levels for the kinds of these numbers, where there is one for each argument
+abbrev pub worst : List (List ℕ) → List ℕ → Option ℕ
+worst [] [] = Some 0
+worst [] (n ∷ ns) = None
+worst (levels ∷ rows) [] = None
+worst (levels ∷ rows) (n ∷ ns) = greater (slice_get levels n) (worst rows ns)
 
 -- ---- a contest with levels
 

@@ -8,6 +8,7 @@ ghost use Rattle.ang_kinds.specs.declared.types.Pass.TheVariants.{RefInOut};
 ghost use Rattle.ang_names_known.specs.Host as host;
 ghost use Rattle.ang_names_known.specs.Kinds.{kinds_at};
 ghost use Rattle.ang_names_known.specs.Lookup.{parameters_of};
+ghost use Rattle.ang_check_uses.specs.declared.score.Contender.{Contender as Named};
 ghost use Rattle.ang_check_uses.specs.Contest as spec;
 ghost use Rattle.ang_check_uses.specs.Levels.{known_ranks};
 
@@ -146,7 +147,7 @@ impl Contest {
     /// Takes in a candidate whose parameters have the kinds of these numbers.
     ///
     /// The only error is want of memory.
-    #[tactic(auto, unfolding(crate::specs::Contest::entered), using(crate::proofs::RankLaws::none_in_front))]
+    #[tactic(auto, unfolding(crate::specs::Contest::entered))]
     pub(crate) fn enter_told(
         &mut self,
         alloc: Global,
@@ -161,7 +162,8 @@ impl Contest {
         self.ranks.clear();
         let is_viable = told.rank(numbers, &mut self.ranks)?;
         self.score
-            .enter(alloc, contender, is_viable, self.ranks.as_slice())
+            .enter(alloc, contender, is_viable, self.ranks.as_slice())?;
+        Ok(())
     }
 
     /// Takes in a candidate that isn't viable, or of which no rank is lower than the least one of its argument, and some is
@@ -173,12 +175,16 @@ impl Contest {
         self.score.pass();
     }
 
-    /// Takes in a candidate that has all of the least ranks. It takes no memory.
+    /// Takes in a candidate that has all of the least ranks, if another one is named that has them. Whether it was taken in.
+    /// It takes no memory.
     #[inline(always)]
-    pub(crate) fn meet(&mut self, contender: Contender)
-        ensures met { self.new ≡ spec.met self.old contender self.old.front }
+    pub(crate) fn tie(&mut self) -> bool
+        ensures tied { result ≡ true → (named : Named) →
+            self.new ≡ spec.met self.old named self.old.front }
+        ensures least { self.new.least ≡ self.old.least }
+        ensures left { result ≡ false → self.new ≡ self.old }
     {
-        self.score.meet(contender);
+        self.score.tie()
     }
 
     /// The least rank of each argument, where some candidate is viable, and else none.

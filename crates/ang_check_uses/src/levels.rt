@@ -7,15 +7,15 @@ ghost use Rattle.ang_check_uses.specs.Told as told;
 use std::alloc::{AllocError, Global};
 
 /// The rank is the least one.
-pub const LEAST: u8 = 0;
+pub const LEAST: u32 = 0;
 /// It is higher.
-pub const HIGHER: u8 = 1;
+pub const HIGHER: u32 = 1;
 /// It is lower, or there is no least one.
-pub const LOWER: u8 = 2;
+pub const LOWER: u32 = 2;
 /// There is no rank.
-pub const NONE: u8 = 3;
+pub const NONE: u32 = 3;
 
-fn level_of(rank: Option<u8>, least: Option<u8>) -> u8
+fn level_of(rank: Option<u8>, least: Option<u8>) -> u32
     ensures exact { result ≡ spec.level_of rank least }
 {
     let Some(rank) = rank else {
@@ -36,7 +36,7 @@ fn level_of(rank: Option<u8>, least: Option<u8>) -> u8
 /// The levels of the ranks of one argument.
 ///
 /// The only error is want of memory.
-fn levels_of(alloc: Global, ranks: &[Option<u8>], least: Option<u8>) -> Result<Vec<u8>, AllocError>
+fn levels_of(alloc: Global, ranks: &[Option<u8>], least: Option<u8>) -> Result<Vec<u32>, AllocError>
     ensures exact { IfOk result (λ levels. levels.items ≡ spec.levels_of ranks.now least) }
 {
     let mut levels = Vec::with_capacity(alloc, ranks.len())?;
@@ -64,7 +64,7 @@ pub fn levels_beside(
     alloc: Global,
     rows: &[Vec<Option<u8>>],
     least: &[u8],
-) -> Result<Vec<Vec<u8>>, AllocError>
+) -> Result<Vec<Vec<u32>>, AllocError>
     ensures exact { IfOk result (λ levels. spec.levels_in levels.items
         ≡ spec.levels_beside (told.rows_of rows.now) least.now) }
 {
@@ -79,26 +79,16 @@ pub fn levels_beside(
     Ok(all)
 }
 
-/// The level for the kind of a number.
+/// The greatest of the levels for the kinds of these numbers, each in the row of its argument, if there is one for each.
 #[inline(always)]
-fn level_at(levels: &[u8], number: u32) -> u8
-    ensures exact { result ≡ spec.level_in levels.now number }
-{
-    match levels.get(number as usize) {
-        None => NONE,
-        Some(level) => *level,
-    }
-}
-
-/// The greatest of the levels for the kinds of these numbers, each in the row of its argument.
-#[inline(always)]
-pub fn worst_level(levels: &[Vec<u8>], numbers: &[u32]) -> u8
+pub fn worst_level(levels: &[Vec<u32>], numbers: &[u32]) -> Option<u32>
     requires same { length numbers.now ≡ length levels.now }
     ensures exact { result ≡ spec.worst (spec.levels_in levels.now) numbers.now }
 {
     let mut worst = LEAST;
     for place in 0..levels.len() {
-        worst = worst.max(level_at(levels[place].as_slice(), numbers[place]));
+        let level = *levels[place].get(numbers[place] as usize)?;
+        worst = worst.max(level);
     }
-    worst
+    Some(worst)
 }

@@ -1,5 +1,6 @@
 //! What is kept of the candidates that a contest has seen.
-ghost use Rattle.std.specs.Prelude.{◌≡◌, true, OnOk, IfOk};
+ghost use Rattle.std.specs.Prelude.{◌≡◌, true, false, OnOk, IfOk};
+ghost use Rattle.ang_check_uses.specs.declared.score.Contender.{Contender as Named};
 ghost use Rattle.ang_check_uses.specs.Contest as spec;
 ghost use Rattle.ang_check_uses.specs.Levels.{known_ranks};
 ghost use Rattle.ang_check_uses.specs.Scores.{ranks_if, standing};
@@ -174,9 +175,8 @@ impl Score {
         Ok(())
     }
 
-    /// Takes in a viable candidate that has just the least ranks. It takes no memory.
-    #[inline(always)]
-    pub fn meet(&mut self, contender: Contender)
+    /// Takes in a viable candidate that has just the least ranks.
+    fn meet(&mut self, contender: Contender)
         ensures met { standing self.new
             ≡ spec.met (standing self.old) contender (standing self.old).front }
     {
@@ -196,6 +196,23 @@ impl Score {
         ensures passed { standing self.new ≡ spec.passed (standing self.old) }
     {
         self.is_empty = false;
+    }
+
+    /// Takes in a viable candidate that has just the least ranks, if another one is named that has them. Whether it was taken
+    /// in. It takes no memory.
+    #[inline(always)]
+    pub fn tie(&mut self) -> bool
+        ensures tied { result ≡ true → (named : Named) → standing self.new
+            ≡ spec.met (standing self.old) named (standing self.old).front }
+        ensures least { (standing self.new).least ≡ (standing self.old).least }
+        ensures left { result ≡ false → standing self.new ≡ standing self.old }
+    {
+        if self.front.is_none() {
+            return false;
+        }
+        self.is_empty = false;
+        self.is_tied = true;
+        true
     }
 
     /// The least rank of each argument, where some candidate is viable, and else none.

@@ -16,7 +16,7 @@ const FEW: usize = 16;
 
 /// Whether it is worth to find out the ranks for so many kinds at once, where a call has so many candidates.
 pub fn is_worth_telling(candidates: usize, kinds: usize) -> bool {
-    candidates >= FEW && kinds / 4 <= candidates
+    candidates >= FEW && kinds <= candidates
 }
 
 /// For each argument of a call its rank for each kind of parameter. Contracts see of what these are the ranks.

@@ -1,13 +1,12 @@
 //! A contest among many candidates, for which the ranks of the arguments are found out once.
-ghost use Rattle.std.specs.Prelude.{◌≡◌, OnOk, IfOk, Some, map as list_map};
+ghost use Rattle.std.specs.Prelude.{◌≡◌, ◌≢◌, true, false, length, OnOk, IfOk, Some, map as list_map};
 ghost use Rattle.ang_types.specs.Overloads.{Params};
 ghost use Rattle.ang_names_known.specs.Kinds.{kinds_at, numbered};
 ghost use Rattle.ang_check_uses.specs.declared.score.Contender.{Contender as Named};
-ghost use Rattle.ang_check_uses.specs.declared.told_contest.Beside.TheVariants as beside;
 ghost use Rattle.ang_check_uses.specs.Contest as contests;
 
 use crate::contest::Contest;
-use crate::levels::{HIGHER, LEAST, NONE, levels_beside, worst_level};
+use crate::levels::{LEAST, LOWER, levels_beside, worst_level};
 use crate::score::Contender;
 use crate::told::ToldRanks;
 use ang_kinds::Pass;
@@ -23,7 +22,7 @@ pub struct ToldContest<'a> {
     contest: Contest,
     told: ToldRanks<'a>,
     /// The levels of all ranks beside the least ones, if they are known.
-    levels: Vec<Vec<u8>>,
+    levels: Vec<Vec<u32>>,
 }
 
 impl<'a> Model for ToldContest<'a> {
@@ -34,17 +33,6 @@ impl<'a> Model for ToldContest<'a> {
     ghost view = { λ c. record { telling = c.told; standing = c.contest } };
 
     ghost invariant = { λ c. spec.AreLevels c.told c.contest (spec.levels_in c.levels.items) };
-}
-
-/// How the ranks of a candidate stand beside the least ones.
-#[derive(Clone, Copy)]
-enum Beside {
-    /// They are the same.
-    Same,
-    /// Some argument has none, or none is lower and some is higher.
-    Behind,
-    /// They have to be looked at.
-    Other,
 }
 
 impl<'a> ToldContest<'a> {
@@ -81,75 +69,56 @@ impl<'a> ToldContest<'a> {
         self.contest
     }
 
-    /// The same of a candidate for which there are no levels.
-    fn without_levels(&self, numbers: &[u32]) -> Beside
-        ensures not_same { result ≢ beside.Same }
-        ensures behind { result ≡ beside.Behind → length numbers.now ≢ length self.now.telling.args }
+    /// Takes in a candidate that has not one parameter for each argument. Whether it was taken in.
+    #[inline(never)]
+    fn passes_by_number(&mut self, numbers: &[u32]) -> bool
+        ensures same { self.new.telling ≡ self.old.telling }
+        ensures other_number { result ≡ true →
+            length numbers.now ≢ length self.old.telling.args }
+        ensures passed { result ≡ true → self.new.standing ≡ contests.passed self.old.standing }
+        ensures left { result ≡ false → self.new.standing ≡ self.old.standing }
     {
         if numbers.len() == self.told.arguments() {
-            Beside::Other
-        } else {
-            Beside::Behind
+            return false;
         }
+        self.contest.pass();
+        true
     }
 
-    /// How the ranks of a candidate stand beside the least ones, whose parameters have the kinds of these numbers.
+    /// Takes in a candidate whose parameters have the kinds of these numbers, if it changes neither the least ranks nor which
+    /// candidate is named. Whether it was taken in. It takes no memory.
     #[inline(always)]
-    fn beside(&self, numbers: &[u32]) -> Beside
-        ensures same { result ≡ beside.Same → (params : Params) (named : Named) →
-            kinds_at self.now.telling.kinds numbers.now ≡ list_map Some params →
-            contests.entered self.now.telling.ancestors self.now.telling.args self.now.standing
-            named params ≡ contests.met self.now.standing named self.now.standing.front }
-        ensures behind { result ≡ beside.Behind → (params : Params) (named : Named) →
-            kinds_at self.now.telling.kinds numbers.now ≡ list_map Some params →
-            contests.entered self.now.telling.ancestors self.now.telling.args self.now.standing
-            named params ≡ contests.passed self.now.standing }
-    {
-        if numbers.len() != self.levels.len() {
-            return self.without_levels(numbers);
-        }
-        let worst = worst_level(self.levels.as_slice(), numbers);
-        if worst == HIGHER || worst == NONE {
-            return Beside::Behind;
-        }
-        if worst == LEAST && !numbers.is_empty() {
-            return Beside::Same;
-        }
-        Beside::Other
-    }
-
-    /// Takes in a candidate whose parameters have the kinds of these numbers.
-    ///
-    /// The only error is want of memory.
-    #[inline(always)]
-    pub fn enter(
-        &mut self,
-        alloc: Global,
-        contender: Contender,
-        numbers: &[u32],
-    ) -> Result<(), AllocError>
-        ensures same { OnOk result (self.new.telling ≡ self.old.telling) }
-        ensures entered { OnOk result ((params : Params) →
+    pub fn passes(&mut self, numbers: &[u32]) -> bool
+        ensures same { self.new.telling ≡ self.old.telling }
+        ensures passed { result ≡ true → (params : Params) (named : Named) →
             kinds_at self.old.telling.kinds numbers.now ≡ list_map Some params →
             self.new.standing ≡ contests.entered self.old.telling.ancestors
-            self.old.telling.args self.old.standing contender params) }
+            self.old.telling.args self.old.standing named params }
+        ensures left { result ≡ false → self.new.standing ≡ self.old.standing }
     {
-        match self.beside(numbers) {
-            Beside::Behind => {
-                self.contest.pass();
-                Ok(())
-            }
-            Beside::Same => {
-                self.contest.meet(contender);
-                Ok(())
-            }
-            Beside::Other => self.enter_anew(alloc, contender, numbers),
+        if numbers.len() != self.levels.len() {
+            return self.passes_by_number(numbers);
         }
+        let Some(worst) = worst_level(self.levels.as_slice(), numbers) else {
+            self.contest.pass();
+            return true;
+        };
+        if worst == LEAST {
+            return !numbers.is_empty() && self.contest.tie();
+        }
+        if worst == LOWER {
+            return false;
+        }
+        self.contest.pass();
+        true
     }
 
-    /// The same by all of its ranks. The levels are left out as long as those of the least ranks that are new aren't known.
+    /// Takes in a candidate whose parameters have the kinds of these numbers. The levels are left out as long as those beside
+    /// new least ranks aren't known.
+    ///
+    /// The only error is want of memory.
     #[inline(never)]
-    fn enter_anew(
+    pub fn enter(
         &mut self,
         alloc: Global,
         contender: Contender,

@@ -145,13 +145,14 @@ fn enter_told_entry(
     if !is_wanted(wanted, entry) {
         return Ok(());
     }
-    match entries.row(number) {
-        None => Ok(()),
-        Some(row) => {
-            contest.enter(alloc, Contender::Entry(number), row)?;
-            Ok(())
-        }
+    let Some(row) = entries.row(number) else {
+        return Ok(());
+    };
+    if contest.passes(row) {
+        return Ok(());
     }
+    contest.enter(alloc, Contender::Entry(number), row)?;
+    Ok(())
 }
 
 /// Takes in those of these entries that are wanted, by the ranks that are told.

@@ -102,13 +102,14 @@ fn enter_told_function(
         contest.old.telling.ancestors contest.old.telling.args contest.old.standing
         (spec.function_entry declared (spec.functions_in declared functions.now) number)) }
 {
-    match row_of(functions, declared, number) {
-        None => Ok(()),
-        Some(row) => {
-            contest.enter(alloc, contender_in(declared, number), row)?;
-            Ok(())
-        }
+    let Some(row) = row_of(functions, declared, number) else {
+        return Ok(());
+    };
+    if contest.passes(row) {
+        return Ok(());
     }
+    contest.enter(alloc, contender_in(declared, number), row)?;
+    Ok(())
 }
 
 /// Takes in the functions of these numbers, by the ranks that are told.
