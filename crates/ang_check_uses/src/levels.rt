@@ -79,6 +79,14 @@ pub fn levels_beside(
     Ok(all)
 }
 
+/// The level for the kind of a number.
+#[inline(always)]
+fn level_at(levels: &[u32], number: u32) -> Option<u32>
+    ensures exact { result ≡ slice_get levels.now number }
+{
+    levels.get(number as usize).copied()
+}
+
 /// The greatest of the levels for the kinds of these numbers, each in the row of its argument, if there is one for each.
 #[inline(always)]
 pub fn worst_level(levels: &[Vec<u32>], numbers: &[u32]) -> Option<u32>
@@ -87,7 +95,7 @@ pub fn worst_level(levels: &[Vec<u32>], numbers: &[u32]) -> Option<u32>
 {
     let mut worst = LEAST;
     for place in 0..levels.len() {
-        let level = *levels[place].get(numbers[place] as usize)?;
+        let level = level_at(levels[place].as_slice(), numbers[place])?;
         worst = worst.max(level);
     }
     Some(worst)
