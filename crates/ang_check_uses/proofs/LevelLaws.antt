@@ -1,5 +1,5 @@
 -- What the greatest of a candidate's levels says of its ranks, and so of what comes of it.
-use Rattle.std.proofs.Common.{◌≡◌, ◌≢◌, ◌⊎◌, inl, inr, ℕ, Bool, true, false, List, [], ◌∷◌, map, length, Option, Some, None, refl, ap, sym, subst, suc, drop, drop-cons, get_or, ◌∙◌, arith}
+use Rattle.std.proofs.Common.{◌≡◌, ◌≢◌, ◌⊎◌, inl, inr, ℕ, Bool, true, false, List, [], ◌∷◌, map, length, Option, Some, None, refl, ap, sym, subst, suc, drop, drop-cons, get_or, add-one, ◌+◌, ◌∙◌, arith}
 use Rattle.std.specs.Prelude.{◌<◌, slice_get, option_map, nat_lt, if◌then◌else◌, max, Vec}
 use Rattle.std.specs.declared.alloc.Global.{Global}
 use Rattle.std.proofs.lemmas.Option.{same_Some, slice_get-map}
@@ -117,24 +117,26 @@ further : (k level : ℕ) (w : Option ℕ) → greater (Some (max k level)) w �
 further k level None = refl
 further k level (Some j) = ap Some (max_of_three k level j)
 
-module _ (rows : List (Vec ℕ Global)) (ns : List ℕ) (p : ℕ) (v : Vec ℕ Global) (n : ℕ) (lt : p < length rows) (same : length ns ≡ length rows) (is_v : v ≡ get_or rows p v) (is_n : n ≡ get_or ns p n) where
+module _ (rows : List (Vec ℕ Global)) (ns : List ℕ) (p : ℕ) (v : Vec ℕ Global) (lt : p < length rows) (same : length ns ≡ length rows) (is_v : v ≡ get_or rows p v) where
   abbrev from_here : Option ℕ
   from_here = worst (levels_in (drop p rows)) (drop p ns)
 
-  abbrev after_it : Option ℕ
-  after_it = worst (levels_in (drop (suc p) rows)) (drop (suc p) ns)
+  abbrev after_it : ℕ → Option ℕ
+  after_it q = worst (levels_in (drop q rows)) (drop q ns)
 
-  begins : from_here ≡ greater (slice_get v.items n) after_it
+  begins : from_here ≡ greater (slice_get v.items (get_or ns p 0)) (after_it (suc p))
   begins =
       let row : drop p rows ≡ v ∷ drop (suc p) rows = drop-cons rows p v lt ∙ ap (λ x. x ∷ drop (suc p) rows) (sym is_v) in
-      let number : drop p ns ≡ n ∷ drop (suc p) ns = drop-cons ns p n (omega (arith, lt, same)) ∙ ap (λ x. x ∷ drop (suc p) ns) (sym is_n) in
+      let number : drop p ns ≡ get_or ns p 0 ∷ drop (suc p) ns = drop-cons ns p 0 (omega (arith, lt, same)) in
       λ i. worst (levels_in (row i)) (number i)
 
-  pub worst_more : (k level : ℕ) → slice_get v.items n ≡ Some level → greater (Some (max k level)) after_it ≡ greater (Some k) from_here
-  worst_more k level e = further k level after_it ∙ ap (greater (Some k)) (ap (λ l. greater l after_it) (sym e) ∙ sym begins)
+  pub worst_more : (k level : ℕ) → slice_get v.items (get_or ns p 0) ≡ Some level → greater (Some (max k level)) (after_it (p + 1)) ≡ greater (Some k) from_here
+  worst_more k level e =
+      ap (λ q. greater (Some (max k level)) (after_it q)) (add-one p)
+      ∙ (further k level (after_it (suc p)) ∙ ap (greater (Some k)) (ap (λ l. greater l (after_it (suc p))) (sym e) ∙ sym begins))
 
-  pub worst_missing : (k : ℕ) → slice_get v.items n ≡ None → greater (Some k) from_here ≡ None
-  worst_missing k e = ap (greater (Some k)) (begins ∙ ap (λ l. greater l after_it) e)
+  pub worst_missing : (k : ℕ) → slice_get v.items (get_or ns p 0) ≡ None → greater (Some k) from_here ≡ None
+  worst_missing k e = ap (greater (Some k)) (begins ∙ ap (λ l. greater l (after_it (suc p))) e)
 
 -- where there is an argument and no least rank, none is the least
 two_at_least : (q : Option (Option ℕ)) (w : Option ℕ) → greater (option_map (λ (r : Option ℕ). level_of r None) q) w ≡ Some 0 → ⊥

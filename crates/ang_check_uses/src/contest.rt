@@ -1,5 +1,5 @@
 //! The best of several candidates, each of which is looked at once, as it comes.
-ghost use Rattle.std.specs.Prelude.{◌≡◌, ◌∷◌, List, Some, IfOk, OnOk, map as list_map};
+ghost use Rattle.std.specs.Prelude.{◌≡◌, ◌∷◌, true, false, List, Some, OnOk, map as list_map};
 ghost use Rattle.ang_types.specs.declared.arg_type.ArgType.{ArgType};
 ghost use Rattle.ang_types.specs.Best.{best_of};
 ghost use Rattle.ang_types.specs.Overloads.{Params};

@@ -155,7 +155,7 @@ impl<'a> ToldRanks<'a> {
             ranks_if all ranks.new.items ≡ in_front ranks.old.items
             (contests.ranks_of self.now.ancestors params self.now.args)) }
     {
-        let all = rank_told(self.rows.as_slice(), numbers, ranks)?;
+        let all = rank_told(self.rows(), numbers, ranks)?;
         Ok(all)
     }
 

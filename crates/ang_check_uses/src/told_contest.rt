@@ -64,7 +64,7 @@ impl<'a> ToldContest<'a> {
 
     /// The contest alone.
     pub fn into_contest(self) -> Contest
-        ensures same { result ≡ self.standing }
+        ensures same { result ≡ self.entry.standing }
     {
         self.contest
     }
