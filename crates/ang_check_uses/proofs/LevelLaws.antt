@@ -110,6 +110,10 @@ worst_says (row ∷ rows) least (n ∷ ns) = argument_more row n (worst (levels_
 
 -- ---- the greatest level, found from place to place
 
+pub levels_long : (rows : List (Vec ℕ Global)) → length (levels_in rows) ≡ length rows
+levels_long [] = refl
+levels_long (v ∷ rows) = ap suc (levels_long rows)
+
 max_of_three : (a b c : ℕ) → max (max a b) c ≡ max a (max b c)
 max_of_three a b c = omega arith
 

@@ -87,7 +87,6 @@ fn row_of<'a>(
 }
 
 /// Takes in the function of this number, where there is one, by the ranks that are told.
-#[tactic(auto, using(crate::proofs::ToldChoices::no_function, crate::proofs::ToldChoices::function_told))]
 #[inline(always)]
 fn enter_told_function(
     contest: &mut ToldContest<'_>,
