@@ -1,12 +1,14 @@
 -- Numbers of kinds go on saying the same where there are more kinds.
-use Rattle.std.proofs.Common.{◌≡◌, ℕ, zero, suc, ◌+◌, ◌<◌, ◌≤◌, List, [], ◌∷◌, ◌++◌, length, map, take, drop, Option, Some, None, get_or, arith, refl, sym, ap, subst, ◌∙◌}
+use Rattle.std.proofs.Common.{◌≡◌, ℕ, Bool, true, false, zero, suc, ◌+◌, ◌<◌, ◌≤◌, List, [], ◌∷◌, ◌++◌, length, map, take, drop, Option, Some, None, get_or, arith, refl, sym, ap, subst, ◌∙◌}
 use Rattle.std.specs.Prelude.{slice_get, option_map}
 use Rattle.std.proofs.lemmas.List.{drop_more, length-append, map-append}
 use Rattle.std.proofs.lemmas.Option.{same_Some, slice_get-map}
 use Rattle.ang_types.specs.Overloads.{Params}
 use Rattle.ang_names_known.specs.declared.kinds.Span.{Span}
 use Rattle.ang_names_known.specs.KindRows.{AreWithin, at_span, in_place, row_at, rows_of}
-use Rattle.ang_names_known.specs.Kinds.{AreRows, Keeps, Kind, Rows, Says, kinds_at, kinds_of, numbered, params_in, told_of}
+use Rattle.ang_names_known.specs.declared.names.Family.{Family}
+use Rattle.ang_names_known.specs.Kinds.{AreRows, Keeps, Kind, Rows, Says, kinds_at, kinds_of, method_params, numbered, params_in, receiver, receiver_number, told_of}
+use Rattle.ang_names_known.specs.Numbering.{rows_wanted}
 
 -- ---- numbers
 
@@ -79,6 +81,63 @@ row_pushed old new keeps rows row o rest all e says =
     ∙ one_after (kinds_of new rows) (option_map (kinds_at new) row) rest
     ∙ (λ i. before i ++ says i ∷ rest)
     ∙ e
+
+-- the row of a function more
+pub row_added : (old new : List Kind) → Keeps old new → (rows new_rows : Rows) (ns : List ℕ) (ps : Params) (rest all : List (Option Params))
+    → kinds_of old rows ++ told_of (Some ps ∷ rest) ≡ told_of all → kinds_at new ns ≡ map Some ps → new_rows ≡ rows ++ Some ns ∷ []
+    → kinds_of new new_rows ++ told_of rest ≡ told_of all
+row_added old new keeps rows new_rows ns ps rest all e says pushed =
+    ap (λ r. kinds_of new r ++ told_of rest) pushed ∙ row_pushed old new keeps rows (Some ns) (Some ps) (told_of rest) all e (ap Some says)
+
+-- no row is left to come
+pub rows_end : (kinds : List Kind) (rows : Rows) (rest all : List (Option Params)) → rest ≡ [] → kinds_of kinds rows ++ told_of rest ≡ told_of all → kinds_of kinds rows ≡ told_of all
+rows_end kinds rows rest all none e = sym (nothing_after (kinds_of kinds rows)) ∙ ap (λ r. kinds_of kinds rows ++ told_of r) (sym none) ∙ e
+
+-- the number of a receiver is that of its kind
+pub receiver_is : (t : ℕ) (kinds : List Kind) (read_only : Bool) → slice_get (numbered t kinds) (receiver_number read_only) ≡ Some (receiver t read_only)
+receiver_is t kinds false = refl
+receiver_is t kinds true = refl
+
+-- ---- rows of several lists of functions
+
+kept_tables : (old new : List Kind) → Keeps old new → (tables : List Rows) (rest : List (List (Option (List (Option Kind))))) (all : List (List (Option Params)))
+    → map (kinds_of old) tables ++ rest ≡ map told_of all → map (kinds_of new) tables ≡ map (kinds_of old) tables
+kept_tables old new keeps [] rest all e = refl
+kept_tables old new keeps (rows ∷ tables) rest [] e = cc
+kept_tables old new keeps (rows ∷ tables) rest (params ∷ all) e =
+    let here : kinds_of old rows ≡ told_of params = cc in
+    let there : map (kinds_of old) tables ++ rest ≡ map told_of all = cc in
+    λ i. kept_rows old new keeps rows [] params (nothing_after (kinds_of old rows) ∙ here) i ∷ kept_tables old new keeps tables rest all there i
+
+-- the rows of one list more
+table_added : (old new : List Kind) → Keeps old new → (tables new_tables : List Rows) (rows : Rows) (told : List (Option (List (Option Kind)))) (rest : List (List (Option (List (Option Kind)))))
+    (all : List (List (Option Params))) → map (kinds_of old) tables ++ told ∷ rest ≡ map told_of all → kinds_of new rows ≡ told → new_tables ≡ tables ++ rows ∷ []
+    → map (kinds_of new) new_tables ++ rest ≡ map told_of all
+table_added old new keeps tables new_tables rows told rest all e says pushed =
+    let before : map (kinds_of new) tables ≡ map (kinds_of old) tables = kept_tables old new keeps tables (told ∷ rest) all e in
+    ap (λ r. map (kinds_of new) r ++ rest) pushed
+    ∙ ap (λ r. r ++ rest) (map-append (kinds_of new) tables (rows ∷ []))
+    ∙ one_after (map (kinds_of new) tables) (kinds_of new rows) rest
+    ∙ (λ i. before i ++ says i ∷ rest)
+    ∙ e
+
+wanted_is : (t : ℕ) (fs : List Family) → rows_wanted t fs ≡ map told_of (map (λ (f : Family). method_params t f.methods) fs)
+wanted_is t [] = refl
+wanted_is t (f ∷ fs) = ap (λ r. told_of (method_params t f.methods) ∷ r) (wanted_is t fs)
+
+-- the rows of a family's methods more
+pub family_added : (t : ℕ) (old new : List Kind) → Keeps (numbered t old) (numbered t new) → (tables new_tables : List Rows) (rows : Rows) (f : Family) (rest all : List Family)
+    → map (kinds_of (numbered t old)) tables ++ rows_wanted t (f ∷ rest) ≡ rows_wanted t all → kinds_of (numbered t new) rows ≡ told_of (method_params t f.methods)
+    → new_tables ≡ tables ++ rows ∷ [] → map (kinds_of (numbered t new)) new_tables ++ rows_wanted t rest ≡ rows_wanted t all
+family_added t old new keeps tables new_tables rows f rest all e says pushed =
+    table_added (numbered t old) (numbered t new) keeps tables new_tables rows (told_of (method_params t f.methods)) (rows_wanted t rest)
+    (map (λ (g : Family). method_params t g.methods) all) (e ∙ wanted_is t all) says pushed
+    ∙ sym (wanted_is t all)
+
+pub families_end : (t : ℕ) (kinds : List Kind) (tables : List Rows) (rest all : List Family) → rest ≡ [] → map (kinds_of (numbered t kinds)) tables ++ rows_wanted t rest ≡ rows_wanted t all
+    → map (kinds_of (numbered t kinds)) tables ≡ rows_wanted t all
+families_end t kinds tables rest all none e =
+    sym (nothing_after (map (kinds_of (numbered t kinds)) tables)) ∙ ap (λ r. map (kinds_of (numbered t kinds)) tables ++ rows_wanted t r) (sym none) ∙ e
 
 -- ---- a loop over a list
 

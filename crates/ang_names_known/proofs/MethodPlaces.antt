@@ -1,5 +1,5 @@
 -- Methods by their places.
-use Rattle.std.proofs.Common.{◌≡◌, ◌||◌, ℕ, zero, suc, List, [], ◌∷◌, ◌++◌, length, map, take, Option, Some, None, refl, sym, ap, ◌∙◌}
+use Rattle.std.proofs.Common.{◌≡◌, ◌||◌, ℕ, zero, suc, Bool, List, [], ◌∷◌, ◌++◌, length, map, take, drop, Option, Some, None, refl, sym, ap, ◌∙◌}
 use Rattle.std.specs.Prelude.{slice_get, option_map, option_to_list}
 use Rattle.std.specs.List.{list_any}
 use Rattle.std.proofs.lemmas.List.{map-append}
@@ -8,6 +8,7 @@ use Rattle.ang_names_known.specs.declared.methods.MethodPlace.{MethodPlace}
 use Rattle.ang_names_known.specs.declared.names.Family.{Family}
 use Rattle.ang_names_known.specs.Lookup.{FoundMethod, stands_in}
 use Rattle.ang_names_known.specs.MethodPlaces.{AreFound, found_at, found_in, stands_at, stands_with}
+use Rattle.ang_names_known.proofs.NearestMethods.{any_of_both}
 
 append_assoc : {A : Type 0} → (xs ys zs : List A) → (xs ++ ys) ++ zs ≡ xs ++ (ys ++ zs)
 append_assoc [] ys zs = refl
@@ -82,3 +83,8 @@ few_found fs slot (suc k) (p ∷ ps) are =
     let s = split fs p ps are in
     (λ i. stands_with slot (s.here i) || few_found fs slot k ps s.there i)
     ∙ sym (ap (λ o. list_any (stands_in slot) (take (suc k) (option_to_list o ++ found_in fs ps))) s.here)
+
+-- a slot is that of one of the first eight, or of one after them
+pub slot_of_both : (fs : List Family) (slot : ℕ) (ps : List MethodPlace) (few behind : Bool) → AreFound fs ps → few ≡ list_any (stands_at fs slot) (take 8 ps)
+    → behind ≡ list_any (stands_in slot) (drop 8 (found_in fs ps)) → (few || behind) ≡ list_any (stands_in slot) (found_in fs ps)
+slot_of_both fs slot ps few behind are is others = any_of_both slot (found_in fs ps) few behind (is ∙ few_found fs slot 8 ps are) others

@@ -69,7 +69,7 @@ impl<'a> FoundMethods<'a> {
         requires there { AreFound families.now (spec.places_in places) }
         requires rows { AreMethodRows numbering.now.kinds.items numbering.now.methods.items
             families.now }
-        ensures methods { result.methods ≡ found_in families.now (spec.places_in places) }
+        ensures methods { result.methods ≡ found_in families.now (spec.places_in places.entry) }
     {
         FoundMethods {
             families,
