@@ -1,13 +1,17 @@
 -- Numbers of kinds go on saying the same where there are more kinds.
 use Rattle.std.proofs.Common.{◌≡◌, ℕ, Bool, true, false, zero, suc, ◌+◌, ◌<◌, ◌≤◌, List, [], ◌∷◌, ◌++◌, length, map, take, drop, Option, Some, None, get_or, arith, refl, sym, ap, subst, ◌∙◌}
 use Rattle.std.specs.Prelude.{slice_get, option_map}
+use Rattle.std.specs.Option.{option_flatten}
 use Rattle.std.proofs.lemmas.List.{drop_more, length-append, map-append}
 use Rattle.std.proofs.lemmas.Option.{same_Some, slice_get-map}
 use Rattle.ang_types.specs.Overloads.{Params}
 use Rattle.ang_names_known.specs.declared.kinds.Span.{Span}
-use Rattle.ang_names_known.specs.KindRows.{AreWithin, at_span, in_place, row_at, rows_of}
+use Rattle.ang_names_known.specs.KindRows.{AreWithin, at_span, row_at, rows_of}
 use Rattle.ang_names_known.specs.declared.names.Family.{Family}
-use Rattle.ang_names_known.specs.Kinds.{AreRows, Keeps, Kind, Rows, Says, kinds_at, kinds_of, method_params, numbered, params_in, receiver, receiver_number, told_of}
+use Rattle.ang_names_known.specs.declared.names.ScriptFunction.{ScriptFunction}
+use Rattle.ang_names_known.specs.declared.names.ScriptMethod.{ScriptMethod}
+use Rattle.ang_names_known.specs.Kinds.{AreRows, Keeps, Kind, Rows, Says, function_params, kinds_at, kinds_of, method_params, numbered, params_on, receiver, receiver_number, told_of}
+use Rattle.ang_names_known.specs.Lookup.{parameters_of}
 use Rattle.ang_names_known.specs.Numbering.{rows_wanted}
 
 -- ---- numbers
@@ -229,38 +233,46 @@ within_none numbers (o ∷ spans) within zero t e = within zero t e
 within_none numbers (o ∷ spans) within (suc n) t e = within_none numbers spans (within_rest numbers o spans within) n t e
 
 pub row_is : (numbers : List ℕ) (spans : List (Option Span)) (n : ℕ) (o : Option Span) → slice_get spans n ≡ Some o → row_at (rows_of numbers spans) n ≡ option_map (at_span numbers) o
-row_is numbers spans n o e = ap in_place (slice_get-map (option_map (at_span numbers)) spans n ∙ ap (option_map (option_map (at_span numbers))) e)
+row_is numbers spans n o e = ap option_flatten (slice_get-map (option_map (at_span numbers)) spans n ∙ ap (option_map (option_map (at_span numbers))) e)
 
 pub no_row : (numbers : List ℕ) (spans : List (Option Span)) (n : ℕ) → slice_get spans n ≡ None → row_at (rows_of numbers spans) n ≡ None
-no_row numbers spans n e = ap in_place (slice_get-map (option_map (at_span numbers)) spans n ∙ ap (option_map (option_map (at_span numbers))) e)
+no_row numbers spans n e = ap option_flatten (slice_get-map (option_map (at_span numbers)) spans n ∙ ap (option_map (option_map (at_span numbers))) e)
 
 -- ---- what a row says
 
 -- the row at a place is that of what stands there
-pub says_at : (t : ℕ) (kinds : List Kind) (rows : Rows) (params : ℕ → List (Option Params)) (n : ℕ) → AreRows kinds rows params
-    → Says t kinds (row_at rows n) (params_in (slice_get (params t) n))
-says_at t kinds rows params n are = by (slice_get rows n) (slice_get (params t) n) same
+pub says_in : (kinds : List Kind) (rows : Rows) (params : List (Option Params)) (n : ℕ) → kinds_of kinds rows ≡ told_of params
+    → option_map (kinds_at kinds) (row_at rows n) ≡ option_map (map Some) (option_flatten (slice_get params n))
+says_in kinds rows params n are = by (slice_get rows n) (slice_get params n) same
   where
-    same : option_map (option_map (kinds_at (numbered t kinds))) (slice_get rows n) ≡ option_map (option_map (map Some)) (slice_get (params t) n)
-    same = sym (slice_get-map (option_map (kinds_at (numbered t kinds))) rows n) ∙ ap (λ xs. slice_get xs n) (are t) ∙ slice_get-map (option_map (map Some)) (params t) n
+    same : option_map (option_map (kinds_at kinds)) (slice_get rows n) ≡ option_map (option_map (map Some)) (slice_get params n)
+    same = sym (slice_get-map (option_map (kinds_at kinds)) rows n) ∙ ap (λ xs. slice_get xs n) are ∙ slice_get-map (option_map (map Some)) params n
 
-    by : (row : Option (Option (List ℕ))) (o : Option (Option Params)) → option_map (option_map (kinds_at (numbered t kinds))) row ≡ option_map (option_map (map Some)) o
-        → Says t kinds (in_place row) (params_in o)
+    by : (row : Option (Option (List ℕ))) (o : Option (Option Params)) → option_map (option_map (kinds_at kinds)) row ≡ option_map (option_map (map Some)) o
+        → option_map (kinds_at kinds) (option_flatten row) ≡ option_map (map Some) (option_flatten o)
     by None None e = refl
     by None (Some o) e = cc
     by (Some row) None e = cc
-    by (Some row) (Some o) e = same_Some (option_map (kinds_at (numbered t kinds)) row) (option_map (map Some) o) e
+    by (Some row) (Some o) e = same_Some (option_map (kinds_at kinds) row) (option_map (map Some) o) e
 
 -- the parameters of what stands at a place
-pub params_at : {A : Type 0} (f : A → Params) (xs : List A) (n : ℕ) → params_in (slice_get (map (λ (x : A). Some (f x)) xs) n) ≡ option_map f (slice_get xs n)
+params_at : {A : Type 0} (f : A → Params) (xs : List A) (n : ℕ) → option_flatten (slice_get (map (λ (x : A). Some (f x)) xs) n) ≡ option_map f (slice_get xs n)
 params_at f [] n = refl
 params_at f (x ∷ xs) zero = refl
 params_at f (x ∷ xs) (suc n) = params_at f xs n
 
 -- a row at a place is that of the function there
-pub says_of : {A : Type 0} (t : ℕ) (kinds : List Kind) (rows : Rows) (f : ℕ → A → Params) (xs : List A) (n : ℕ) (row : Option (List ℕ))
-    → AreRows kinds rows (λ t. map (λ (x : A). Some (f t x)) xs) → row ≡ row_at rows n → Says t kinds row (option_map (f t) (slice_get xs n))
-says_of t kinds rows f xs n row are is =
+pub says_function : (t : ℕ) (kinds : List Kind) (rows : Rows) (fs : List ScriptFunction) (n : ℕ) (row : Option (List ℕ)) → AreRows kinds rows (λ u. function_params fs) → row ≡ row_at rows n
+    → Says t kinds row (option_map parameters_of (slice_get fs n))
+says_function t kinds rows fs n row are is =
     ap (option_map (kinds_at (numbered t kinds))) is
-    ∙ says_at t kinds rows (λ t. map (λ x. Some (f t x)) xs) n are
-    ∙ ap (option_map (map Some)) (params_at (f t) xs n)
+    ∙ says_in (numbered t kinds) rows (function_params fs) n (are t)
+    ∙ ap (option_map (map Some)) (params_at parameters_of fs n)
+
+-- that of a method, its receiver in front
+pub says_method : (t : ℕ) (kinds : List Kind) (rows : Rows) (ms : List ScriptMethod) (n : ℕ) (row : Option (List ℕ)) → kinds_of (numbered t kinds) rows ≡ told_of (method_params t ms)
+    → row ≡ row_at rows n → Says t kinds row (option_map (params_on t) (slice_get ms n))
+says_method t kinds rows ms n row are is =
+    ap (option_map (kinds_at (numbered t kinds))) is
+    ∙ says_in (numbered t kinds) rows (method_params t ms) n are
+    ∙ ap (option_map (map Some)) (params_at (params_on t) ms n)

@@ -14,3 +14,4 @@ pub mod SameKinds
 pub mod MethodPlaces
 pub mod CrowdedLists
 pub mod SeenRows
+pub mod FoundRows

@@ -1,6 +1,7 @@
 -- Rows of what a module sees of the host.
 use Rattle.std.proofs.Common.{◌≡◌, ℕ, Bool, true, false, zero, suc, ◌+◌, List, [], ◌∷◌, ◌++◌, map, drop, Option, Some, None, refl, sym, ap, ◌∙◌}
-use Rattle.std.specs.Prelude.{slice_get, slice_index_or, option_map, option_and_then}
+use Rattle.std.specs.Prelude.{slice_get, slice_index_or, is_some, option_map, option_and_then}
+use Rattle.std.specs.Option.{option_flatten}
 use Rattle.std.proofs.lemmas.List.{append-nil, map-append}
 use Rattle.ang_kinds.specs.declared.types.Param.{Param}
 use Rattle.ang_kinds.specs.declared.types.Pass.{Pass}
@@ -11,9 +12,9 @@ use Rattle.ang_view.specs.declared.entry.EntryKind.{EntryKind}
 use Rattle.ang_view.specs.declared.entry.EntryKind.TheVariants as entry
 use Rattle.ang_view.specs.Registration.{RegistrationList, entry_at}
 use Rattle.ang_names_known.specs.Host.{host_parameters, host_type, in_front}
-use Rattle.ang_names_known.specs.Kinds.{AreRows, Keeps, Kind, Rows, Says, SaysIf, after, entry_params, kinds_at, kinds_of, numbered, params_by, params_in, receiver, receiver_number, receiver_row, row_if, seen_with, told_of, view_params}
+use Rattle.ang_names_known.specs.Kinds.{AreRows, Keeps, Kind, Rows, Says, SaysIf, after, entry_params, kinds_at, kinds_of, numbered, params_by, receiver, receiver_number, receiver_row, row_if, seen_with, told_of, view_params}
 use Rattle.ang_names_known.specs.KindRows.{row_at}
-use Rattle.ang_names_known.proofs.KeptNumbers.{number_pushed, receiver_is, row_pushed, says_at}
+use Rattle.ang_names_known.proofs.KeptNumbers.{number_pushed, receiver_is, row_pushed, says_in}
 
 -- ---- parameters of which the types are seen
 
@@ -97,6 +98,10 @@ no_front t (entry.EnumValue v) read_only (Some ps) e = refl
 
 -- ---- entries
 
+pub some_there : {A : Type 0} → (o : Option A) → is_some o ≡ true → (x : A) × (o ≡ Some x)
+some_there None e = cc
+some_there (Some x) e = (x, refl)
+
 -- an entry that can't be called
 pub says_none : (V : RegistrationList) (t : ℕ) (x : Entry) (kinds : List Kind) (ns : List ℕ) → None ≡ receiver_row x.kind x.signature.read_only
     → SaysIf false (numbered t kinds) ns (entry_params V t (Some x))
@@ -119,13 +124,23 @@ says_seen V t x ty all old kinds before ns f is says =
     ∙ sym (ap (λ o. option_map (map Some) (option_and_then (params_by t x.kind x.signature.read_only) (seen_with o (host_parameters V x.signature.params)))) is)
 
 -- the row of an entry more
-pub entry_added : (old new : List Kind) → Keeps old new → (rows new_rows : Rows) (all : Bool) (ns : List ℕ) (o : Option Params) (rest others : List (Option Params))
+entry_added : (old new : List Kind) → Keeps old new → (rows new_rows : Rows) (all : Bool) (ns : List ℕ) (o : Option Params) (rest others : List (Option Params))
     → kinds_of old rows ++ told_of (o ∷ rest) ≡ told_of others → SaysIf all new ns o → new_rows ≡ rows ++ row_if all ns ∷ []
     → kinds_of new new_rows ++ told_of rest ≡ told_of others
 entry_added old new keeps rows new_rows all ns o rest others e says pushed =
     ap (λ r. kinds_of new r ++ told_of rest) pushed ∙ row_pushed old new keeps rows (row_if all ns) o (told_of rest) others e says
 
-params_of_entry : (V W : RegistrationList) (t n : ℕ) → params_in (slice_get (map (entry_params V t) W) n) ≡ entry_params V t (slice_index_or W n None)
+-- an entry that stands there has its row put in, or none
+pub entry_put : (V : RegistrationList) (t : ℕ) (old new : List Kind) → Keeps (numbered t old) (numbered t new) → (rows new_rows : Rows) (all : Bool) (ns : List ℕ) (o : Option Entry) (x : Entry)
+    (row : Option (List ℕ)) → o ≡ Some x → SaysIf all (numbered t new) ns (entry_params V t (Some x)) → row ≡ row_if all ns → new_rows ≡ rows ++ row ∷ []
+    → (rest others : List (Option Params)) → kinds_of (numbered t old) rows ++ told_of (entry_params V t o ∷ rest) ≡ told_of others
+    → kinds_of (numbered t new) new_rows ++ told_of rest ≡ told_of others
+entry_put V t old new keeps rows new_rows all ns o x row is says row_is pushed rest others e =
+    entry_added (numbered t old) (numbered t new) keeps rows new_rows all ns (entry_params V t o) rest others e
+    (says ∙ ap (λ p. option_map (map Some) (entry_params V t p)) (sym is))
+    (pushed ∙ ap (λ r. rows ++ r ∷ []) row_is)
+
+params_of_entry : (V W : RegistrationList) (t n : ℕ) → option_flatten (slice_get (map (entry_params V t) W) n) ≡ entry_params V t (slice_index_or W n None)
 params_of_entry V [] t zero = refl
 params_of_entry V [] t (suc n) = refl
 params_of_entry V (x ∷ W) t zero = refl
@@ -136,5 +151,5 @@ pub says_of_entry : (V : RegistrationList) (t : ℕ) (kinds : List Kind) (rows :
     → Says t kinds row (entry_params V t (entry_at V n))
 says_of_entry V t kinds rows n row are is =
     ap (option_map (kinds_at (numbered t kinds))) is
-    ∙ says_at t kinds rows (view_params V) n are
+    ∙ says_in (numbered t kinds) rows (view_params V t) n (are t)
     ∙ ap (option_map (map Some)) (params_of_entry V V t n)

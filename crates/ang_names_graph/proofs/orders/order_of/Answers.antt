@@ -32,14 +32,14 @@ loop-distance-preserved c =
       omega (arith, end, more),
       λ e s.
           ring_pushed e n c.args.i (l._distance + 1) c.push_ring.new.near l.places.items next c.push_ring.new.places.items c.len-end.result
-          (round_next edges e n c.args.i l._distance l.near.items c.push_ring.new.near ring next l.places.items s c.requires.there (l.invariant.1.1 e s) refl marked) end pushed,
+          (round_next edges e n c.args.i l._distance l.near.items c.push_ring.new.near ring next l.places.items s c.requires.there (l.invariant.2 e s) refl marked) end pushed,
     )
 
 pub returns : goal.returns
 returns c =
     let l = c.loop-distance in
     let e : l._distance ≡ c.args.n = search rules in
-    record { exact = λ f s. round_end f c.args.n c.args.i l._distance l.near.items (drop l.first l.places.items) l.places.items e (l.invariant.1.1 f s) }
+    record { exact = λ f s. round_end f c.args.n c.args.i l._distance l.near.items (drop l.first l.places.items) l.places.items e (l.invariant.2 f s) }
 
 pub returns-then-first-end : goal.returns-then-first-end
 returns-then-first-end c =
@@ -49,5 +49,5 @@ returns-then-first-end c =
     let within : l._distance ≤ c.args.n = omega (arith, c.loop-distance-test.true) in
     record {
       exact = λ e s. round_stop e c.args.n c.args.i l._distance l.near.items (drop l.first l.places.items) l.places.items
-          (drop_all l.first l.places.items past) within (l.invariant.1.1 e s);
+          (drop_all l.first l.places.items past) within (l.invariant.2 e s);
     }

@@ -18,7 +18,7 @@ loop-number-preserved c =
     let n : ℕ = get_or order i 0 in
     let before : List FoundMethod = filter (is_named name) (methods_at fs (take i order)) in (
       c.in_ok-push_methods.ensures.there,
-      c.in_ok-push_methods.ensures.pushed before c.loop-number.invariant.1.0
+      c.in_ok-push_methods.ensures.pushed before c.loop-number.invariant.1
           ∙ ap (λ ms. nearest (before ++ ms)) (methods_are (slice_get fs n) n name c.find-places.result.now (c.find-places.ensures.exact ∙ c.requires.indexed n name))
           ∙ ap nearest (family_more fs name order i c.loop-number-test.true),
       c.in_ok-push_methods.ensures.slots,
@@ -31,7 +31,7 @@ returns c =
     record {
       there = c.loop-number.invariant.0;
       exact =
-          c.loop-number.invariant.1.0
+          c.loop-number.invariant.1
           ∙ ap (λ ns. nearest (filter (is_named c.args.name.now) (methods_at c.args.families.now ns))) (take_all c.loop-number.number-index c.order_of-order.result.now over)
           ∙ ap (λ kin. nearest (filter (is_named c.args.name.now) (flat_map methods_in kin))) c.order_of-order.ensures.exact;
     }

@@ -17,7 +17,7 @@ loop-place-preserved c =
           place_more before c.args.owner methods c.args.places.now c.loop-place.place-index
           (option_map (of_owner c.args.owner) (slice_get methods (slice_index_or c.args.places.now c.loop-place.place-index 0)))
           (found_in fs c.loop-place.found.items) (found_in fs c.push_method.new.found.items)
-          c.loop-place-test.true refl (c.loop-place.invariant.1.0 before h) c.in_ok-push_method.ensures.pushed,
+          c.loop-place-test.true refl (c.loop-place.invariant.1 before h) c.in_ok-push_method.ensures.pushed,
       c.in_ok-push_method.ensures.slots,
     )
 
@@ -26,8 +26,8 @@ returns c =
     let over : length c.args.places.now ≤ c.loop-place.place-index = omega arith in
     record {
       pushed = λ before h.
-          c.loop-place.invariant.1.0 before h
+          c.loop-place.invariant.1 before h
           ∙ ap (λ ps. nearest (before ++ at_places c.args.owner (methods_declared (slice_get c.args.families.now c.args.owner)) ps)) (take_all c.loop-place.place-index c.args.places.now over);
       there = c.loop-place.invariant.0;
-      slots = c.loop-place.invariant.1.1;
+      slots = c.loop-place.invariant.2;
     }

@@ -1,7 +1,7 @@
-use Rattle.std.proofs.Common.{◌≡◌, ◌≤◌, ◌++◌, ◌∷◌, ◌+◌, [], List, drop, length, map as list_map, refl, subst, arith, ◌∙◌}
+use Rattle.std.proofs.Common.{◌≡◌, ◌≤◌, ◌++◌, ◌∷◌, ◌+◌, [], List, drop, length, map as list_map, refl, ap, subst, arith, ◌∙◌}
 use Rattle.std.proofs.lemmas.List.{drop_all}
 use Rattle.ang_names_known.specs.declared.names.Family.{Family}
-use Rattle.ang_names_known.specs.Kinds.{kinds_of, numbered}
+use Rattle.ang_names_known.specs.Kinds.{kinds_of, method_params, numbered, told_of}
 use Rattle.ang_names_known.specs.Numbering.{rows_wanted}
 use Rattle.ang_names_known.proofs.KeptNumbers.{families_end, family_added, keeps_further, keeps_itself, left_here}
 use Rattle.ang_names_known.proofs.numbering.rows_of_families.Goals as goal
@@ -21,7 +21,7 @@ loop-family-preserved c =
       λ t.
           family_added t old new (c.in_ok-rows.ensures.keeps t) l.all.items c.push.new.self.items c.in_ok-rows.rows f (drop (l.family-index + 1) families) families
           (subst (λ fs. list_map (kinds_of (numbered t old)) l.all.items ++ rows_wanted t fs ≡ rows_wanted t families) here (l.invariant.1 t))
-          (c.in_ok-rows.ensures.rows t)
+          (c.in_ok-rows.ensures.rows t ∙ ap (λ ms. told_of (method_params t ms)) c.as_slice.ensures.same)
           c.in_ok-push.ensures.items,
     )
 

@@ -3,7 +3,7 @@ use Rattle.std.proofs.lemmas.List.{drop_all}
 use Rattle.ang_types.specs.Overloads.{Params}
 use Rattle.ang_names_known.specs.declared.names.ScriptFunction.{ScriptFunction}
 use Rattle.ang_names_known.specs.Kinds.{function_params, kinds_at, kinds_of, numbered, told_of}
-use Rattle.ang_names_known.specs.Lookup.{parameters_of}
+use Rattle.ang_names_known.specs.Lookup.{parameters_of, type_and_pass}
 use Rattle.ang_names_known.proofs.KeptNumbers.{keeps_further, keeps_itself, left_here, row_added, rows_end}
 use Rattle.ang_names_known.proofs.numbering.rows_of_functions.Goals as goal
 
@@ -24,8 +24,8 @@ loop-function-preserved c =
           row_added (numbered t old) (numbered t new) (c.in_ok-push_numbers.ensures.keeps t) l.rows c.push.new.self c.push_numbers.new.row.items (parameters_of f)
           (function_params (drop (l.function-index + 1) functions)) (function_params functions)
           (subst (λ fs. kinds_of (numbered t old) l.rows ++ told_of (function_params fs) ≡ told_of (function_params functions)) here (l.invariant.1 t))
-          (c.in_ok-push_numbers.ensures.pushed t [] (ap (kinds_at (numbered t old)) c.clear.ensures.items))
-          c.in_ok-push.ensures.pushed,
+          (c.in_ok-push_numbers.ensures.pushed t [] (ap (kinds_at (numbered t old)) c.clear.ensures.items) ∙ ap (λ ps. list_map Some (list_map type_and_pass ps)) c.as_slice.ensures.same)
+          (c.in_ok-push.ensures.pushed ∙ ap (λ ns. l.rows ++ Some ns ∷ []) c.as_slice-2.ensures.value),
     )
 
 pub returns : goal.returns

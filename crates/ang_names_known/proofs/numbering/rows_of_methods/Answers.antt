@@ -1,9 +1,10 @@
 use Rattle.std.proofs.Common.{◌≡◌, ◌≤◌, ◌++◌, ◌∷◌, ◌+◌, [], Some, List, Option, drop, length, map as list_map, refl, sym, ap, subst, arith, ◌∙◌}
+use Rattle.std.specs.Prelude.{slice_get}
 use Rattle.std.proofs.lemmas.List.{drop_all}
 use Rattle.ang_types.specs.Overloads.{Params}
 use Rattle.ang_names_known.specs.declared.names.ScriptMethod.{ScriptMethod}
 use Rattle.ang_names_known.specs.Kinds.{kinds_at, kinds_of, method_params, numbered, params_on, receiver, told_of}
-use Rattle.ang_names_known.specs.Lookup.{parameters_of}
+use Rattle.ang_names_known.specs.Lookup.{parameters_of, type_and_pass}
 use Rattle.ang_names_known.proofs.KeptNumbers.{keeps_further, keeps_itself, left_here, receiver_is, row_added, rows_end}
 use Rattle.ang_names_known.proofs.numbering.rows_of_methods.Goals as goal
 
@@ -25,9 +26,10 @@ loop-method-preserved c =
           (method_params t (drop (l.method-index + 1) methods)) (method_params t methods)
           (subst (λ ms. kinds_of (numbered t old) l.rows ++ told_of (method_params t ms) ≡ told_of (method_params t methods)) here (l.invariant.1 t))
           (c.in_ok-push_numbers.ensures.pushed t (receiver t m.read_only ∷ [])
-          (ap (kinds_at (numbered t old)) (c.in_ok-push.ensures.items ∙ ap (λ ns. ns ++ _ ∷ []) c.clear.ensures.items)
-          ∙ (λ i. (ap (slice_get (numbered t old)) c.receiver_number.ensures.exact ∙ receiver_is t old m.read_only) i ∷ [])))
-          c.in_ok-push-2.ensures.pushed,
+          (ap (kinds_at (numbered t old)) (c.in_ok-push.ensures.items ∙ ap (λ ns. ns ++ c.receiver_number.result ∷ []) c.clear.ensures.items)
+          ∙ (λ i. (ap (slice_get (numbered t old)) c.receiver_number.ensures.exact ∙ receiver_is t old m.read_only) i ∷ []))
+          ∙ ap (λ ps. list_map Some (receiver t m.read_only ∷ list_map type_and_pass ps)) c.as_slice.ensures.same)
+          (c.in_ok-push-2.ensures.pushed ∙ ap (λ ns. l.rows ++ Some ns ∷ []) c.as_slice-2.ensures.value),
     )
 
 pub returns : goal.returns
