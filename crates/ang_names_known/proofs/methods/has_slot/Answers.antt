@@ -12,7 +12,7 @@ returns-then-is_among_few c =
     let fs : List Family = c.args.families.now in
     let ps : List MethodPlace = c.args.found.now in
     let few : true ≡ list_any (stands_at fs c.args.slot) (take 8 ps) = sym c.if-is_among_few.true ∙ c.is_among_few.ensures.exact in
-    record { exact = slot_of_both fs c.args.slot ps true (list_any (stands_in c.args.slot) (drop 8 (found_in fs ps))) c.requires.there few refl }
+    record { exact = c.if-is_among_few.true ∙ slot_of_both fs c.args.slot ps true (list_any (stands_in c.args.slot) (drop 8 (found_in fs ps))) c.requires.there few refl }
 
 pub returns-else-is_among_few : goal.returns-else-is_among_few
 returns-else-is_among_few c =

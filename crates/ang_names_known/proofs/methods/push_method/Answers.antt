@@ -30,7 +30,8 @@ returns-then-has_slot-clause-pushed c =
     let lookup = c.in-Some.ensures.lookup in
     let here : slice_get (methods_declared (slice_get fs c.args.owner)) c.args.place ≡ Some m
     = ap (λ ms. slice_get ms c.args.place) (sym c.own_methods.ensures.exact) ∙ slice_get_read own (length own) c.args.place m refl lookup.3.0 lookup.1 in
-    let taken : list_any (stands_in m.slot) found ≡ true = sym c.has_slot.ensures.exact ∙ c.if-has_slot.true in
+    let taken : list_any (stands_in m.slot) found ≡ true
+    = ap (λ ps. list_any (stands_in m.slot) (found_in fs ps)) (sym c.deref.ensures.value) ∙ sym c.has_slot.ensures.exact ∙ c.if-has_slot.true in
     slot_taken found c.args.owner (slice_get (methods_declared (slice_get fs c.args.owner)) c.args.place) m here taken
 
 pub push_nearest-requires-clause-method : goal.push_nearest-requires-clause-method
@@ -55,7 +56,8 @@ returns-clause-pushed c =
     let here : slice_get (methods_declared (slice_get fs c.args.owner)) c.args.place ≡ Some m
     = ap (λ ms. slice_get ms c.args.place) (sym c.own_methods.ensures.exact) ∙ slice_get_read own (length own) c.args.place m refl lookup.3.0 lookup.1 in
     let there : found_at fs at ≡ Some (of_owner c.args.owner m) = found_here fs at c.args.owner c.args.place m c.in_ok-at.ensures.owner c.in_ok-at.ensures.place here in
-    let free : list_any (stands_in m.slot) found ≡ false = sym c.has_slot.ensures.exact ∙ c.if-has_slot.false in
+    let free : list_any (stands_in m.slot) found ≡ false
+    = ap (λ ps. list_any (stands_in m.slot) (found_in fs ps)) (sym c.deref.ensures.value) ∙ sym c.has_slot.ensures.exact ∙ c.if-has_slot.false in
     on_ok_weaker c.push_nearest.result
     (λ (pushed : c.push_nearest.new.found.items ≡ before ++ at ∷ []).
     ap (found_in fs) pushed ∙ found_more fs before at (of_owner c.args.owner m) there

@@ -25,7 +25,7 @@ loop-function-preserved c =
           (function_params (drop (l.function-index + 1) functions)) (function_params functions)
           (subst (λ fs. kinds_of (numbered t old) l.rows ++ told_of (function_params fs) ≡ told_of (function_params functions)) here (l.invariant.1 t))
           (c.in_ok-push_numbers.ensures.pushed t [] (ap (kinds_at (numbered t old)) c.clear.ensures.items) ∙ ap (λ ps. list_map Some (list_map type_and_pass ps)) c.as_slice.ensures.same)
-          (c.in_ok-push.ensures.pushed ∙ ap (λ ns. l.rows ++ Some ns ∷ []) c.as_slice-2.ensures.value),
+          (c.in_ok-push.ensures.pushed ∙ ap (λ ns. l.rows ++ Some ns ∷ []) c.as_slice-in-loop-function.ensures.value),
     )
 
 pub returns : goal.returns

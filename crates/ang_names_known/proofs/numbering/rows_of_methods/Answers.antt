@@ -22,14 +22,14 @@ loop-method-preserved c =
     let here : drop l.method-index methods ≡ m ∷ drop (l.method-index + 1) methods = left_here methods l.method-index m c.loop-method-test.true c.method-item.is in (
       λ t. keeps_further (numbered t c.args.table.now) (numbered t old) (numbered t new) (l.invariant.0 t) (c.in_ok-push_numbers.ensures.keeps t),
       λ t.
-          row_added (numbered t old) (numbered t new) (c.in_ok-push_numbers.ensures.keeps t) l.rows c.push-2.new.self c.push_numbers.new.row.items (params_on t m)
+          row_added (numbered t old) (numbered t new) (c.in_ok-push_numbers.ensures.keeps t) l.rows c.push-in-loop-method.new.self c.push_numbers.new.row.items (params_on t m)
           (method_params t (drop (l.method-index + 1) methods)) (method_params t methods)
           (subst (λ ms. kinds_of (numbered t old) l.rows ++ told_of (method_params t ms) ≡ told_of (method_params t methods)) here (l.invariant.1 t))
           (c.in_ok-push_numbers.ensures.pushed t (receiver t m.read_only ∷ [])
           (ap (kinds_at (numbered t old)) (c.in_ok-push.ensures.items ∙ ap (λ ns. ns ++ c.receiver_number.result ∷ []) c.clear.ensures.items)
           ∙ (λ i. (ap (slice_get (numbered t old)) c.receiver_number.ensures.exact ∙ receiver_is t old m.read_only) i ∷ []))
           ∙ ap (λ ps. list_map Some (receiver t m.read_only ∷ list_map type_and_pass ps)) c.as_slice.ensures.same)
-          (c.in_ok-push-2.ensures.pushed ∙ ap (λ ns. l.rows ++ Some ns ∷ []) c.as_slice-2.ensures.value),
+          (c.in_ok-push-2.ensures.pushed ∙ ap (λ ns. l.rows ++ Some ns ∷ []) c.as_slice-in-loop-method.ensures.value),
     )
 
 pub returns : goal.returns
