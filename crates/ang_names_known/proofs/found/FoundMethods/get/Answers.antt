@@ -1,22 +1,10 @@
-use Rattle.std.proofs.Common.{◌≡◌, ◌≤◌, ℕ, List, Some, None, length, refl, sym, ap, ◌∙◌}
+use Rattle.std.proofs.Common.{◌≡◌, List, Some, length, refl, sym, ap, ◌∙◌}
 use Rattle.std.specs.Prelude.{slice_get}
-use Rattle.std.proofs.lemmas.Option.{slice_get_past, slice_get_read}
+use Rattle.std.proofs.lemmas.Option.{slice_get_read}
 use Rattle.ang_names_known.specs.declared.methods.MethodPlace.{MethodPlace}
 use Rattle.ang_names_known.specs.Known.{KnownMethods, places_in}
-use Rattle.ang_names_known.proofs.MethodPlaces.{get_found, none_found}
+use Rattle.ang_names_known.proofs.MethodPlaces.{get_found}
 use Rattle.ang_names_known.proofs.found.FoundMethods.get.Goals as goal
-
-pub returns-in_err-at : goal.returns-in_err-at
-returns-in_err-at c =
-    let inside = c.self.inside in
-    let ps : List MethodPlace = places_in inside.places in
-    let shown : List MethodPlace = c.as_slice.result.now in
-    let past : length shown ≤ c.args.place = c.in_err-at.ensures.lookup.3 in
-    let none : slice_get ps c.args.place ≡ None = ap (λ xs. slice_get xs c.args.place) (sym c.as_slice.ensures.same) ∙ slice_get_past shown c.args.place past in
-    record {
-      exact = sym (none_found inside.families.now ps c.args.place c.self.invariant.0 none)
-          ∙ ap (λ (k : KnownMethods). slice_get k.methods c.args.place) c.self.view_is;
-    }
 
 pub returns : goal.returns
 returns c =

@@ -1,28 +1,17 @@
-use Rattle.std.proofs.Common.{◌≡◌, ◌≤◌, ℕ, List, Option, Some, None, Bor, length, refl, sym, ap, subst, ◌∙◌}
+use Rattle.std.proofs.Common.{◌≡◌, ◌≤◌, ℕ, List, Option, Some, None, Bor, length, refl, sym, ap, subst, rules, ◌∙◌}
 use Rattle.std.specs.Prelude.{option_map, slice_get}
 use Rattle.std.proofs.lemmas.Option.{slice_get_past, slice_get_read}
 use Rattle.ang_names_known.specs.declared.methods.MethodPlace.{MethodPlace}
 use Rattle.ang_names_known.specs.Kinds.{Rows, Says, params_on}
 use Rattle.ang_names_known.specs.Known.{KnownMethods, places_in}
 use Rattle.ang_names_known.specs.Lookup.{FoundMethod}
-use Rattle.ang_names_known.proofs.FoundRows.{says_found, says_no_method, says_no_rows}
+use Rattle.ang_names_known.specs.MethodPlaces.{found_in}
+use Rattle.ang_names_known.proofs.FoundRows.{says_found, says_no_rows}
 use Rattle.ang_names_known.proofs.found.FoundMethods.row.Goals as goal
 
 -- the row is that of the method at a place
 abbrev says_there : ℕ → ℕ → Option (List ℕ) → KnownMethods → Type 0
 says_there t n row k = Says t k.kinds row (option_map (λ (m : FoundMethod). params_on t m.method) (slice_get k.methods n))
-
-pub returns-in_err-at : goal.returns-in_err-at
-returns-in_err-at c =
-    let inside = c.self.inside in
-    let ps : List MethodPlace = places_in inside.places in
-    let shown : List MethodPlace = c.as_slice.result.now in
-    let past : length shown ≤ c.args.place = c.in_err-at.ensures.lookup.3 in
-    let none : slice_get ps c.args.place ≡ None = ap (λ xs. slice_get xs c.args.place) (sym c.as_slice.ensures.same) ∙ slice_get_past shown c.args.place past in
-    record {
-      says = λ t. subst (says_there t c.args.place None) c.self.view_is
-          (says_no_method t inside.numbering.now.kinds.items inside.families.now ps c.args.place c.self.invariant.0 none);
-    }
 
 pub returns-in_err-rows : goal.returns-in_err-rows
 returns-in_err-rows c =
@@ -37,9 +26,12 @@ returns-in_err-rows c =
     let past : length tables ≤ at.owner = c.in_err-rows.ensures.lookup.3 in
     let none : slice_get inside.numbering.now.methods.items at.owner ≡ None
     = ap (λ xs. slice_get xs at.owner) (sym c.deref.ensures.value) ∙ slice_get_past tables at.owner past in
+    let row : Option (List ℕ) = option_map {T = Bor (List ℕ)} {U = List ℕ} (λ r. r.now) c.from_residual-in_err-rows.result in
+    let no_row : row ≡ None = search rules in
     record {
-      says = λ t. subst (says_there t c.args.place None) c.self.view_is
-          (says_no_rows t inside.numbering.now.kinds.items inside.numbering.now.methods.items inside.families.now ps c.args.place at c.self.invariant.0 c.self.invariant.1 here none);
+      says = λ t. subst (says_there t c.args.place row) c.self.view_is
+          (subst (λ r. says_there t c.args.place r (record { methods = found_in inside.families.now ps; kinds = inside.numbering.now.kinds.items })) (sym no_row)
+          (says_no_rows t inside.numbering.now.kinds.items inside.numbering.now.methods.items inside.families.now ps c.args.place at c.self.invariant.0 c.self.invariant.1 here none));
     }
 
 pub returns : goal.returns
