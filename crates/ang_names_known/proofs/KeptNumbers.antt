@@ -1,12 +1,18 @@
 -- Numbers of kinds go on saying the same where there are more kinds.
-use Rattle.std.proofs.Common.{◌≡◌, ℕ, zero, suc, ◌+◌, ◌<◌, ◌≤◌, List, [], ◌∷◌, ◌++◌, length, map, take, drop, Option, Some, None, get_or, arith, refl, sym, ap, subst, ◌∙◌}
+use Rattle.std.proofs.Common.{◌≡◌, ℕ, Bool, true, false, zero, suc, ◌+◌, ◌<◌, ◌≤◌, List, [], ◌∷◌, ◌++◌, length, map, take, drop, Option, Some, None, get_or, arith, refl, sym, ap, subst, ◌∙◌}
 use Rattle.std.specs.Prelude.{slice_get, option_map}
+use Rattle.std.specs.Option.{option_flatten}
 use Rattle.std.proofs.lemmas.List.{drop_more, length-append, map-append}
 use Rattle.std.proofs.lemmas.Option.{same_Some, slice_get-map}
 use Rattle.ang_types.specs.Overloads.{Params}
 use Rattle.ang_names_known.specs.declared.kinds.Span.{Span}
-use Rattle.ang_names_known.specs.KindRows.{AreWithin, at_span, in_place, row_at, rows_of}
-use Rattle.ang_names_known.specs.Kinds.{AreRows, Keeps, Kind, Rows, Says, kinds_at, kinds_of, numbered, params_in, told_of}
+use Rattle.ang_names_known.specs.KindRows.{AreWithin, at_span, row_at, rows_of}
+use Rattle.ang_names_known.specs.declared.names.Family.{Family}
+use Rattle.ang_names_known.specs.declared.names.ScriptFunction.{ScriptFunction}
+use Rattle.ang_names_known.specs.declared.names.ScriptMethod.{ScriptMethod}
+use Rattle.ang_names_known.specs.Kinds.{AreRows, Keeps, Kind, Rows, Says, function_params, kinds_at, kinds_of, method_params, numbered, params_on, receiver, receiver_number, told_of}
+use Rattle.ang_names_known.specs.Lookup.{parameters_of}
+use Rattle.ang_names_known.specs.Numbering.{rows_wanted}
 
 -- ---- numbers
 
@@ -79,6 +85,63 @@ row_pushed old new keeps rows row o rest all e says =
     ∙ one_after (kinds_of new rows) (option_map (kinds_at new) row) rest
     ∙ (λ i. before i ++ says i ∷ rest)
     ∙ e
+
+-- the row of a function more
+pub row_added : (old new : List Kind) → Keeps old new → (rows new_rows : Rows) (ns : List ℕ) (ps : Params) (rest all : List (Option Params))
+    → kinds_of old rows ++ told_of (Some ps ∷ rest) ≡ told_of all → kinds_at new ns ≡ map Some ps → new_rows ≡ rows ++ Some ns ∷ []
+    → kinds_of new new_rows ++ told_of rest ≡ told_of all
+row_added old new keeps rows new_rows ns ps rest all e says pushed =
+    ap (λ r. kinds_of new r ++ told_of rest) pushed ∙ row_pushed old new keeps rows (Some ns) (Some ps) (told_of rest) all e (ap Some says)
+
+-- no row is left to come
+pub rows_end : (kinds : List Kind) (rows : Rows) (rest all : List (Option Params)) → rest ≡ [] → kinds_of kinds rows ++ told_of rest ≡ told_of all → kinds_of kinds rows ≡ told_of all
+rows_end kinds rows rest all none e = sym (nothing_after (kinds_of kinds rows)) ∙ ap (λ r. kinds_of kinds rows ++ told_of r) (sym none) ∙ e
+
+-- the number of a receiver is that of its kind
+pub receiver_is : (t : ℕ) (kinds : List Kind) (read_only : Bool) → slice_get (numbered t kinds) (receiver_number read_only) ≡ Some (receiver t read_only)
+receiver_is t kinds false = refl
+receiver_is t kinds true = refl
+
+-- ---- rows of several lists of functions
+
+kept_tables : (old new : List Kind) → Keeps old new → (tables : List Rows) (rest : List (List (Option (List (Option Kind))))) (all : List (List (Option Params)))
+    → map (kinds_of old) tables ++ rest ≡ map told_of all → map (kinds_of new) tables ≡ map (kinds_of old) tables
+kept_tables old new keeps [] rest all e = refl
+kept_tables old new keeps (rows ∷ tables) rest [] e = cc
+kept_tables old new keeps (rows ∷ tables) rest (params ∷ all) e =
+    let here : kinds_of old rows ≡ told_of params = cc in
+    let there : map (kinds_of old) tables ++ rest ≡ map told_of all = cc in
+    λ i. kept_rows old new keeps rows [] params (nothing_after (kinds_of old rows) ∙ here) i ∷ kept_tables old new keeps tables rest all there i
+
+-- the rows of one list more
+table_added : (old new : List Kind) → Keeps old new → (tables new_tables : List Rows) (rows : Rows) (told : List (Option (List (Option Kind)))) (rest : List (List (Option (List (Option Kind)))))
+    (all : List (List (Option Params))) → map (kinds_of old) tables ++ told ∷ rest ≡ map told_of all → kinds_of new rows ≡ told → new_tables ≡ tables ++ rows ∷ []
+    → map (kinds_of new) new_tables ++ rest ≡ map told_of all
+table_added old new keeps tables new_tables rows told rest all e says pushed =
+    let before : map (kinds_of new) tables ≡ map (kinds_of old) tables = kept_tables old new keeps tables (told ∷ rest) all e in
+    ap (λ r. map (kinds_of new) r ++ rest) pushed
+    ∙ ap (λ r. r ++ rest) (map-append (kinds_of new) tables (rows ∷ []))
+    ∙ one_after (map (kinds_of new) tables) (kinds_of new rows) rest
+    ∙ (λ i. before i ++ says i ∷ rest)
+    ∙ e
+
+wanted_is : (t : ℕ) (fs : List Family) → rows_wanted t fs ≡ map told_of (map (λ (f : Family). method_params t f.methods) fs)
+wanted_is t [] = refl
+wanted_is t (f ∷ fs) = ap (λ r. told_of (method_params t f.methods) ∷ r) (wanted_is t fs)
+
+-- the rows of a family's methods more
+pub family_added : (t : ℕ) (old new : List Kind) → Keeps (numbered t old) (numbered t new) → (tables new_tables : List Rows) (rows : Rows) (f : Family) (rest all : List Family)
+    → map (kinds_of (numbered t old)) tables ++ rows_wanted t (f ∷ rest) ≡ rows_wanted t all → kinds_of (numbered t new) rows ≡ told_of (method_params t f.methods)
+    → new_tables ≡ tables ++ rows ∷ [] → map (kinds_of (numbered t new)) new_tables ++ rows_wanted t rest ≡ rows_wanted t all
+family_added t old new keeps tables new_tables rows f rest all e says pushed =
+    table_added (numbered t old) (numbered t new) keeps tables new_tables rows (told_of (method_params t f.methods)) (rows_wanted t rest)
+    (map (λ (g : Family). method_params t g.methods) all) (e ∙ wanted_is t all) says pushed
+    ∙ sym (wanted_is t all)
+
+pub families_end : (t : ℕ) (kinds : List Kind) (tables : List Rows) (rest all : List Family) → rest ≡ [] → map (kinds_of (numbered t kinds)) tables ++ rows_wanted t rest ≡ rows_wanted t all
+    → map (kinds_of (numbered t kinds)) tables ≡ rows_wanted t all
+families_end t kinds tables rest all none e =
+    sym (nothing_after (map (kinds_of (numbered t kinds)) tables)) ∙ ap (λ r. map (kinds_of (numbered t kinds)) tables ++ rows_wanted t r) (sym none) ∙ e
 
 -- ---- a loop over a list
 
@@ -170,38 +233,46 @@ within_none numbers (o ∷ spans) within zero t e = within zero t e
 within_none numbers (o ∷ spans) within (suc n) t e = within_none numbers spans (within_rest numbers o spans within) n t e
 
 pub row_is : (numbers : List ℕ) (spans : List (Option Span)) (n : ℕ) (o : Option Span) → slice_get spans n ≡ Some o → row_at (rows_of numbers spans) n ≡ option_map (at_span numbers) o
-row_is numbers spans n o e = ap in_place (slice_get-map (option_map (at_span numbers)) spans n ∙ ap (option_map (option_map (at_span numbers))) e)
+row_is numbers spans n o e = ap option_flatten (slice_get-map (option_map (at_span numbers)) spans n ∙ ap (option_map (option_map (at_span numbers))) e)
 
 pub no_row : (numbers : List ℕ) (spans : List (Option Span)) (n : ℕ) → slice_get spans n ≡ None → row_at (rows_of numbers spans) n ≡ None
-no_row numbers spans n e = ap in_place (slice_get-map (option_map (at_span numbers)) spans n ∙ ap (option_map (option_map (at_span numbers))) e)
+no_row numbers spans n e = ap option_flatten (slice_get-map (option_map (at_span numbers)) spans n ∙ ap (option_map (option_map (at_span numbers))) e)
 
 -- ---- what a row says
 
 -- the row at a place is that of what stands there
-pub says_at : (t : ℕ) (kinds : List Kind) (rows : Rows) (params : ℕ → List (Option Params)) (n : ℕ) → AreRows kinds rows params
-    → Says t kinds (row_at rows n) (params_in (slice_get (params t) n))
-says_at t kinds rows params n are = by (slice_get rows n) (slice_get (params t) n) same
+pub says_in : (kinds : List Kind) (rows : Rows) (params : List (Option Params)) (n : ℕ) → kinds_of kinds rows ≡ told_of params
+    → option_map (kinds_at kinds) (row_at rows n) ≡ option_map (map Some) (option_flatten (slice_get params n))
+says_in kinds rows params n are = by (slice_get rows n) (slice_get params n) same
   where
-    same : option_map (option_map (kinds_at (numbered t kinds))) (slice_get rows n) ≡ option_map (option_map (map Some)) (slice_get (params t) n)
-    same = sym (slice_get-map (option_map (kinds_at (numbered t kinds))) rows n) ∙ ap (λ xs. slice_get xs n) (are t) ∙ slice_get-map (option_map (map Some)) (params t) n
+    same : option_map (option_map (kinds_at kinds)) (slice_get rows n) ≡ option_map (option_map (map Some)) (slice_get params n)
+    same = sym (slice_get-map (option_map (kinds_at kinds)) rows n) ∙ ap (λ xs. slice_get xs n) are ∙ slice_get-map (option_map (map Some)) params n
 
-    by : (row : Option (Option (List ℕ))) (o : Option (Option Params)) → option_map (option_map (kinds_at (numbered t kinds))) row ≡ option_map (option_map (map Some)) o
-        → Says t kinds (in_place row) (params_in o)
+    by : (row : Option (Option (List ℕ))) (o : Option (Option Params)) → option_map (option_map (kinds_at kinds)) row ≡ option_map (option_map (map Some)) o
+        → option_map (kinds_at kinds) (option_flatten row) ≡ option_map (map Some) (option_flatten o)
     by None None e = refl
     by None (Some o) e = cc
     by (Some row) None e = cc
-    by (Some row) (Some o) e = same_Some (option_map (kinds_at (numbered t kinds)) row) (option_map (map Some) o) e
+    by (Some row) (Some o) e = same_Some (option_map (kinds_at kinds) row) (option_map (map Some) o) e
 
 -- the parameters of what stands at a place
-pub params_at : {A : Type 0} (f : A → Params) (xs : List A) (n : ℕ) → params_in (slice_get (map (λ (x : A). Some (f x)) xs) n) ≡ option_map f (slice_get xs n)
+params_at : {A : Type 0} (f : A → Params) (xs : List A) (n : ℕ) → option_flatten (slice_get (map (λ (x : A). Some (f x)) xs) n) ≡ option_map f (slice_get xs n)
 params_at f [] n = refl
 params_at f (x ∷ xs) zero = refl
 params_at f (x ∷ xs) (suc n) = params_at f xs n
 
 -- a row at a place is that of the function there
-pub says_of : {A : Type 0} (t : ℕ) (kinds : List Kind) (rows : Rows) (f : ℕ → A → Params) (xs : List A) (n : ℕ) (row : Option (List ℕ))
-    → AreRows kinds rows (λ t. map (λ (x : A). Some (f t x)) xs) → row ≡ row_at rows n → Says t kinds row (option_map (f t) (slice_get xs n))
-says_of t kinds rows f xs n row are is =
+pub says_function : (t : ℕ) (kinds : List Kind) (rows : Rows) (fs : List ScriptFunction) (n : ℕ) (row : Option (List ℕ)) → AreRows kinds rows (λ u. function_params fs) → row ≡ row_at rows n
+    → Says t kinds row (option_map parameters_of (slice_get fs n))
+says_function t kinds rows fs n row are is =
     ap (option_map (kinds_at (numbered t kinds))) is
-    ∙ says_at t kinds rows (λ t. map (λ x. Some (f t x)) xs) n are
-    ∙ ap (option_map (map Some)) (params_at (f t) xs n)
+    ∙ says_in (numbered t kinds) rows (function_params fs) n (are t)
+    ∙ ap (option_map (map Some)) (params_at parameters_of fs n)
+
+-- that of a method, its receiver in front
+pub says_method : (t : ℕ) (kinds : List Kind) (rows : Rows) (ms : List ScriptMethod) (n : ℕ) (row : Option (List ℕ)) → kinds_of (numbered t kinds) rows ≡ told_of (method_params t ms)
+    → row ≡ row_at rows n → Says t kinds row (option_map (params_on t) (slice_get ms n))
+says_method t kinds rows ms n row are is =
+    ap (option_map (kinds_at (numbered t kinds))) is
+    ∙ says_in (numbered t kinds) rows (method_params t ms) n are
+    ∙ ap (option_map (map Some)) (params_at (params_on t) ms n)

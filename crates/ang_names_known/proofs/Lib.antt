@@ -12,3 +12,6 @@ pub mod Among
 pub mod KeptNumbers
 pub mod SameKinds
 pub mod MethodPlaces
+pub mod CrowdedLists
+pub mod SeenRows
+pub mod FoundRows

@@ -1,13 +1,16 @@
 -- Methods by their places.
-use Rattle.std.proofs.Common.{◌≡◌, ◌||◌, ℕ, zero, suc, List, [], ◌∷◌, ◌++◌, length, map, take, Option, Some, None, refl, sym, ap, ◌∙◌}
-use Rattle.std.specs.Prelude.{slice_get, option_map, option_to_list}
+use Rattle.std.proofs.Common.{◌≡◌, ◌||◌, ℕ, zero, suc, Bool, true, false, List, [], ◌∷◌, ◌++◌, length, map, take, drop, Option, Some, None, refl, sym, ap, ◌∙◌}
+use Rattle.std.specs.Prelude.{slice_get, option_map, option_to_list, if◌then◌else◌}
 use Rattle.std.specs.List.{list_any}
-use Rattle.std.proofs.lemmas.List.{map-append}
+use Rattle.std.proofs.lemmas.List.{append-nil, map-append}
 use Rattle.std.proofs.lemmas.Option.{same_Some}
 use Rattle.ang_names_known.specs.declared.methods.MethodPlace.{MethodPlace}
 use Rattle.ang_names_known.specs.declared.names.Family.{Family}
+use Rattle.ang_names_known.specs.declared.names.ScriptMethod.{ScriptMethod}
 use Rattle.ang_names_known.specs.Lookup.{FoundMethod, stands_in}
 use Rattle.ang_names_known.specs.MethodPlaces.{AreFound, found_at, found_in, stands_at, stands_with}
+use Rattle.ang_names_known.specs.Nearest.{methods_declared, nearest_at, of_owner}
+use Rattle.ang_names_known.proofs.NearestMethods.{any_of_both}
 
 append_assoc : {A : Type 0} → (xs ys zs : List A) → (xs ++ ys) ++ zs ≡ xs ++ (ys ++ zs)
 append_assoc [] ys zs = refl
@@ -82,3 +85,29 @@ few_found fs slot (suc k) (p ∷ ps) are =
     let s = split fs p ps are in
     (λ i. stands_with slot (s.here i) || few_found fs slot k ps s.there i)
     ∙ sym (ap (λ o. list_any (stands_in slot) (take (suc k) (option_to_list o ++ found_in fs ps))) s.here)
+
+-- the method at a place is that of its family
+pub found_here : (fs : List Family) (at : MethodPlace) (owner place : ℕ) (m : ScriptMethod) → at.owner ≡ owner → at.place ≡ place
+    → slice_get (methods_declared (slice_get fs owner)) place ≡ Some m → found_at fs at ≡ Some (of_owner owner m)
+found_here fs at owner place m o p here =
+    (λ i. option_map (of_owner (o i)) (slice_get (methods_declared (slice_get fs (o i))) (p i))) ∙ ap (option_map (of_owner owner)) here
+
+-- nothing stands there, so nothing is put in
+pub nothing_nearest : (found : List FoundMethod) (owner : ℕ) (o : Option ScriptMethod) → o ≡ None → found ≡ found ++ nearest_at found (option_map (of_owner owner) o)
+nothing_nearest found owner o none = sym (ap (λ o. found ++ nearest_at found (option_map (of_owner owner) o)) none ∙ append-nil found)
+
+-- a method of its slot is in front
+pub slot_taken : (found : List FoundMethod) (owner : ℕ) (o : Option ScriptMethod) (m : ScriptMethod) → o ≡ Some m → list_any (stands_in m.slot) found ≡ true
+    → found ≡ found ++ nearest_at found (option_map (of_owner owner) o)
+slot_taken found owner o m is taken =
+    sym (ap (λ o. found ++ nearest_at found (option_map (of_owner owner) o)) is ∙ ap (λ b. found ++ (if b then [] else of_owner owner m ∷ [])) taken ∙ append-nil found)
+
+-- none is
+pub slot_free : (found : List FoundMethod) (owner : ℕ) (o : Option ScriptMethod) (m : ScriptMethod) → o ≡ Some m → list_any (stands_in m.slot) found ≡ false
+    → nearest_at found (option_map (of_owner owner) o) ≡ of_owner owner m ∷ []
+slot_free found owner o m is free = ap (λ o. nearest_at found (option_map (of_owner owner) o)) is ∙ ap (λ b. if b then [] else of_owner owner m ∷ []) free
+
+-- a slot is that of one of the first eight, or of one after them
+pub slot_of_both : (fs : List Family) (slot : ℕ) (ps : List MethodPlace) (few behind : Bool) → AreFound fs ps → few ≡ list_any (stands_at fs slot) (take 8 ps)
+    → behind ≡ list_any (stands_in slot) (drop 8 (found_in fs ps)) → (few || behind) ≡ list_any (stands_in slot) (found_in fs ps)
+slot_of_both fs slot ps few behind are is others = any_of_both slot (found_in fs ps) few behind (is ∙ few_found fs slot 8 ps are) others

@@ -1,5 +1,6 @@
 -- Rows of numbers that lie together.
-use Rattle.std.specs.Prelude.{ℕ, ◌≡◌, ◌+◌, ◌≤◌, List, [], ◌∷◌, length, map, take, drop, slice_get, Option, Some, None, option_map}
+use Rattle.std.specs.Prelude.{ℕ, ◌≡◌, ◌+◌, ◌≤◌, List, [], ◌∷◌, length, map, take, drop, slice_get, Option, Some, option_map}
+use Rattle.std.specs.Option.{option_flatten}
 use Rattle.ang_names_known.specs.declared.kinds.Span.{Span}
 use Rattle.ang_names_known.specs.Kinds.{Rows}
 
@@ -15,9 +16,5 @@ abbrev pub AreWithin : List ℕ → List (Option Span) → Type 0
 AreWithin numbers spans = (n : ℕ) (s : Span) → slice_get spans n ≡ Some (Some s) → s.start + s.count ≤ length numbers
 
 -- the row at a place, where there is one
-abbrev pub in_place : Option (Option (List ℕ)) → Option (List ℕ)
-in_place None = None
-in_place (Some row) = row
-
 abbrev pub row_at : Rows → ℕ → Option (List ℕ)
-row_at rows n = in_place (slice_get rows n)
+row_at rows n = option_flatten (slice_get rows n)

@@ -20,6 +20,7 @@ use Rattle.ang_names_known.specs.Lookup.{parameters_of, same_type}
 abbrev pub Kind : Type 0
 Kind = ArgType × Pass
 
+-- a kind is that of this type and this passing
 abbrev pub is_kind : Kind → ArgType → Pass → Bool
 is_kind k t p = same_type k.0 t && (pass_number k.1 == pass_number p)
 
@@ -39,7 +40,7 @@ receiver_number true = 1
 abbrev pub kinds_at : List Kind → List ℕ → List (Option Kind)
 kinds_at kinds ns = map (slice_get kinds) ns
 
--- each kind that has a number keeps it, whatever type methods are called on
+-- a kind that has a number in the first list has it in the second one too
 abbrev pub Keeps : List Kind → List Kind → Type 0
 Keeps old new = (n : ℕ) (k : Kind) → slice_get old n ≡ Some k → slice_get new n ≡ Some k
 
@@ -63,10 +64,6 @@ AreRows kinds rows params = (t : ℕ) → kinds_of (numbered t kinds) rows ≡ t
 -- a row is that of a function with these parameters, where methods are called on the type of number t; or there is neither
 abbrev pub Says : ℕ → List Kind → Option (List ℕ) → Option Params → Type 0
 Says t kinds row params = option_map (kinds_at (numbered t kinds)) row ≡ option_map (map Some) params
-
-abbrev pub params_in : Option (Option Params) → Option Params
-params_in None = None
-params_in (Some params) = params
 
 -- ---- of what there are rows
 
@@ -96,6 +93,7 @@ abbrev pub seen_with : Option ArgType → Option Params → Option Params
 seen_with None params = None
 seen_with (Some t) params = params
 
+-- those of an entry that can be called and of which all types are seen
 abbrev pub entry_params : RegistrationList → ℕ → Option Entry → Option Params
 entry_params V t None = None
 entry_params V t (Some x) =
@@ -109,6 +107,7 @@ abbrev pub after : Params → Option Params → Option Params
 after front None = None
 after front (Some params) = Some (front ++ params)
 
+-- a row, where all of it is there
 abbrev pub row_if : Bool → List ℕ → Option (List ℕ)
 row_if all ns = if all then Some ns else None
 

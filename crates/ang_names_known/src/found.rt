@@ -2,7 +2,6 @@
 ghost use Rattle.std.specs.Prelude.{◌≡◌, ◌==◌, ℕ, length, option_map, slice_get};
 ghost use Rattle.ang_names_known.specs.Kinds.{Says, params_on};
 
-use crate::kinds::KindRows;
 use crate::methods::{FoundMethod, MethodPlace, method_at};
 use crate::names::Family;
 use crate::numbering::ParameterKinds;
@@ -69,7 +68,7 @@ impl<'a> FoundMethods<'a> {
         requires there { AreFound families.now (spec.places_in places) }
         requires rows { AreMethodRows numbering.now.kinds.items numbering.now.methods.items
             families.now }
-        ensures methods { result.methods ≡ found_in families.now (spec.places_in places) }
+        ensures methods { result.methods ≡ found_in families.now (spec.places_in places.entry) }
     {
         FoundMethods {
             families,
@@ -116,13 +115,7 @@ impl<'a> FoundMethods<'a> {
             (option_map (λ m. params_on t m.method) (slice_get self.now.methods place)) }
     {
         let at = self.places.as_slice().get(place)?;
-        let rows = self.rows_of(at.owner as usize)?;
+        let rows = self.numbering.methods.get(at.owner as usize)?;
         rows.row(at.place as usize)
-    }
-
-    /// The rows of the methods that a family declares.
-    #[inline(always)]
-    fn rows_of(&self, owner: usize) -> Option<&KindRows> {
-        self.numbering.methods.get(owner)
     }
 }

@@ -59,7 +59,6 @@ impl<'a> KnownFunctions<'a> {
     }
 
     /// The numbers of the kinds of a function's parameters. It takes no memory.
-    #[tactic(auto, using(crate::proofs::KeptNumbers::says_of))]
     #[inline(always)]
     pub fn of_function(&self, number: usize) -> Option<&[u32]>
         ensures says { (t : ℕ) → Says t self.now.kinds (option_map (λ row. row.now) result)
@@ -69,7 +68,6 @@ impl<'a> KnownFunctions<'a> {
     }
 
     /// The numbers of the kinds of an import's parameters. It takes no memory.
-    #[tactic(auto, using(crate::proofs::KeptNumbers::says_of))]
     #[inline(always)]
     pub fn of_import(&self, number: usize) -> Option<&[u32]>
         ensures says { (t : ℕ) → Says t self.now.kinds (option_map (λ row. row.now) result)

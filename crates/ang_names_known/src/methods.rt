@@ -191,6 +191,7 @@ fn push_nearest(
 }
 
 /// Whether some method that was found has this slot.
+#[tactic(auto, using(crate::proofs::MethodPlaces::slot_of_both))]
 fn has_slot(families: &[Family], found: &[MethodPlace], slots: &HashSet<usize>, slot: usize) -> bool
     requires there { places_spec.AreFound families.now found.now }
     requires slots { HasSlots slots.now (places_spec.found_in families.now found.now) }

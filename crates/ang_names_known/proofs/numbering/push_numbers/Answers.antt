@@ -1,5 +1,5 @@
-use Rattle.std.proofs.Common.{◌≡◌, ◌++◌, ◌∷◌, ◌+◌, [], Some, List, Option, drop, map as list_map, sym, ap, subst, ◌∙◌}
-use Rattle.std.proofs.lemmas.List.{map-append}
+use Rattle.std.proofs.Common.{◌≡◌, ◌≤◌, ◌++◌, ◌∷◌, ◌+◌, [], Some, List, Option, drop, length, map as list_map, sym, ap, subst, arith, ◌∙◌}
+use Rattle.std.proofs.lemmas.List.{append-nil, drop_all, map-append}
 use Rattle.ang_names_known.specs.Kinds.{Kind, kinds_at, numbered}
 use Rattle.ang_names_known.specs.Lookup.{type_and_pass}
 use Rattle.ang_names_known.proofs.KeptNumbers.{keeps_further, keeps_itself, left_here, number_pushed}
@@ -30,3 +30,12 @@ loop-param-preserved c =
           (subst (λ ps. kinds_at (numbered t l.table) l.row.items ++ list_map Some (list_map type_and_pass ps) ≡ list_map Some all) here (l.invariant.1 t front e))
           (c.in_ok-number.ensures.is t),
     )
+
+pub returns-clause-pushed : goal.returns-clause-pushed
+returns-clause-pushed c = λ t front e.
+    let l = c.loop-param in
+    let params = c.args.params.now in
+    let over : length params ≤ l.param-index = omega arith in
+    let none : drop l.param-index params ≡ [] = drop_all l.param-index params over in
+    let so_far : List (Option Kind) = kinds_at (numbered t l.table) l.row.items in
+    sym (append-nil so_far) ∙ ap (λ ps. so_far ++ list_map Some (list_map type_and_pass ps)) (sym none) ∙ l.invariant.1 t front e
