@@ -12,7 +12,7 @@ use Rattle.std.specs.FinMap.{get-empty, get-insert, get-remove, get-entries, get
 use Rattle.std.specs.FinMap.Entries.{by_order}
 use Rattle.std.proofs.lemmas.Cmp.{nat_cmp_total}
 use Rattle.std.proofs.lemmas.Bool.{eq-eqb, ne_eqb, eqb-true, ltb-true, ltb-false}
-use Rattle.std.proofs.Common.{refl, sym, ◌∙◌, ap, subst, arith}
+use Rattle.std.proofs.Common.{Result, Ok, Err, OnOk, OnErr, refl, sym, ◌∙◌, ap, subst, arith}
 use Rattle.std.proofs.lemmas.List.Sums.{sum_by-cons}
 use Rattle.ang_host.specs.State.{Tally, total, count_of, count_at}
 use Rattle.ang_host.proofs.Steps.{same_test}
@@ -322,3 +322,26 @@ none_live m made added released h e =
 
 pub all_released : (m : map.FinMap nat_cmp ℕ) (made added released : ℕ) → AreCounted m made added released → m ≡ map.empty → made + added ≡ released
 all_released m made added released h e = omega (arith, h.sums, ap total e, total-empty)
+
+-- ---- after a growth that may be refused
+
+pub on_err : {A E X : Type 0} (r : Result A E) → X → OnErr r X
+on_err (Ok a) h = tt
+on_err (Err e) h = h
+
+pub counted_pushed : {O E : Type 0} (f : O → ℕ) (es gs : List (ℕ × O)) (r : Result ℕ E) (a b added released : ℕ) → OnOk r (a ≡ b + 1) → OnOk r (by_key f gs ≡ map.insert (by_key f es) b 1)
+    → OnErr r (a ≡ b) → OnErr r (gs ≡ es) → AreCounted (by_key f es) b added released → AreCounted (by_key f gs) a added released
+counted_pushed f es gs (Ok k) a b added released next counts kept same h = recounted (by_key f gs) a (b + 1) added released next (counted-new (by_key f es) (by_key f gs) b added released counts h)
+counted_pushed f es gs (Err e) a b added released next counts kept same h = recounted_at (by_key f es) (by_key f gs) a b added released (ap (by_key f) same) kept h
+
+pub few_pushed : {E : Type 0} (r : Result ℕ E) (a b most : ℕ) → OnOk r (a ≡ b + 1) → OnErr r (a ≡ b) → b < most → a ≤ most
+few_pushed (Ok k) a b most next kept lt = omega (arith, next, lt)
+few_pushed (Err e) a b most next kept lt = omega (arith, kept, lt)
+
+-- the same objects and the same next key
+pub ledger_kept : {T O : Type 0} (f : O → ℕ) (v : O → T) (es gs : List (ℕ × O)) (a b asked added released : ℕ) → gs ≡ es → a ≡ b
+    → ◌≡◌ {A = Ledger T}
+    (record { counts = by_key f gs; table = record { next = a; values = by_key v gs }; tally = record { asked = asked; made = a; added = added; released = released } })
+    (record { counts = by_key f es; table = record { next = b; values = by_key v es }; tally = record { asked = asked; made = b; added = added; released = released } })
+ledger_kept f v es gs a b asked added released same e =
+    λ i. record { counts = by_key f (same i); table = record { next = e i; values = by_key v (same i) }; tally = record { asked = asked; made = e i; added = added; released = released } }

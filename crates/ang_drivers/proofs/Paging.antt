@@ -37,6 +37,13 @@ page_to k =
     let m : k % 64 < 64 = mod_below k 64 (omega arith) in
     omega (arith, d, m)
 
+pub still_spanned : (b : Bool) (next len more : ℕ) → more ≡ cond b (len + 1) len → next ≤ 64 * len → next ≤ 64 * more
+still_spanned true next len more e h = omega (arith, e, h)
+still_spanned false next len more e h = omega (arith, e, h)
+
+pub page_within : (k len : ℕ) → k < 64 * len → k / 64 < len
+page_within k len h = omega (arith, h, page_from k)
+
 -- ---- the order of keys
 
 neither : (b : Bool) → is_lt (cond b Equal Greater) ≡ false
@@ -319,6 +326,11 @@ module _ {O : Type 0} where
     pub pages_more : (low next : ℕ) (ps : List P) (p : P) → f p ≡ [] → ArePages f low next ps → ArePages f low next (ps ++ p ∷ [])
     pages_more low next [] p e h = (subst (λ es. IsPage low (min (low + 64) next) es) (sym e) tt, tt)
     pages_more low next (a ∷ ps) p e h = (h.0, pages_more (low + 64) next ps p e h.1)
+
+    -- an empty page at the end, or none
+    pub pages_opened : (b : Bool) (next : ℕ) (ps ns : List P) (p : P) → ns ≡ cond b (ps ++ p ∷ []) ps → f p ≡ [] → ArePages f 0 next ps → ArePages f 0 next ns
+    pages_opened true next ps ns p e empty h = subst (ArePages f 0 next) (sym e) (pages_more 0 next ps p empty h)
+    pages_opened false next ps ns p e empty h = subst (ArePages f 0 next) (sym e) h
 
     pub same_with_more : (ps : List P) (p : P) → f p ≡ [] → flat_map f (ps ++ p ∷ []) ≡ flat_map f ps
     same_with_more [] p e = ap (λ es. es ++ []) e

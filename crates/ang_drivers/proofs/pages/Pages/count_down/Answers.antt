@@ -64,8 +64,8 @@ returns-then-object-gt1-clause-values g c =
     let p' = with_item p at.index (x.0, w) in
     by_key-kept (entries_of s) _ k x.1 w (spot_found spot) (spot_written spot p' w refl) (λ (o : Counted g.row.T.Denot). o.value) refl
 
-pub invariant_of-self-2 : goal.invariant_of-self-2
-invariant_of-self-2 g c =
+pub invariant_of-self-else-object-gt1 : goal.invariant_of-self-else-object-gt1
+invariant_of-self-else-object-gt1 g c =
     let s = c.args.self.now in
     let k = c.args.key in
     let t = c.place-place.ensures.there in
