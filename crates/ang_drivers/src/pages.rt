@@ -35,8 +35,7 @@ pub(crate) struct Counted<T> {
 pub(crate) struct Pages<T> {
     pages: Vec<Vec<(u64, Counted<T>)>>,
     next: u64,
-    ghost paged: { ArePages objects_in 0 next pages.items }
-        by { ArePages-prop objects_in 0 next pages.items },
+    ghost paged: { ArePages objects_in 0 next pages.items } by { ArePages-prop objects_in 0 next pages.items },
     ghost spanned: { next ≤ 64 * vec_len pages },
 }
 

@@ -25,7 +25,7 @@ invariant_of-self g c =
     let n = count_at counts c.args.key in
     let there = stands counts c.args.key c.requires.held.0 c.requires.held.1 in
     let new = recounted _ _ _ _ _ c.count_up.ensures.next
-        (counted-added counts _ c.args.key n s.live.next s.added s.released there c.count_up.ensures.counts (record { sums = s.sums; positive = s.positive; unused = s.unused })) in
+    (counted-added counts _ c.args.key n s.live.next s.added s.released there c.count_up.ensures.counts (record { sums = s.sums; positive = s.positive; unused = s.unused })) in
     record { sums = new.sums; positive = new.positive; unused = new.unused; makings = omega (arith, s.makings, c.count_up.ensures.next); few_asked = s.few_asked; few_added = omega (arith, s.few_added, c.if-self-eq-LIMIT.false) }
 
 pub returns : goal.returns

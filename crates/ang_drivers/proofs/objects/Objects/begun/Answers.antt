@@ -7,7 +7,7 @@ use Rattle.ang_drivers.proofs.objects.Objects.begun.Goals as goal
 pub invariant_of-result : goal.invariant_of-result
 invariant_of-result g c =
     let none = recounted _ _ _ _ _ c.new.ensures.next
-        (counted-none _ (ap (by_key (λ (o : Counted g.row.T.Denot). o.count)) c.new.ensures.empty ∙ by_key-nil (λ (o : Counted g.row.T.Denot). o.count))) in
+    (counted-none _ (ap (by_key (λ (o : Counted g.row.T.Denot). o.count)) c.new.ensures.empty ∙ by_key-nil (λ (o : Counted g.row.T.Denot). o.count))) in
     record {
       sums = none.sums;
       positive = none.positive;

@@ -16,7 +16,7 @@ invariant_of-self g c =
     let s = c.args.self.now in
     let done = c.push.ensures in
     let counted : AreCounted (by_key (λ (o : Counted g.row.T.Denot). o.count) (entries_of s.live)) s.live.next s.added s.released =
-        record { sums = s.sums; positive = s.positive; unused = s.unused } in
+    record { sums = s.sums; positive = s.positive; unused = s.unused } in
     let new = counted_pushed (λ (o : Counted g.row.T.Denot). o.count) (entries_of s.live) _ c.push.result _ s.live.next s.added s.released done.next done.counts done.kept done.unchanged counted in
     record {
       sums = new.sums;

@@ -21,7 +21,7 @@ invariant_of-self g c =
     let there = stands counts c.args.key c.requires.held.0 c.requires.held.1 in
     let more : 1 < n = ltb-true 1 n (sym c.if-count_down.ensures.exact) in
     let new = recounted _ _ _ _ _ c.if-count_down.ensures.next
-        (counted-released counts _ c.args.key n s.live.next s.added s.released there more c.if-count_down.ensures.counts (record { sums = s.sums; positive = s.positive; unused = s.unused })) in
+    (counted-released counts _ c.args.key n s.live.next s.added s.released there more c.if-count_down.ensures.counts (record { sums = s.sums; positive = s.positive; unused = s.unused })) in
     record { sums = new.sums; positive = new.positive; unused = new.unused; makings = omega (arith, s.makings, c.if-count_down.ensures.next); few_asked = s.few_asked; few_added = s.few_added }
 
 pub returns-then-count_down : goal.returns-then-count_down
@@ -61,9 +61,9 @@ invariant_of-self-2 g c =
     let one : n ≡ 1 = omega (arith, ltb-false 1 n (sym c.if-count_down.ensures.exact), s.positive c.args.key n there) in
     let next = c.take_out.ensures.next ∙ c.if-count_down.ensures.next in
     let new = recounted _ _ _ _ _ next
-        (counted-ended counts _ c.args.key n s.live.next s.added s.released there one
-        (c.take_out.ensures.counts ∙ ap (λ m. map.remove m c.args.key) c.if-count_down.ensures.counts)
-        (record { sums = s.sums; positive = s.positive; unused = s.unused })) in
+    (counted-ended counts _ c.args.key n s.live.next s.added s.released there one
+    (c.take_out.ensures.counts ∙ ap (λ m. map.remove m c.args.key) c.if-count_down.ensures.counts)
+    (record { sums = s.sums; positive = s.positive; unused = s.unused })) in
     record { sums = new.sums; positive = new.positive; unused = new.unused; makings = omega (arith, s.makings, next); few_asked = s.few_asked; few_added = s.few_added }
 
 pub returns : goal.returns

@@ -18,7 +18,7 @@ invariant_of-self g c =
     let p = c.index_mut.result.now in
     let x = c.index_mut-2.result.now in
     let spot : IsSpot objects_in s.next k at.page at.index s.pages.items p x =
-        record { home = record { paged = s.paged; from = t.from; to = t.to; page = t.page; there = t.there; page_is = c.index_mut.ensures.value }; object_is = c.index_mut-2.ensures.value } in
+    record { home = record { paged = s.paged; from = t.from; to = t.to; page = t.page; there = t.there; page_is = c.index_mut.ensures.value }; object_is = c.index_mut-2.ensures.value } in
     let w : Counted g.row.T.Denot = record { count = x.1.count - 1; value = x.1.value } in
     let p' = with_item p at.index (x.0, w) in
     record { paged = spot_kept spot p' w refl; spanned = s.spanned }
@@ -32,7 +32,7 @@ returns-then-object-gt1-clause-exact g c =
     let p = c.index_mut.result.now in
     let x = c.index_mut-2.result.now in
     let spot : IsSpot objects_in s.next k at.page at.index s.pages.items p x =
-        record { home = record { paged = s.paged; from = t.from; to = t.to; page = t.page; there = t.there; page_is = c.index_mut.ensures.value }; object_is = c.index_mut-2.ensures.value } in
+    record { home = record { paged = s.paged; from = t.from; to = t.to; page = t.page; there = t.there; page_is = c.index_mut.ensures.value }; object_is = c.index_mut-2.ensures.value } in
     let read = ap count_of (read_at (λ (o : Counted g.row.T.Denot). o.count) (entries_of s) k x.1 (spot_found spot)) in
     sym (ap (λ n. nat_lt 1 n) read ∙ lt-ltb 1 x.1.count (omega (arith, c.if-object-gt1.true)))
 
@@ -45,7 +45,7 @@ returns-then-object-gt1-clause-counts g c =
     let p = c.index_mut.result.now in
     let x = c.index_mut-2.result.now in
     let spot : IsSpot objects_in s.next k at.page at.index s.pages.items p x =
-        record { home = record { paged = s.paged; from = t.from; to = t.to; page = t.page; there = t.there; page_is = c.index_mut.ensures.value }; object_is = c.index_mut-2.ensures.value } in
+    record { home = record { paged = s.paged; from = t.from; to = t.to; page = t.page; there = t.there; page_is = c.index_mut.ensures.value }; object_is = c.index_mut-2.ensures.value } in
     let w : Counted g.row.T.Denot = record { count = x.1.count - 1; value = x.1.value } in
     let p' = with_item p at.index (x.0, w) in
     by_key-less (entries_of s) _ k x.1 w (spot_found spot) (spot_written spot p' w refl) (λ (o : Counted g.row.T.Denot). o.count) refl
@@ -59,7 +59,7 @@ returns-then-object-gt1-clause-values g c =
     let p = c.index_mut.result.now in
     let x = c.index_mut-2.result.now in
     let spot : IsSpot objects_in s.next k at.page at.index s.pages.items p x =
-        record { home = record { paged = s.paged; from = t.from; to = t.to; page = t.page; there = t.there; page_is = c.index_mut.ensures.value }; object_is = c.index_mut-2.ensures.value } in
+    record { home = record { paged = s.paged; from = t.from; to = t.to; page = t.page; there = t.there; page_is = c.index_mut.ensures.value }; object_is = c.index_mut-2.ensures.value } in
     let w : Counted g.row.T.Denot = record { count = x.1.count - 1; value = x.1.value } in
     let p' = with_item p at.index (x.0, w) in
     by_key-kept (entries_of s) _ k x.1 w (spot_found spot) (spot_written spot p' w refl) (λ (o : Counted g.row.T.Denot). o.value) refl
@@ -73,7 +73,7 @@ invariant_of-self-else-object-gt1 g c =
     let p = c.index_mut.result.now in
     let x = c.index_mut-2.result.now in
     let spot : IsSpot objects_in s.next k at.page at.index s.pages.items p x =
-        record { home = record { paged = s.paged; from = t.from; to = t.to; page = t.page; there = t.there; page_is = c.index_mut.ensures.value }; object_is = c.index_mut-2.ensures.value } in
+    record { home = record { paged = s.paged; from = t.from; to = t.to; page = t.page; there = t.there; page_is = c.index_mut.ensures.value }; object_is = c.index_mut-2.ensures.value } in
     let w : Counted g.row.T.Denot = x.1 in
     let p' = with_item p at.index (x.0, w) in
     record { paged = spot_kept spot p' w refl; spanned = s.spanned }
@@ -87,7 +87,7 @@ returns-clause-exact g c =
     let p = c.index_mut.result.now in
     let x = c.index_mut-2.result.now in
     let spot : IsSpot objects_in s.next k at.page at.index s.pages.items p x =
-        record { home = record { paged = s.paged; from = t.from; to = t.to; page = t.page; there = t.there; page_is = c.index_mut.ensures.value }; object_is = c.index_mut-2.ensures.value } in
+    record { home = record { paged = s.paged; from = t.from; to = t.to; page = t.page; there = t.there; page_is = c.index_mut.ensures.value }; object_is = c.index_mut-2.ensures.value } in
     let read = ap count_of (read_at (λ (o : Counted g.row.T.Denot). o.count) (entries_of s) k x.1 (spot_found spot)) in
     sym (ap (λ n. nat_lt 1 n) read ∙ le-ltb 1 x.1.count (omega (arith, c.if-object-gt1.false)))
 
@@ -100,7 +100,7 @@ returns-clause-counts g c =
     let p = c.index_mut.result.now in
     let x = c.index_mut-2.result.now in
     let spot : IsSpot objects_in s.next k at.page at.index s.pages.items p x =
-        record { home = record { paged = s.paged; from = t.from; to = t.to; page = t.page; there = t.there; page_is = c.index_mut.ensures.value }; object_is = c.index_mut-2.ensures.value } in
+    record { home = record { paged = s.paged; from = t.from; to = t.to; page = t.page; there = t.there; page_is = c.index_mut.ensures.value }; object_is = c.index_mut-2.ensures.value } in
     let w : Counted g.row.T.Denot = x.1 in
     let p' = with_item p at.index (x.0, w) in
     by_key-kept (entries_of s) _ k x.1 w (spot_found spot) (spot_written spot p' w refl) (λ (o : Counted g.row.T.Denot). o.count) refl
@@ -114,7 +114,7 @@ returns-clause-values g c =
     let p = c.index_mut.result.now in
     let x = c.index_mut-2.result.now in
     let spot : IsSpot objects_in s.next k at.page at.index s.pages.items p x =
-        record { home = record { paged = s.paged; from = t.from; to = t.to; page = t.page; there = t.there; page_is = c.index_mut.ensures.value }; object_is = c.index_mut-2.ensures.value } in
+    record { home = record { paged = s.paged; from = t.from; to = t.to; page = t.page; there = t.there; page_is = c.index_mut.ensures.value }; object_is = c.index_mut-2.ensures.value } in
     let w : Counted g.row.T.Denot = x.1 in
     let p' = with_item p at.index (x.0, w) in
     by_key-kept (entries_of s) _ k x.1 w (spot_found spot) (spot_written spot p' w refl) (λ (o : Counted g.row.T.Denot). o.value) refl

@@ -17,7 +17,7 @@ overflow_add-index_mut g c =
     let p = c.index_mut.result.now in
     let x = c.index_mut-2.result.now in
     let spot : IsSpot objects_in s.next k at.page at.index s.pages.items p x =
-        record { home = record { paged = s.paged; from = t.from; to = t.to; page = t.page; there = t.there; page_is = c.index_mut.ensures.value }; object_is = c.index_mut-2.ensures.value } in
+    record { home = record { paged = s.paged; from = t.from; to = t.to; page = t.page; there = t.there; page_is = c.index_mut.ensures.value }; object_is = c.index_mut-2.ensures.value } in
     let read = ap count_of (read_at (λ (o : Counted g.row.T.Denot). o.count) (entries_of s) k x.1 (spot_found spot)) in
     omega (arith, c.requires.room, read)
 
@@ -30,7 +30,7 @@ invariant_of-self g c =
     let p = c.index_mut.result.now in
     let x = c.index_mut-2.result.now in
     let spot : IsSpot objects_in s.next k at.page at.index s.pages.items p x =
-        record { home = record { paged = s.paged; from = t.from; to = t.to; page = t.page; there = t.there; page_is = c.index_mut.ensures.value }; object_is = c.index_mut-2.ensures.value } in
+    record { home = record { paged = s.paged; from = t.from; to = t.to; page = t.page; there = t.there; page_is = c.index_mut.ensures.value }; object_is = c.index_mut-2.ensures.value } in
     let w : Counted g.row.T.Denot = record { count = x.1.count + 1; value = x.1.value } in
     let p' = with_item p at.index (x.0, w) in
     record { paged = spot_kept spot p' w refl; spanned = s.spanned }
@@ -44,7 +44,7 @@ returns-clause-counts g c =
     let p = c.index_mut.result.now in
     let x = c.index_mut-2.result.now in
     let spot : IsSpot objects_in s.next k at.page at.index s.pages.items p x =
-        record { home = record { paged = s.paged; from = t.from; to = t.to; page = t.page; there = t.there; page_is = c.index_mut.ensures.value }; object_is = c.index_mut-2.ensures.value } in
+    record { home = record { paged = s.paged; from = t.from; to = t.to; page = t.page; there = t.there; page_is = c.index_mut.ensures.value }; object_is = c.index_mut-2.ensures.value } in
     let w : Counted g.row.T.Denot = record { count = x.1.count + 1; value = x.1.value } in
     let p' = with_item p at.index (x.0, w) in
     by_key-more (entries_of s) _ k x.1 w (spot_found spot) (spot_written spot p' w refl) (λ (o : Counted g.row.T.Denot). o.count) refl
@@ -58,7 +58,7 @@ returns-clause-values g c =
     let p = c.index_mut.result.now in
     let x = c.index_mut-2.result.now in
     let spot : IsSpot objects_in s.next k at.page at.index s.pages.items p x =
-        record { home = record { paged = s.paged; from = t.from; to = t.to; page = t.page; there = t.there; page_is = c.index_mut.ensures.value }; object_is = c.index_mut-2.ensures.value } in
+    record { home = record { paged = s.paged; from = t.from; to = t.to; page = t.page; there = t.there; page_is = c.index_mut.ensures.value }; object_is = c.index_mut-2.ensures.value } in
     let w : Counted g.row.T.Denot = record { count = x.1.count + 1; value = x.1.value } in
     let p' = with_item p at.index (x.0, w) in
     by_key-kept (entries_of s) _ k x.1 w (spot_found spot) (spot_written spot p' w refl) (λ (o : Counted g.row.T.Denot). o.value) refl

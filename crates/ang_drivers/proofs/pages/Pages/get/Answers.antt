@@ -10,5 +10,5 @@ returns g c =
     let p = c.index.result.now in
     let x = c.index-2.result.now in
     let spot : IsSpot objects_in s.next c.args.key at.page at.index s.pages.items p x =
-        record { home = record { paged = s.paged; from = t.from; to = t.to; page = t.page; there = t.there; page_is = c.index.ensures }; object_is = c.index-2.ensures } in
+    record { home = record { paged = s.paged; from = t.from; to = t.to; page = t.page; there = t.there; page_is = c.index.ensures }; object_is = c.index-2.ensures } in
     record { exact = spot_found spot }

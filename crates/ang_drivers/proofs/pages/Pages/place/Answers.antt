@@ -31,12 +31,11 @@ index_of-requires-clause-rises g c =
     let k = c.args.key in
     let p = c.index.result.now in
     let lt : k / 64 < length s.pages.items = page_exists objects_in 0 s.next k (k / 64) s.pages.items s.paged (omega (arith, page_from k)) c.requires.held in
-    let same : objects_in (slice_index_or s.pages.items (k / 64) p) ≡ c.deref.result.now = ap objects_in (sym c.index.ensures) ∙ sym c.deref.ensures.value in
-    (
+    let same : objects_in (slice_index_or s.pages.items (k / 64) p) ≡ c.deref.result.now = ap objects_in (sym c.index.ensures) ∙ sym c.deref.ensures.value in (
       64 * (k / 64),
       min (64 * (k / 64) + 64) s.next,
       subst (λ es. IsPage (64 * (k / 64)) (min (64 * (k / 64) + 64) s.next) es) same
-      (page_there objects_in 0 s.next s.pages.items (k / 64) (64 * (k / 64)) p s.paged lt (omega arith)),
+          (page_there objects_in 0 s.next s.pages.items (k / 64) (64 * (k / 64)) p s.paged lt (omega arith)),
     )
 
 pub returns : goal.returns

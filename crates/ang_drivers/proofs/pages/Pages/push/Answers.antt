@@ -13,13 +13,13 @@ invariant_of-self g c =
     let o = c.open.new.self in
     let p = c.index_mut.result.now in
     let home : IsOpen objects_in o.next (o.next / 64) o.pages.items p =
-        record {
-          paged = o.paged;
-          from = page_from o.next;
-          to = page_to o.next;
-          page = page_within o.next (length o.pages.items) (subst (λ n. o.next < 64 * n) o.pages.ok.0 c.in_ok-open.ensures.open);
-          page_is = c.index_mut.ensures.value;
-        } in
+    record {
+      paged = o.paged;
+      from = page_from o.next;
+      to = page_to o.next;
+      page = page_within o.next (length o.pages.items) (subst (λ n. o.next < 64 * n) o.pages.ok.0 c.in_ok-open.ensures.open);
+      page_is = c.index_mut.ensures.value;
+    } in
     record { paged = open_same home c.push.new.self c.in_err-push.ensures.items; spanned = o.spanned }
 
 pub returns-in_err-push-clause-unchanged : goal.returns-in_err-push-clause-unchanged
@@ -27,13 +27,13 @@ returns-in_err-push-clause-unchanged g c =
     let o = c.open.new.self in
     let p = c.index_mut.result.now in
     let home : IsOpen objects_in o.next (o.next / 64) o.pages.items p =
-        record {
-          paged = o.paged;
-          from = page_from o.next;
-          to = page_to o.next;
-          page = page_within o.next (length o.pages.items) (subst (λ n. o.next < 64 * n) o.pages.ok.0 c.in_ok-open.ensures.open);
-          page_is = c.index_mut.ensures.value;
-        } in
+    record {
+      paged = o.paged;
+      from = page_from o.next;
+      to = page_to o.next;
+      page = page_within o.next (length o.pages.items) (subst (λ n. o.next < 64 * n) o.pages.ok.0 c.in_ok-open.ensures.open);
+      page_is = c.index_mut.ensures.value;
+    } in
     on_err _ (open_all home c.push.new.self c.in_err-push.ensures.items ∙ c.in_ok-open.ensures.same)
 
 pub invariant_of-self-2 : goal.invariant_of-self-2
@@ -41,13 +41,13 @@ invariant_of-self-2 g c =
     let o = c.open.new.self in
     let p = c.index_mut.result.now in
     let home : IsOpen objects_in o.next (o.next / 64) o.pages.items p =
-        record {
-          paged = o.paged;
-          from = page_from o.next;
-          to = page_to o.next;
-          page = page_within o.next (length o.pages.items) (subst (λ n. o.next < 64 * n) o.pages.ok.0 c.in_ok-open.ensures.open);
-          page_is = c.index_mut.ensures.value;
-        } in
+    record {
+      paged = o.paged;
+      from = page_from o.next;
+      to = page_to o.next;
+      page = page_within o.next (length o.pages.items) (subst (λ n. o.next < 64 * n) o.pages.ok.0 c.in_ok-open.ensures.open);
+      page_is = c.index_mut.ensures.value;
+    } in
     record { paged = open_kept home c.push.new.self c.args.object c.in_ok-push.ensures.items; spanned = omega (arith, c.in_ok-open.ensures.open) }
 
 pub returns-clause-counts : goal.returns-clause-counts
@@ -55,13 +55,13 @@ returns-clause-counts g c =
     let o = c.open.new.self in
     let p = c.index_mut.result.now in
     let home : IsOpen objects_in o.next (o.next / 64) o.pages.items p =
-        record {
-          paged = o.paged;
-          from = page_from o.next;
-          to = page_to o.next;
-          page = page_within o.next (length o.pages.items) (subst (λ n. o.next < 64 * n) o.pages.ok.0 c.in_ok-open.ensures.open);
-          page_is = c.index_mut.ensures.value;
-        } in
+    record {
+      paged = o.paged;
+      from = page_from o.next;
+      to = page_to o.next;
+      page = page_within o.next (length o.pages.items) (subst (λ n. o.next < 64 * n) o.pages.ok.0 c.in_ok-open.ensures.open);
+      page_is = c.index_mut.ensures.value;
+    } in
     by_key-inserted (λ (x : Counted g.row.T.Denot). x.count) (entries_of o) _ o.next c.args.object (open_pushed home c.push.new.self c.args.object c.in_ok-push.ensures.items)
     ∙ (λ i. map.insert (by_key (λ (x : Counted g.row.T.Denot). x.count) (c.in_ok-open.ensures.same i)) (c.in_ok-open.ensures.next i) c.args.object.count)
 
@@ -70,12 +70,12 @@ returns-clause-values g c =
     let o = c.open.new.self in
     let p = c.index_mut.result.now in
     let home : IsOpen objects_in o.next (o.next / 64) o.pages.items p =
-        record {
-          paged = o.paged;
-          from = page_from o.next;
-          to = page_to o.next;
-          page = page_within o.next (length o.pages.items) (subst (λ n. o.next < 64 * n) o.pages.ok.0 c.in_ok-open.ensures.open);
-          page_is = c.index_mut.ensures.value;
-        } in
+    record {
+      paged = o.paged;
+      from = page_from o.next;
+      to = page_to o.next;
+      page = page_within o.next (length o.pages.items) (subst (λ n. o.next < 64 * n) o.pages.ok.0 c.in_ok-open.ensures.open);
+      page_is = c.index_mut.ensures.value;
+    } in
     by_key-inserted (λ (x : Counted g.row.T.Denot). x.value) (entries_of o) _ o.next c.args.object (open_pushed home c.push.new.self c.args.object c.in_ok-push.ensures.items)
     ∙ (λ i. map.insert (by_key (λ (x : Counted g.row.T.Denot). x.value) (c.in_ok-open.ensures.same i)) (c.in_ok-open.ensures.next i) c.args.object.value)

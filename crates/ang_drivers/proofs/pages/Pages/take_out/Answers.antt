@@ -15,7 +15,7 @@ remove_from-requires g c =
     let at = c.place-place.result in
     let p = c.index_mut.result.now in
     let home : IsHome objects_in s.next k at.page at.index s.pages.items p =
-        record { paged = s.paged; from = t.from; to = t.to; page = t.page; there = t.there; page_is = c.index_mut.ensures.value } in
+    record { paged = s.paged; from = t.from; to = t.to; page = t.page; there = t.there; page_is = c.index_mut.ensures.value } in
     record { within = omega (arith, home_within home, p.ok.0) }
 
 pub invariant_of-self : goal.invariant_of-self
@@ -26,7 +26,7 @@ invariant_of-self g c =
     let at = c.place-place.result in
     let p = c.index_mut.result.now in
     let home : IsHome objects_in s.next k at.page at.index s.pages.items p =
-        record { paged = s.paged; from = t.from; to = t.to; page = t.page; there = t.there; page_is = c.index_mut.ensures.value } in
+    record { paged = s.paged; from = t.from; to = t.to; page = t.page; there = t.there; page_is = c.index_mut.ensures.value } in
     record { paged = home_left home c.remove_from.new.page c.remove_from.ensures.removed; spanned = s.spanned }
 
 pub returns-clause-counts : goal.returns-clause-counts
@@ -37,7 +37,7 @@ returns-clause-counts g c =
     let at = c.place-place.result in
     let p = c.index_mut.result.now in
     let home : IsHome objects_in s.next k at.page at.index s.pages.items p =
-        record { paged = s.paged; from = t.from; to = t.to; page = t.page; there = t.there; page_is = c.index_mut.ensures.value } in
+    record { paged = s.paged; from = t.from; to = t.to; page = t.page; there = t.there; page_is = c.index_mut.ensures.value } in
     by_key-removed (λ (o : Counted g.row.T.Denot). o.count) (entries_of s) _ k (home_removed home c.remove_from.new.page c.remove_from.ensures.removed)
 
 pub returns-clause-values : goal.returns-clause-values
@@ -48,5 +48,5 @@ returns-clause-values g c =
     let at = c.place-place.result in
     let p = c.index_mut.result.now in
     let home : IsHome objects_in s.next k at.page at.index s.pages.items p =
-        record { paged = s.paged; from = t.from; to = t.to; page = t.page; there = t.there; page_is = c.index_mut.ensures.value } in
+    record { paged = s.paged; from = t.from; to = t.to; page = t.page; there = t.there; page_is = c.index_mut.ensures.value } in
     by_key-removed (λ (o : Counted g.row.T.Denot). o.value) (entries_of s) _ k (home_removed home c.remove_from.new.page c.remove_from.ensures.removed)
