@@ -19,6 +19,7 @@ mod lookups;
 mod machines;
 mod operands;
 mod returns;
+mod shapes;
 mod start;
 pub mod turns;
 

@@ -16,6 +16,8 @@ pub mod handles;
 mod operation;
 mod replies;
 mod rooms;
+mod shapes;
 
 pub use fitting::{entry_of, given_count, operands, operands_of};
 pub use operation::{ask, ask_entry};
+pub use shapes::call_at_once;

@@ -12,7 +12,7 @@ ghost use Rattle.ang_vm_ask.specs.Askings.{driver_state};
 
 use ang_heap::{Store, hold};
 use ang_host::{Answer, Driver};
-use ang_kinds::Fault;
+use ang_kinds::{Fault, Prim, Value};
 use ang_meaning::{HostValueType, Slot};
 use ang_vm_numbers::slot_from;
 
@@ -79,6 +79,40 @@ pub(crate) fn take_answer(
             }
         }
         Answer::Gave(value) => accept(store, slot_from(driver, of, &value)),
+        Answer::Fault(number) => Err(Fault::Host(number)),
+        Answer::Memory => Err(Fault::Memory),
+        Answer::Full => Err(Fault::Tally),
+    }
+}
+
+#[inline(never)]
+fn accept_apart(store: &mut Store, driver: u32, of: HostValueType, value: Value) -> Result<Slot, Fault> {
+    accept(store, slot_from(driver, of, &value))
+}
+
+/// The same, with the most common answers in line.
+#[inline(always)]
+pub(crate) fn take_answer_in_line(
+    store: &mut Store,
+    driver: u32,
+    of: HostValueType,
+    answer: Answer,
+) -> Result<Slot, Fault> {
+    match answer {
+        Answer::Void => {
+            if is_void(of) {
+                Ok(Slot::Bits(0))
+            } else {
+                Err(Fault::BadAnswer)
+            }
+        }
+        Answer::Gave(value) => match value {
+            Value::Int(number) => match of {
+                HostValueType::Plain(Prim::I64) => Ok(Slot::Bits(number.cast_unsigned())),
+                _ => accept_apart(store, driver, of, Value::Int(number)),
+            },
+            other => accept_apart(store, driver, of, other),
+        },
         Answer::Fault(number) => Err(Fault::Host(number)),
         Answer::Memory => Err(Fault::Memory),
         Answer::Full => Err(Fault::Tally),
