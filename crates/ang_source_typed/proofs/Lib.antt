@@ -1,0 +1,14 @@
+pub mod AsMeant
+pub mod Values
+pub mod Operations
+pub mod Fields
+pub mod HostCalls
+pub mod Ends
+pub mod Making
+pub mod Targets
+pub mod Variables
+pub mod Expressions
+pub mod Statements
+pub mod Bodies
+pub mod Initializers
+pub mod Worked
