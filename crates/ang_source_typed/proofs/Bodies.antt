@@ -29,8 +29,8 @@ use Rattle.ang_source_typed.specs.Types.{SlotType, Number, Key, Family, Modules,
 use Rattle.ang_source_typed.specs.TypedProgram.{Parameter, Signature, types_of, passings_among, parameter_of, AreClasses, HasSignature, IsSignature, IsConstructorSignature, constructor_signature, IsImport, IsMethod, IsCallee, Types, TypesOption, TypesEach, TypesStatements, TypesBody}
 use Rattle.ang_source_typed.specs.Paths.{some_ends, some_breaks}
 use Rattle.ang_source_typed.specs.Runs.{IsTypedSetting, sources, out_by, out_types, initializer_signature, IsGoodReply, CallsMeetNoMisfit}
-use Rattle.ang_source_typed.specs.Misfits.{Misfit, has_method_at, has_method, finds}
-use Rattle.ang_source_typed.specs.Misfits as guarded
+use Rattle.ang_source_typed.specs.Guarded.{Guard, has_method_at, has_method, finds, misfits}
+use Rattle.ang_source_typed.specs.Guarded as guarded
 use Rattle.ang_source_typed.proofs.Values.{TriedLeads, memory_leads, moves_of, typed_length}
 use Rattle.ang_source_typed.proofs.Operations.{here_at}
 use Rattle.ang_source_typed.proofs.Ends.{Good, At, guard_passes, moved_good, give_good, push_number}
@@ -387,7 +387,7 @@ module _ (z : Environment) (ms : Modules) (setting : IsTypedSetting z ms) where
       (recalled T s f.own below under (entered z body d g vs n w) f.outs f.result q.0, q.1)
   found_good T body other d s below vs under n w (Misses x) k e f h = (all_given z ms (types_of s.params) below vs under w h, refl)
 
-  calls_good : (T m d : ℕ) (y : Misfit) (body other : Calls) → BodiesGood T body other → CallsAreGood z ms T m classes (setting.trees m) y (guarded.enter y z other d m) (enter z body d m)
+  calls_good : (T m d : ℕ) (y : Guard) (body other : Calls) → BodiesGood T body other → CallsAreGood z ms T m classes (setting.trees m) y (guarded.enter (misfits y) z other d m) (enter z body d m)
   calls_good T m d y body other k = record {
     each = λ f s is vs under below n w a.
         let r = target_good m f s below vs under w is a.1 in
@@ -397,55 +397,55 @@ module _ (z : Environment) (ms : Modules) (setting : IsTypedSetting z ms) where
 
   -- ---- bodies by the ticks that are left
 
-  module _ (T m : ℕ) (y : Misfit) (by calls : Callees) (are_good : CallsAreGood z ms T m classes (setting.trees m) y by calls) (other passes : Passes) (passes_good : PassesAreGood z ms T m y other passes) where
+  module _ (T m : ℕ) (y : Guard) (by calls : Callees) (are_good : CallsAreGood z ms T m classes (setting.trees m) y by calls) (other passes : Passes) (passes_good : PassesAreGood z ms T m y other passes) where
     global_good : (x : ℕ) (e : t.Expr) (ty : SlotType) (below : List SlotType) (vs under : List Slot) (n : ℕ) (w : World) → slice_get (global_types ms m) x ≡ Some ty → Types z ms m [] ty e
         → At z ms T n [] below vs under w
-        → BothCall z ms T initializer_signature below under (finished [] (run_code z m calls passes (of_global x e) vs n w)) (finished [] (guarded.run_code y z m by other (of_global x e) vs n w))
+        → BothCall z ms T initializer_signature below under (finished [] (run_code z m calls passes (of_global x e) vs n w)) (finished [] (guarded.run_code (misfits y) z m by other (of_global x e) vs n w))
     global_good x e ty below vs under n w there typed a =
         let value = typed_good z ms T m classes (setting.trees m) y by calls are_good e ty [] below vs under n w typed a in
-        let put = stored_good z ms T m classes y (variable.Global x) ty [] below vs under (evaluate z m calls e vs n w) (guarded.evaluate y z m by e vs n w)
+        let put = stored_good z ms T m classes y (variable.Global x) ty [] below vs under (evaluate z m calls e vs n w) (guarded.evaluate (misfits y) z m by e vs n w)
         (typed_length z ms (a.1).own w.objects [] vs (a.1).locals_typed) there tt value in
         let done = value_good z ms T y false false false Number ty [] [] below under (stored z m (variable.Global x) vs (evaluate z m calls e vs n w))
-        (guarded.stored y z m (variable.Global x) vs (guarded.evaluate y z m by e vs n w)) (λ v ls' n' w'. Went ls' n' (give v w')) (λ v ls' n' w'. Went ls' n' (give v w')) put.0 put.1
+        (guarded.stored (misfits y) z m (variable.Global x) vs (guarded.evaluate (misfits y) z m by e vs n w)) (λ v ls' n' w'. Went ls' n' (give v w')) (λ v ls' n' w'. Went ls' n' (give v w')) put.0 put.1
         (λ v ls' n' w' g'. ((refl, (g'.0, give_good z ms [] below ls' under ty v w' g'.1)), refl)) in
         (finished_good z ms T initializer_signature false false below under (run_code z m calls passes (of_global x e) vs n w) (λ other_type. absurd (other_type refl)) done.0, ap (finished []) done.1)
 
     code_good : (x : Code) (s : Signature) → TypedCode m s x → (below : List SlotType) (vs under : List Slot) (n : ℕ) (w : World) → At z ms T n (types_of s.params) below vs under w
-        → BothCall z ms T s below under (finished (passings_among s.params) (run_code z m calls passes x vs n w)) (finished (passings_among s.params) (guarded.run_code y z m by other x vs n w))
+        → BothCall z ms T s below under (finished (passings_among s.params) (run_code z m calls passes x vs n w)) (finished (passings_among s.params) (guarded.run_code (misfits y) z m by other x vs n w))
     code_good (of_function ss) s h below vs under n w a =
         let q = body_block_good z ms T m classes (setting.trees m) y by calls are_good other passes passes_good false s.result ss (types_of s.params) below under h.statements vs n w a in
         (finished_good z ms T s (some_ends ss) (some_breaks ss) below under (run_code z m calls passes (of_function ss) vs n w) h.ends q.0, ap (finished (passings_among s.params)) q.1)
     code_good (of_global x e) s h below vs under n w a =
         let at_init : At z ms T n [] below vs under w = subst (λ (q : Signature). At z ms T n (types_of q.params) below vs under w) h.3 a in
-        subst (λ (q : Signature). BothCall z ms T q below under (finished (passings_among q.params) (run_code z m calls passes (of_global x e) vs n w)) (finished (passings_among q.params) (guarded.run_code y z m by other (of_global x e) vs n w)))
+        subst (λ (q : Signature). BothCall z ms T q below under (finished (passings_among q.params) (run_code z m calls passes (of_global x e) vs n w)) (finished (passings_among q.params) (guarded.run_code (misfits y) z m by other (of_global x e) vs n w)))
         (sym h.3) (global_good x e h.0 below vs under n w h.1 h.2 at_init)
 
-  module _ (y : Misfit) where
+  module _ (y : Guard) where
     mutual
       bodies_good : (fuel d T : ℕ) → T < fuel → (g : Routine) (s : Signature) → HasBody g s → (below : List SlotType) (vs under : List Slot) (n : ℕ) (w : World) → At z ms T n (types_of s.params) below vs under w
-          → BothCall z ms T s below under (body_at z (sources ms) fuel d g vs n w) (guarded.body_at y z (sources ms) fuel d g vs n w)
+          → BothCall z ms T s below under (body_at z (sources ms) fuel d g vs n w) (guarded.body_at (misfits y) z (sources ms) fuel d g vs n w)
       bodies_good zero d T lt g s h below vs under n w a = absurd (omega (arith, lt))
       bodies_good (suc fuel) d T lt g s h below vs under n w a =
           let m = g.home in
           let body = body_at z (sources ms) fuel (suc d) in
-          let other = guarded.body_at y z (sources ms) fuel (suc d) in
+          let other = guarded.body_at (misfits y) z (sources ms) fuel (suc d) in
           let k : BodiesGood T body other = λ i le g' s' h' below' vs' under' w' a'. bodies_good fuel (suc d) i (omega (arith, le, lt)) g' s' h' below' vs' under' i w' a' in
           let less : T - 1 ≤ fuel - 1 = omega (arith, lt) in
-          let q = code_good T m y (guarded.enter y z other d m) (enter z body d m) (calls_good T m d y body other k) (guarded.pass_at y z (sources ms) fuel d m) (pass_at z (sources ms) fuel d m)
+          let q = code_good T m y (guarded.enter (misfits y) z other d m) (enter z body d m) (calls_good T m d y body other k) (guarded.pass_at (misfits y) z (sources ms) fuel d m) (pass_at z (sources ms) fuel d m)
           (record { each = λ e ss steps result locals below' under' p b c. passes_fuel fuel d m (T - 1) less e ss steps result locals below' under' p b c }) (sources ms g) s h.typed below vs under n w a in
           subst (λ ps. BothCall z ms T s below under (finished ps (run_code z m (enter z body d m) (pass_at z (sources ms) fuel d m) (sources ms g) vs n w))
-          (finished ps (guarded.run_code y z m (guarded.enter y z other d m) (guarded.pass_at y z (sources ms) fuel d m) (sources ms g) vs n w))) (sym (ap params_in h.passings)) q
+          (finished ps (guarded.run_code (misfits y) z m (guarded.enter (misfits y) z other d m) (guarded.pass_at (misfits y) z (sources ms) fuel d m) (sources ms g) vs n w))) (sym (ap params_in h.passings)) q
 
       passes_fuel : (fuel d m P : ℕ) → P ≤ fuel - 1 → (e : Option t.Expr) (ss : t.Stmts) (steps : List t.Expr) (result : SlotType) (locals below : List SlotType) (under : List Slot) → TypesOption z ms m locals Number e
           → TypesStatements z ms m result true locals ss → TypesEach z ms m locals steps
-          → RunsWell z ms P false (endless e ss) false result locals locals locals below under (pass_at z (sources ms) fuel d m e ss steps) (guarded.pass_at y z (sources ms) fuel d m e ss steps)
+          → RunsWell z ms P false (endless e ss) false result locals locals locals below under (pass_at z (sources ms) fuel d m e ss steps) (guarded.pass_at (misfits y) z (sources ms) fuel d m e ss steps)
       passes_fuel zero d m P le e ss steps result locals below under p b c = λ ls n w a. (([], a.1), refl)
       passes_fuel (suc fuel) d m P le e ss steps result locals below under p b c =
           let body = body_at z (sources ms) fuel (suc d) in
-          let other = guarded.body_at y z (sources ms) fuel (suc d) in
+          let other = guarded.body_at (misfits y) z (sources ms) fuel (suc d) in
           let k : BodiesGood P body other = λ i lt g' s' h' below' vs' under' w' a'. bodies_good fuel (suc d) i (omega (arith, le, lt)) g' s' h' below' vs' under' i w' a' in
           let less : P - 1 ≤ fuel - 1 = omega (arith, le) in
-          pass_good z ms P m classes (setting.trees m) y (guarded.enter y z other d m) (enter z body d m) (calls_good P m d y body other k) (guarded.pass_at y z (sources ms) fuel d m) (pass_at z (sources ms) fuel d m)
+          pass_good z ms P m classes (setting.trees m) y (guarded.enter (misfits y) z other d m) (enter z body d m) (calls_good P m d y body other k) (guarded.pass_at (misfits y) z (sources ms) fuel d m) (pass_at z (sources ms) fuel d m)
           (record { each = λ e' ss' steps' result' locals' below' under' p' b' c'. passes_fuel fuel d m (P - 1) less e' ss' steps' result' locals' below' under' p' b' c' }) e ss steps result locals below under p b c
 
     -- ---- whole runs
@@ -469,13 +469,13 @@ module _ (z : Environment) (ms : Modules) (setting : IsTypedSetting z ms) where
     reply_good T s (Raises f w) g = record { own = g.own; places = tt; world = g.world; counted = g.counted }
 
     pub begun_good : (n : ℕ) (g : Routine) (s : Signature) (vs : List Slot) (w : World) → HasBody g s → Good z ms (types_of s.params) [] vs [] w
-        → BothCall z ms n s [] [] (begun z (sources ms) g vs n w) (guarded.begun y z (sources ms) g vs n w)
+        → BothCall z ms n s [] [] (begun z (sources ms) g vs n w) (guarded.begun (misfits y) z (sources ms) g vs n w)
     begun_good n g s vs w h a =
-        memory_good z ms n s [] vs [] w (memory_step w) (λ u. body_at z (sources ms) (suc n) 0 g vs n u) (λ u. guarded.body_at y z (sources ms) (suc n) 0 g vs n u) a (memory_leads w)
+        memory_good z ms n s [] vs [] w (memory_step w) (λ u. body_at z (sources ms) (suc n) 0 g vs n u) (λ u. guarded.body_at (misfits y) z (sources ms) (suc n) 0 g vs n u) a (memory_leads w)
         (memory_counted (vs ++ []) w a.counted) (λ u k. bodies_good (suc n) 0 n (omega arith) g s h [] vs [] n u (omega arith, k))
 
     called_good : (budget : ℕ) (g : Routine) (s : Signature) (vs : List Slot) (w : World) → HasBody g s → Good z ms (types_of s.params) [] vs [] w
-        → (guarded.called_with y z (sources ms) budget g vs w ≡ called_with z (sources ms) budget g vs w) × IsGoodReply z ms s (called_with z (sources ms) budget g vs w)
+        → (guarded.called_with (misfits y) z (sources ms) budget g vs w ≡ called_with z (sources ms) budget g vs w) × IsGoodReply z ms s (called_with z (sources ms) budget g vs w)
     called_good zero g s vs w h a = (refl, reply_good 0 s (Raises Budget (give_all vs w)) (all_given z ms (types_of s.params) [] vs [] w a))
     called_good (suc n) g s vs w h a = let q = begun_good n g s vs w h a in (q.1, reply_good n s (begun z (sources ms) g vs n w) q.0)
 

@@ -9,7 +9,7 @@ use Rattle.ang_meaning.specs.declared.operation.Operation.{Operation}
 use Rattle.ang_meaning.specs.declared.operation.Update.{Update}
 use Rattle.ang_meaning.specs.Numbers.{Changed, Into, Never}
 use Rattle.ang_meaning.specs.World.{World, Tried, Yes, No, or_else, hold, give, give_all}
-use Rattle.ang_meaning.specs.Environment.{Environment}
+use Rattle.ang_meaning.specs.Environment.{Environment, is_fit}
 use Rattle.ang_meaning.specs.Hosts.{Done, Fine, Fails}
 use Rattle.ang_meaning.specs.Perform.{perform, change_of}
 use Rattle.ang_meaning.specs.Results.{Evaluated, Gave, Failed, Gathered, Ready, Broke, local_at, local_set, loaded, performed, applied, assigned, altered, altered_by, chosen, then_rest}
@@ -20,12 +20,12 @@ use Rattle.ang_meaning.proofs.Operating.{DoneCounted, perform_counted}
 use Rattle.ang_source.specs.Meaning.{one, two}
 use Rattle.ang_source_typed.specs.Types.{SlotType, Number, Modules, Owners, IsA, HasType, AllTyped, IsTypedWorld}
 use Rattle.ang_source_typed.specs.TypedProgram.{AreClasses}
-use Rattle.ang_source_typed.specs.Misfits.{Misfit, AsMeant, Faulting, unless_misfit, is_number, fits}
-use Rattle.ang_source_typed.specs.Misfits as guarded
+use Rattle.ang_source_typed.specs.Guarded.{Guard, AsMeant, Faulting, guard, is_number, fits, misfits}
+use Rattle.ang_source_typed.specs.Guarded as guarded
 use Rattle.ang_source_typed.proofs.Values.{TriedLeads, leads_then, give_leads, hold_leads, all_still, Moves, moves_of, DoneTyped, is_a, both_typed, split_typed}
 use Rattle.ang_source_typed.proofs.Operations.{DoesWell, both_true, number_fits}
 
-pub guard_passes : {A : Type 0} (y : Misfit) (b : Bool) (go : A) (bad : Fault → A) → b ≡ true → unless_misfit y b go bad ≡ go
+pub guard_passes : {A : Type 0} (y : Guard) (b : Bool) (go : A) (bad : Fault → A) → b ≡ true → guard y b go bad ≡ go
 guard_passes AsMeant b go bad e = refl
 guard_passes (Faulting f) true go bad e = refl
 guard_passes (Faulting f) false go bad e = absurd (let x : ⊥ = cc in x)
@@ -139,16 +139,16 @@ module _ (z : Environment) (ms : Modules) (T : ℕ) where
       (moved_good z ms own locals (types ++ below) ls (vs ++ under) w u a (both_typed z ms own w.objects types below vs under b c) h
       (front_counted z ms vs ls under u p))
 
-  module _ (m : ℕ) (y : Misfit) where
+  module _ (m : ℕ) (y : Guard) where
     pub applied_good : (o : Operation) (types locals below : List SlotType) (ty : SlotType) (under : List Slot) (g : Gathered) → DoesWell z ms m o types ty → IsGoodAll types locals below under g
-        → IsGoodEnd ty locals below under (applied (perform z m o) g) × (applied (guarded.perform y z m o) g ≡ applied (perform z m o) g)
+        → IsGoodEnd ty locals below under (applied (perform z m o) g) × (applied (guarded.perform (misfits y) z m o) g ≡ applied (perform z m o) g)
     applied_good o types locals below ty under (Ready vs ls t w) k h =
         let g = h.1.1 in
         let typed = split_typed z ms g.own w.objects types below vs under h.0 g.under_typed in
         let counted = front_counted z ms ls vs under w g.counted in
         let did = k.does g.own vs (ls ++ under) w typed.0 g.world counted in (
           performed_good g.own types locals below ty vs ls under t w (perform z m o vs w) h.1.0 h.0 g.locals_typed typed.0 typed.1 did.1 (perform_counted z m o vs (ls ++ under) w k.fit counted),
-          ap (λ d. performed d vs ls t) (guard_passes y (fits z m o vs w) (perform z m o vs w) (λ f. Fails f w) did.0),
+          ap (λ d. performed d vs ls t) (guard_passes y (is_fit z m o && fits z m o vs w) (perform z m o vs w) (λ f. Fails f w) (both_true (is_fit z m o) (fits z m o vs w) k.fit did.0)),
         )
     applied_good o types locals below ty under (Broke f ls w) k h = (h, refl)
 
@@ -283,8 +283,8 @@ module _ (z : Environment) (ms : Modules) (T : ℕ) where
       } in
       (h.0, good)
 
-  pub altered_good : (y : Misfit) (d : ℕ) (c : Update) (locals below : List SlotType) (under : List Slot) (e : Evaluated) → slice_get locals d ≡ Some Number → IsGoodEnd Number locals below under e
-      → IsGoodEnd Number locals below under (altered d c e) × (guarded.altered y z d c e ≡ altered d c e)
+  pub altered_good : (y : Guard) (d : ℕ) (c : Update) (locals below : List SlotType) (under : List Slot) (e : Evaluated) → slice_get locals d ≡ Some Number → IsGoodEnd Number locals below under e
+      → IsGoodEnd Number locals below under (altered d c e) × (guarded.altered (misfits y) z d c e ≡ altered d c e)
   altered_good y d c locals below under (Gave v ls t w) at h = let g = h.1 in (
     change_good d (change_of c (local_at ls d) v) v locals below ls under t w at h,
     guard_passes y (is_number (local_at ls d) && is_number v) (altered d c (Gave v ls t w)) (λ f. Failed f ls (give v w))
@@ -295,17 +295,17 @@ module _ (z : Environment) (ms : Modules) (T : ℕ) where
 
   -- ---- choices
 
-  tested_good : (n : ℕ) (ty : SlotType) (locals below : List SlotType) (under ls : List Slot) (t : ℕ) (w : World) (y : Misfit) (one two one' two' : Go) → At t locals below ls under w
+  tested_good : (n : ℕ) (ty : SlotType) (locals below : List SlotType) (under ls : List Slot) (t : ℕ) (w : World) (y : Guard) (one two one' two' : Go) → At t locals below ls under w
       → GoesWell ty locals below under one one' → GoesWell ty locals below under two two'
-      → IsGoodEnd ty locals below under (chosen (Gave (Bits n) ls t w) one two) × (guarded.chosen y z (Gave (Bits n) ls t w) one' two' ≡ chosen (Gave (Bits n) ls t w) one two)
+      → IsGoodEnd ty locals below under (chosen (Gave (Bits n) ls t w) one two) × (guarded.chosen (misfits y) z (Gave (Bits n) ls t w) one' two' ≡ chosen (Gave (Bits n) ls t w) one two)
   tested_good zero ty locals below under ls t w y one two one' two' g a b =
       let k = b ls t w g in (k.0, guard_passes y true (two' ls t w) (λ f. Failed f ls (give (Bits zero) w)) refl ∙ k.1)
   tested_good (suc n) ty locals below under ls t w y one two one' two' g a b =
       let k = a ls t w g in (k.0, guard_passes y true (one' ls t w) (λ f. Failed f ls (give (Bits (suc n)) w)) refl ∙ k.1)
 
-  pub chosen_good : (ty : SlotType) (locals below : List SlotType) (under : List Slot) (y : Misfit) (e : Evaluated) (one two one' two' : Go) → IsGoodEnd Number locals below under e
+  pub chosen_good : (ty : SlotType) (locals below : List SlotType) (under : List Slot) (y : Guard) (e : Evaluated) (one two one' two' : Go) → IsGoodEnd Number locals below under e
       → GoesWell ty locals below under one one' → GoesWell ty locals below under two two'
-      → IsGoodEnd ty locals below under (chosen e one two) × (guarded.chosen y z e one' two' ≡ chosen e one two)
+      → IsGoodEnd ty locals below under (chosen e one two) × (guarded.chosen (misfits y) z e one' two' ≡ chosen e one two)
   chosen_good ty locals below under y (Gave (Bits n) ls t w) one two one' two' g a b =
       tested_good n ty locals below under ls t w y one two one' two' (g.0, drop_number z ms (Bits n) locals below ls under w g.1) a b
   chosen_good ty locals below under y (Gave (Script k) ls t w) one two one' two' g a b = absurd g.1.under_typed.0

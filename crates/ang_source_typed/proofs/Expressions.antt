@@ -28,8 +28,8 @@ use Rattle.ang_source.specs.Meaning.{kind_of, default_in, callee_of, compound_of
 use Rattle.ang_source_typed.specs.Types.{SlotType, Number, Key, Family, Modules, Owners, IsA, HasType}
 use Rattle.ang_source_typed.specs.TypedProgram.{Parameter, Signature, types_of, AreClasses, IsCallee, IsHandle, host_params, result_by, IsVariable, IsTarget, Types, TypesAll, TypesArgument}
 use Rattle.ang_source_typed.specs.Runs.{HasTree, out_by, out_types}
-use Rattle.ang_source_typed.specs.Misfits.{Misfit}
-use Rattle.ang_source_typed.specs.Misfits as guarded
+use Rattle.ang_source_typed.specs.Guarded.{Guard, misfits}
+use Rattle.ang_source_typed.specs.Guarded as guarded
 use Rattle.ang_source_typed.proofs.Values.{typed_length, both_typed, split_typed}
 use Rattle.ang_source_typed.proofs.Operations.{DoesWell, converts, negates, complements, denies, operates, compares, same, casts}
 use Rattle.ang_source_typed.proofs.HostCalls.{asks}
@@ -54,7 +54,7 @@ other_passing In ty types h = refl
 other_passing Out ty types h = absurd (h refl)
 other_passing Object ty types h = refl
 
-module _ (z : Environment) (ms : Modules) (T m : ℕ) (classes : (k : ℕ) → AreClasses z ms k) (tree : HasTree z m (ms m).program) (y : Misfit) (by calls : Callees) where
+module _ (z : Environment) (ms : Modules) (T m : ℕ) (classes : (k : ℕ) → AreClasses z ms k) (tree : HasTree z m (ms m).program) (y : Guard) (by calls : Callees) where
   -- what lies on top of typed places
   pub nothing_pushed : (ty : SlotType) (v : Slot) (locals below : List SlotType) (ls under : List Slot) (w : World) (g : Good z ms locals below ls under w) → HasType z ms g.own w.objects ty v
       → ((x : Thing) → names x v ≡ 0) → Good z ms locals (ty ∷ below) ls (v ∷ under) w
@@ -90,11 +90,11 @@ module _ (z : Environment) (ms : Modules) (T m : ℕ) (classes : (k : ℕ) → A
 
     called_good : (f : TypedCallee) (s : Signature) (locals below : List SlotType) (under : List Slot) (xs : List Target) (g : Gathered) → IsCallee z ms m f s
         → IsTargets z ms T m classes locals xs (out_types s.params) → IsGoodAll z ms T (types_of s.params) locals below under g
-        → Both z ms T m classes y s.result locals below under (called m (calls (callee_of f)) xs g) (guarded.called y z m (by (callee_of f)) xs g)
+        → Both z ms T m classes y s.result locals below under (called m (calls (callee_of f)) xs g) (guarded.called (misfits y) z m (by (callee_of f)) xs g)
     called_good f s locals below under xs (Ready vs ls n w) is targets h =
         let r = are_good.each f s is vs (ls ++ under) (locals ++ below) n w (h.1.0, framed (types_of s.params) locals below vs ls under w h.0 h.1.1) in
         let q = replied_good z ms T m classes y s locals below xs ls under (calls (callee_of f) vs n w) targets (typed_length z ms (h.1.1).own w.objects locals ls (h.1.1).locals_typed) r.0 in
-        (q.0, ap (λ x. guarded.replied y z m xs x ls) r.1 ∙ q.1)
+        (q.0, ap (λ x. guarded.replied (misfits y) z m xs x ls) r.1 ∙ q.1)
     called_good f s locals below under xs (Broke x ls w) is targets h = (h, refl)
 
     -- ---- targets
@@ -145,69 +145,69 @@ module _ (z : Environment) (ms : Modules) (T m : ℕ) (classes : (k : ℕ) → A
 
     mutual
       pub typed_good : (e : t.Expr) (ty : SlotType) (locals below : List SlotType) (ls under : List Slot) (n : ℕ) (w : World) → Types z ms m locals ty e → At z ms T n locals below ls under w
-          → Both z ms T m classes y ty locals below under (evaluate z m calls e ls n w) (guarded.evaluate y z m by e ls n w)
+          → Both z ms T m classes y ty locals below under (evaluate z m calls e ls n w) (guarded.evaluate (misfits y) z m by e ls n w)
       typed_good (t.number p k) ty locals below ls under n w h g =
           as_number ty locals below under (Gave (Bits k) ls n w) (Gave (Bits k) ls n w) h ((g.0, push_number z ms k locals below ls under w g.1), refl)
       typed_good (t.truth b) ty locals below ls under n w h g =
           as_number ty locals below under (Gave (Bits (truth b)) ls n w) (Gave (Bits (truth b)) ls n w) h ((g.0, push_number z ms (truth b) locals below ls under w g.1), refl)
       typed_good (t.read (t.named x) a) ty locals below ls under n w h g =
-          above h.0 ty locals below under (evaluate z m calls (t.read (t.named x) a) ls n w) (guarded.evaluate y z m by (t.read (t.named x) a) ls n w) h.2
+          above h.0 ty locals below under (evaluate z m calls (t.read (t.named x) a) ls n w) (guarded.evaluate (misfits y) z m by (t.read (t.named x) a) ls n w) h.2
           (read_good z ms T m classes y x h.0 locals below ls under n w h.1 g)
       typed_good (t.read (t.member_of o x) a) ty locals below ls under n w h g =
-          above h.0 ty locals below under (evaluate z m calls (t.read (t.member_of o x) a) ls n w) (guarded.evaluate y z m by (t.read (t.member_of o x) a) ls n w) h.4
-          (member_read_good z ms T m classes y x h.1 h.0 locals below under (evaluate z m calls o ls n w) (guarded.evaluate y z m by o ls n w) h.3 (typed_good o h.1 locals below ls under n w h.2 g))
+          above h.0 ty locals below under (evaluate z m calls (t.read (t.member_of o x) a) ls n w) (guarded.evaluate (misfits y) z m by (t.read (t.member_of o x) a) ls n w) h.4
+          (member_read_good z ms T m classes y x h.1 h.0 locals below under (evaluate z m calls o ls n w) (guarded.evaluate (misfits y) z m by o ls n w) h.3 (typed_good o h.1 locals below ls under n w h.2 g))
       typed_good t.null ty locals below ls under n w h g = ((g.0, nothing_pushed ty (Script None) locals below ls under w g.1 (null_of z ms (g.1).own w.objects ty h) null_names_none), refl)
       typed_good (t.convert from to e) ty locals below ls under n w h g =
           as_number ty locals below under _ _ h.0
-          (one_op z ms T m classes y (Convert to) Number Number locals below under (evaluate z m calls e ls n w) (guarded.evaluate y z m by e ls n w) (converts z ms m to)
+          (one_op z ms T m classes y (Convert to) Number Number locals below under (evaluate z m calls e ls n w) (guarded.evaluate (misfits y) z m by e ls n w) (converts z ms m to)
           (typed_good e Number locals below ls under n w h.1 g))
       typed_good (t.negate p e) ty locals below ls under n w h g =
           as_number ty locals below under _ _ h.0
-          (one_op z ms T m classes y (Negate p) Number Number locals below under (evaluate z m calls e ls n w) (guarded.evaluate y z m by e ls n w) (negates z ms m p)
+          (one_op z ms T m classes y (Negate p) Number Number locals below under (evaluate z m calls e ls n w) (guarded.evaluate (misfits y) z m by e ls n w) (negates z ms m p)
           (typed_good e Number locals below ls under n w h.1 g))
       typed_good (t.complement p e) ty locals below ls under n w h g =
           as_number ty locals below under _ _ h.0
-          (one_op z ms T m classes y (Complement p) Number Number locals below under (evaluate z m calls e ls n w) (guarded.evaluate y z m by e ls n w) (complements z ms m p)
+          (one_op z ms T m classes y (Complement p) Number Number locals below under (evaluate z m calls e ls n w) (guarded.evaluate (misfits y) z m by e ls n w) (complements z ms m p)
           (typed_good e Number locals below ls under n w h.1 g))
       typed_good (t.not e) ty locals below ls under n w h g =
           as_number ty locals below under _ _ h.0
-          (one_op z ms T m classes y Not Number Number locals below under (evaluate z m calls e ls n w) (guarded.evaluate y z m by e ls n w) (denies z ms m)
+          (one_op z ms T m classes y Not Number Number locals below under (evaluate z m calls e ls n w) (guarded.evaluate (misfits y) z m by e ls n w) (denies z ms m)
           (typed_good e Number locals below ls under n w h.1 g))
       typed_good (t.operate op p l r) ty locals below ls under n w h g =
           as_number ty locals below under _ _ h.0
-          (two_op z ms T m classes y (Binary op p) Number Number Number locals below under (evaluate z m calls l ls n w) (guarded.evaluate y z m by l ls n w) (evaluate z m calls r) (guarded.evaluate y z m by r)
+          (two_op z ms T m classes y (Binary op p) Number Number Number locals below under (evaluate z m calls l ls n w) (guarded.evaluate (misfits y) z m by l ls n w) (evaluate z m calls r) (guarded.evaluate (misfits y) z m by r)
           (operates z ms m op p) (typed_good l Number locals below ls under n w h.1 g) (λ v ls' n' w' g'. typed_good r Number locals (Number ∷ below) ls' (v ∷ under) n' w' h.2 g'))
       typed_good (t.compare op p l r) ty locals below ls under n w h g =
           as_number ty locals below under _ _ h.0
-          (two_op z ms T m classes y (Compare op (is_signed p)) Number Number Number locals below under (evaluate z m calls l ls n w) (guarded.evaluate y z m by l ls n w) (evaluate z m calls r) (guarded.evaluate y z m by r)
+          (two_op z ms T m classes y (Compare op (is_signed p)) Number Number Number locals below under (evaluate z m calls l ls n w) (guarded.evaluate (misfits y) z m by l ls n w) (evaluate z m calls r) (guarded.evaluate (misfits y) z m by r)
           (compares z ms m op (is_signed p)) (typed_good l Number locals below ls under n w h.1 g) (λ v ls' n' w' g'. typed_good r Number locals (Number ∷ below) ls' (v ∷ under) n' w' h.2 g'))
       typed_good (t.and l r) ty locals below ls under n w h g =
           let first = typed_good l Number locals below ls under n w h.1 g in
           let no : Go = λ ls' n' w'. Gave (Bits (truth false)) ls' n' w' in
-          let q = chosen_good z ms T Number locals below under y (evaluate z m calls l ls n w) (evaluate z m calls r) no (guarded.evaluate y z m by r) no first.0
+          let q = chosen_good z ms T Number locals below under y (evaluate z m calls l ls n w) (evaluate z m calls r) no (guarded.evaluate (misfits y) z m by r) no first.0
           (λ ls' n' w' g'. typed_good r Number locals below ls' under n' w' h.2 g') (λ ls' n' w' g'. ((g'.0, push_number z ms 0 locals below ls' under w' g'.1), refl)) in
-          as_number ty locals below under _ _ h.0 (q.0, ap (λ x. guarded.chosen y z x (guarded.evaluate y z m by r) no) first.1 ∙ q.1)
+          as_number ty locals below under _ _ h.0 (q.0, ap (λ x. guarded.chosen (misfits y) z x (guarded.evaluate (misfits y) z m by r) no) first.1 ∙ q.1)
       typed_good (t.or l r) ty locals below ls under n w h g =
           let first = typed_good l Number locals below ls under n w h.1 g in
           let yes_it_is : Go = λ ls' n' w'. Gave (Bits (truth true)) ls' n' w' in
-          let q = chosen_good z ms T Number locals below under y (evaluate z m calls l ls n w) yes_it_is (evaluate z m calls r) yes_it_is (guarded.evaluate y z m by r) first.0
+          let q = chosen_good z ms T Number locals below under y (evaluate z m calls l ls n w) yes_it_is (evaluate z m calls r) yes_it_is (guarded.evaluate (misfits y) z m by r) first.0
           (λ ls' n' w' g'. ((g'.0, push_number z ms 1 locals below ls' under w' g'.1), refl)) (λ ls' n' w' g'. typed_good r Number locals below ls' under n' w' h.2 g') in
-          as_number ty locals below under _ _ h.0 (q.0, ap (λ x. guarded.chosen y z x yes_it_is (guarded.evaluate y z m by r)) first.1 ∙ q.1)
+          as_number ty locals below under _ _ h.0 (q.0, ap (λ x. guarded.chosen (misfits y) z x yes_it_is (guarded.evaluate (misfits y) z m by r)) first.1 ∙ q.1)
       typed_good (t.choose a l r) ty locals below ls under n w h g =
           let first = typed_good a Number locals below ls under n w h.0 g in
-          let q = chosen_good z ms T ty locals below under y (evaluate z m calls a ls n w) (evaluate z m calls l) (evaluate z m calls r) (guarded.evaluate y z m by l) (guarded.evaluate y z m by r) first.0
+          let q = chosen_good z ms T ty locals below under y (evaluate z m calls a ls n w) (evaluate z m calls l) (evaluate z m calls r) (guarded.evaluate (misfits y) z m by l) (guarded.evaluate (misfits y) z m by r) first.0
           (λ ls' n' w' g'. typed_good l ty locals below ls' under n' w' h.1 g') (λ ls' n' w' g'. typed_good r ty locals below ls' under n' w' h.2 g') in
-          (q.0, ap (λ x. guarded.chosen y z x (guarded.evaluate y z m by l) (guarded.evaluate y z m by r)) first.1 ∙ q.1)
+          (q.0, ap (λ x. guarded.chosen (misfits y) z x (guarded.evaluate (misfits y) z m by l) (guarded.evaluate (misfits y) z m by r)) first.1 ∙ q.1)
       typed_good (t.same l r) ty locals below ls under n w h g =
           let a = h.1.0 in
           let b = h.1.1 in
           as_number ty locals below under _ _ h.0
-          (two_op z ms T m classes y Same a b Number locals below under (evaluate z m calls l ls n w) (guarded.evaluate y z m by l ls n w) (evaluate z m calls r) (guarded.evaluate y z m by r)
+          (two_op z ms T m classes y Same a b Number locals below under (evaluate z m calls l ls n w) (guarded.evaluate (misfits y) z m by l ls n w) (evaluate z m calls r) (guarded.evaluate (misfits y) z m by r)
           (same z ms m a b h.1.2 h.1.4) (typed_good l a locals below ls under n w h.1.3 g) (λ v ls' n' w' g'. typed_good r b locals (a ∷ below) ls' (v ∷ under) n' w' h.1.5 g'))
       typed_good (t.naming x e) ty locals below ls under n w h g = typed_good e ty locals below ls under n w h g
       typed_good (t.cast k e) ty locals below ls under n w h g =
           above (Family m k) ty locals below under _ _ h.2
-          (one_op z ms T m classes y (Cast k) (Family m h.0) (Family m k) locals below under (evaluate z m calls e ls n w) (guarded.evaluate y z m by e ls n w) (casts z ms m k h.0)
+          (one_op z ms T m classes y (Cast k) (Family m h.0) (Family m k) locals below under (evaluate z m calls e ls n w) (guarded.evaluate (misfits y) z m by e ls n w) (casts z ms m k h.0)
           (typed_good e (Family m h.0) locals below ls under n w h.1 g))
       typed_good (t.make k None args) ty locals below ls under n w h g =
           above (Family m k) ty locals below under _ _ h.1 (make_good z ms T m k tree (classes m) h.0 y locals below ls under n w g)
@@ -216,7 +216,7 @@ module _ (z : Environment) (ms : Modules) (T m : ℕ) (classes : (k : ℕ) → A
           let this : Parameter = record { passing = h.1.1; type = Family m k } in
           let made = make_good z ms T m k tree (classes m) h.0 y locals below ls under n w g in
           let r = next_good (types_of s.params) (Family m k) [] locals below [] under (applied (perform z m (Make k)) (Ready [] ls n w)) (λ o ls' n' w'. evaluate_all z m calls args (o ∷ []) ls' n' w')
-          (λ o ls' n' w'. guarded.evaluate_all y z m by args (o ∷ []) ls' n' w') refl made.0
+          (λ o ls' n' w'. guarded.evaluate_all (misfits y) z m by args (o ∷ []) ls' n' w') refl made.0
           (λ o ls' n' w' g'. all_good args (this ∷ []) s.params locals below ls' (o ∷ []) under n' w' h.1.4 refl g') in
           let xs = targets_of ls args in
           let targets = targets_good args (this ∷ []) s.params [] locals ls (locals_many locals below ls under w g.1) h.1.4
@@ -224,24 +224,24 @@ module _ (z : Environment) (ms : Modules) (T m : ℕ) (classes : (k : ℕ) → A
           let q = called_good (callee.Own f) s locals below under xs (then_rest [] (applied (perform z m (Make k)) (Ready [] ls n w)) (λ o ls' n' w'. evaluate_all z m calls args (o ∷ []) ls' n' w')) h.1.2 targets r.0 in
           above s.result ty locals below under _ _ h.1.5 (
             q.0,
-            ap (λ x. guarded.called y z m (by (Own f)) xs (then_rest [] x (λ o ls' n' w'. guarded.evaluate_all y z m by args (o ∷ []) ls' n' w'))) made.1
-                ∙ ap (guarded.called y z m (by (Own f)) xs) r.1 ∙ q.1,
+            ap (λ x. guarded.called (misfits y) z m (by (Own f)) xs (then_rest [] x (λ o ls' n' w'. guarded.evaluate_all (misfits y) z m by args (o ∷ []) ls' n' w'))) made.1
+                ∙ ap (guarded.called (misfits y) z m (by (Own f)) xs) r.1 ∙ q.1,
           )
       typed_good (t.assign (t.named x) a e) ty locals below ls under n w h g =
           above h.0 ty locals below under _ _ h.4
-          (stored_good z ms T m classes y x h.0 locals below ls under (evaluate z m calls e ls n w) (guarded.evaluate y z m by e ls n w) (locals_many locals below ls under w g.1) h.1 h.2
+          (stored_good z ms T m classes y x h.0 locals below ls under (evaluate z m calls e ls n w) (guarded.evaluate (misfits y) z m by e ls n w) (locals_many locals below ls under w g.1) h.1 h.2
           (typed_good e h.0 locals below ls under n w h.3 g))
       typed_good (t.assign (t.member_of o x) a e) ty locals below ls under n w h g =
           above h.0 ty locals below under _ _ h.6
-          (member_stored_good z ms T m classes y x h.1 h.0 locals below under (evaluate z m calls e ls n w) (guarded.evaluate y z m by e ls n w) (evaluate z m calls o) (guarded.evaluate y z m by o) h.4 h.5
+          (member_stored_good z ms T m classes y x h.1 h.0 locals below under (evaluate z m calls e ls n w) (guarded.evaluate (misfits y) z m by e ls n w) (evaluate z m calls o) (guarded.evaluate (misfits y) z m by o) h.4 h.5
           (typed_good e h.0 locals below ls under n w h.2 g) (λ v ls' n' w' g'. typed_good o h.1 locals (h.0 ∷ below) ls' (v ∷ under) n' w' h.3 g'))
       typed_good (t.compound (t.named x) p op at e) ty locals below ls under n w h g =
           as_number ty locals below under _ _ h.0
-          (changed_good z ms T m classes y x (compound_of p op at) locals below ls under (evaluate z m calls e ls n w) (guarded.evaluate y z m by e ls n w) (locals_many locals below ls under w g.1) h.1 h.2
+          (changed_good z ms T m classes y x (compound_of p op at) locals below ls under (evaluate z m calls e ls n w) (guarded.evaluate (misfits y) z m by e ls n w) (locals_many locals below ls under w g.1) h.1 h.2
           (typed_good e Number locals below ls under n w h.3 g))
       typed_good (t.compound (t.member_of o x) p op at e) ty locals below ls under n w h g =
           as_number ty locals below under _ _ h.0
-          (member_changed_good z ms T m classes y x (compound_of p op at) h.2.0 locals below under (evaluate z m calls e ls n w) (guarded.evaluate y z m by e ls n w) (evaluate z m calls o) (guarded.evaluate y z m by o) h.2.2 h.2.3
+          (member_changed_good z ms T m classes y x (compound_of p op at) h.2.0 locals below under (evaluate z m calls e ls n w) (guarded.evaluate (misfits y) z m by e ls n w) (evaluate z m calls o) (guarded.evaluate (misfits y) z m by o) h.2.2 h.2.3
           (typed_good e Number locals below ls under n w h.1 g) (λ v ls' n' w' g'. typed_good o h.2.0 locals (Number ∷ below) ls' (v ∷ under) n' w' h.2.1 g'))
       typed_good (t.step (t.named x) p kind) ty locals below ls under n w h g =
           as_number ty locals below under _ _ h.0
@@ -249,7 +249,7 @@ module _ (z : Environment) (ms : Modules) (T m : ℕ) (classes : (k : ℕ) → A
           ((g.0, push_number z ms 1 locals below ls under w g.1), refl))
       typed_good (t.step (t.member_of o x) p kind) ty locals below ls under n w h g =
           as_number ty locals below under _ _ h.0
-          (member_changed_good z ms T m classes y x (step_of p kind) h.1.0 locals below under (Gave (Bits 1) ls n w) (Gave (Bits 1) ls n w) (evaluate z m calls o) (guarded.evaluate y z m by o) h.1.2 h.1.3
+          (member_changed_good z ms T m classes y x (step_of p kind) h.1.0 locals below under (Gave (Bits 1) ls n w) (Gave (Bits 1) ls n w) (evaluate z m calls o) (guarded.evaluate (misfits y) z m by o) h.1.2 h.1.3
           ((g.0, push_number z ms 1 locals below ls under w g.1), refl) (λ v ls' n' w' g'. typed_good o h.1.0 locals (Number ∷ below) ls' (v ∷ under) n' w' h.1.1 g'))
       typed_good (t.call f a args) ty locals below ls under n w h g =
           let s = h.0 in
@@ -257,7 +257,7 @@ module _ (z : Environment) (ms : Modules) (T m : ℕ) (classes : (k : ℕ) → A
           let xs = targets_of ls args in
           let targets = targets_good args [] s.params [] locals ls (locals_many locals below ls under w g.1) h.2 tt in
           let q = called_good f s locals below under xs (evaluate_all z m calls args [] ls n w) h.1 targets r.0 in
-          above s.result ty locals below under _ _ h.3 (q.0, ap (guarded.called y z m (by (callee_of f)) xs) r.1 ∙ q.1)
+          above s.result ty locals below under _ _ h.3 (q.0, ap (guarded.called (misfits y) z m (by (callee_of f)) xs) r.1 ∙ q.1)
       typed_good (t.host_call p a args) ty locals below ls under n w h g =
           let u = h.0 in
           let is : use_at z m p.entity ≡ u = ap host_in h.1 in
@@ -266,23 +266,23 @@ module _ (z : Environment) (ms : Modules) (T m : ℕ) (classes : (k : ℕ) → A
           let did : DoesWell z ms m (Ask p.entity) (types_of (host_params u)) (result_by u.driver u.result u.role) =
           subst (λ x. DoesWell z ms m (Ask p.entity) (types_of (host_params x)) (result_by x.driver x.result x.role)) is does in
           let q = applied_good z ms T m y (Ask p.entity) (types_of (host_params u)) locals below (result_by u.driver u.result u.role) under (evaluate_all z m calls args [] ls n w) did r.0 in
-          above (result_by u.driver u.result u.role) ty locals below under _ _ h.4 (q.0, ap (applied (guarded.perform y z m (Ask p.entity))) r.1 ∙ q.1)
+          above (result_by u.driver u.result u.role) ty locals below under _ _ h.4 (q.0, ap (applied (guarded.perform (misfits y) z m (Ask p.entity))) r.1 ∙ q.1)
 
       all_good : (args : t.Args) (before all : List Parameter) (locals below : List SlotType) (ls vs under : List Slot) (n : ℕ) (w : World) → TypesAll z ms m locals before all args
           → length (types_of before) ≡ length vs → At z ms T n locals (types_of before ++ below) ls (vs ++ under) w
-          → IsGoodAll z ms T (types_of all) locals below under (evaluate_all z m calls args vs ls n w) × (guarded.evaluate_all y z m by args vs ls n w ≡ evaluate_all z m calls args vs ls n w)
+          → IsGoodAll z ms T (types_of all) locals below under (evaluate_all z m calls args vs ls n w) × (guarded.evaluate_all (misfits y) z m by args vs ls n w ≡ evaluate_all z m calls args vs ls n w)
       all_good t.none before all locals below ls vs under n w h many g =
           (subst (λ x. IsGoodAll z ms T (types_of x) locals below under (Ready vs ls n w)) (sym h) (many, g), refl)
       all_good (t.more a args) before all locals below ls vs under n w h many g =
           let p = h.0 in
           let first = argument_good a p locals (types_of before ++ below) ls (vs ++ under) n w h.1 g in
           let r = next_good (types_of all) p.type (types_of before) locals below vs under (evaluate_argument z m calls a ls n w) (λ v ls' n' w'. evaluate_all z m calls args (v ∷ vs) ls' n' w')
-          (λ v ls' n' w'. guarded.evaluate_all y z m by args (v ∷ vs) ls' n' w') many first.0
+          (λ v ls' n' w'. guarded.evaluate_all (misfits y) z m by args (v ∷ vs) ls' n' w') many first.0
           (λ v ls' n' w' g'. all_good args (p ∷ before) all locals below ls' (v ∷ vs) under n' w' h.2 (ap suc many) g') in
-          (r.0, ap (λ x. then_rest vs x (λ v ls' n' w'. guarded.evaluate_all y z m by args (v ∷ vs) ls' n' w')) first.1 ∙ r.1)
+          (r.0, ap (λ x. then_rest vs x (λ v ls' n' w'. guarded.evaluate_all (misfits y) z m by args (v ∷ vs) ls' n' w')) first.1 ∙ r.1)
 
       argument_good : (a : t.Arg) (p : Parameter) (locals below : List SlotType) (ls under : List Slot) (n : ℕ) (w : World) → TypesArgument z ms m locals p a → At z ms T n locals below ls under w
-          → Both z ms T m classes y p.type locals below under (evaluate_argument z m calls a ls n w) (guarded.evaluate_argument y z m by a ls n w)
+          → Both z ms T m classes y p.type locals below under (evaluate_argument z m calls a ls n w) (guarded.evaluate_argument (misfits y) z m by a ls n w)
       argument_good (t.by_value a e) p locals below ls under n w h g = typed_good e p.type locals below ls under n w h.1 g
       argument_good (t.out x from to) p locals below ls under n w h g = (
         (

@@ -23,7 +23,7 @@ use Rattle.ang_meaning.proofs.Tables.{get_inserted}
 use Rattle.ang_source.specs.Meaning.{fields_by}
 use Rattle.ang_source_typed.specs.Types.{SlotType, Number, Key, Family, Modules, Owners, IsUnder, HasType, AllTyped, IsTypedObject, IsTypedWorld, slot_type, first_family, field_types, global_types}
 use Rattle.ang_source_typed.specs.TypedProgram.{AreClasses}
-use Rattle.ang_source_typed.specs.Misfits.{is_number, fields_in, fits}
+use Rattle.ang_source_typed.specs.Guarded.{is_number, fields_in, fits}
 use Rattle.ang_source_typed.proofs.Values.{Earlier, SameKinds, TriedLeads, leads_same, hold_leads, still, all_still, leads_world, Moves, moves_of, DoneTyped, done_of, leads_type, holding_leads, gives_up_leads, typed_at, typed_within, typed_put}
 use Rattle.ang_source_typed.proofs.Operations.{DoesWell, both_true, number_fits, here, second_counted, give_after, lead_then, local_number}
 

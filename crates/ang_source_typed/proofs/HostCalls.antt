@@ -22,7 +22,7 @@ use Rattle.ang_meaning.specs.Perform.{perform, change_of, Receiver, NoReceiver, 
 use Rattle.ang_meaning.specs.Counting.{IsCounted}
 use Rattle.ang_source_typed.specs.Types.{SlotType, Number, Key, Modules, Owners, HasType, AllTyped, IsTypedWorld}
 use Rattle.ang_source_typed.specs.TypedProgram.{Parameter, types_of, by_value, host_type, receiver_params, host_params, result_by}
-use Rattle.ang_source_typed.specs.Misfits.{is_number_type, is_of_driver, is_of_host, are_of_host, with_receiver, fits}
+use Rattle.ang_source_typed.specs.Guarded.{is_number_type, is_of_driver, is_of_host, are_of_host, with_receiver, fits}
 use Rattle.ang_source_typed.proofs.Values.{leads_same, give_leads, DoneTyped, DoneLeads, done_of, later_leads, gives_up_leads, in_place_leads, asked_leads}
 use Rattle.ang_source_typed.proofs.Operations.{DoesWell, both_true, number_fits}
 
@@ -112,7 +112,7 @@ module _ (z : Environment) (ms : Modules) (m : ℕ) (e : EntityNo) where
   access_role None h = absurd (let x : ⊥ = cc in x)
   access_role (Some u) h = h
 
-  write_role : (o : Option HostUse) → may_write o ≡ true → is_property (host_in o).role ≡ true
+  pub write_role : (o : Option HostUse) → may_write o ≡ true → is_property (host_in o).role ≡ true
   write_role None h = absurd (let x : ⊥ = cc in x)
   write_role (Some u) h = left_true (is_property u.role) _ h
 
@@ -121,7 +121,7 @@ module _ (z : Environment) (ms : Modules) (m : ℕ) (e : EntityNo) where
   property_types true types = Key U.driver ∷ types
   property_types false types = types
 
-  read_leads : (own : Owners) (r : Receiver) (w : World) → is_property U.role ≡ true → DoneLeads z ms own (host_type U.driver U.result) w (read_of z m e r w)
+  pub read_leads : (own : Owners) (r : Receiver) (w : World) → is_property U.role ≡ true → DoneLeads z ms own (host_type U.driver U.result) w (read_of z m e r w)
   read_leads own NoReceiver w h = subst (λ x. DoneLeads z ms own x w (read_of z m e NoReceiver w)) (property_type U.role U.driver U.result h) (asked_leads z ms own m e None [] U.result w)
   read_leads own (Of k) w h = subst (λ x. DoneLeads z ms own x w (read_of z m e (Of k) w)) (property_type U.role U.driver U.result h) (asked_leads z ms own m e (Some k) [] U.result w)
   read_leads own NullReceiver w h = leads_same w

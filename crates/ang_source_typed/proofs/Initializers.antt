@@ -15,8 +15,8 @@ use Rattle.ang_source.specs.Meaning.{Code, of_function, of_global, code_or, pass
 use Rattle.ang_source_typed.specs.Types.{Number, Modules, IsGood, slot_type, global_types}
 use Rattle.ang_source_typed.specs.TypedProgram.{Types, TypesOption}
 use Rattle.ang_source_typed.specs.Runs.{IsTypedSetting, sources, IsInitializer, AreInitializers, initializer_signature, IsGoodReply, InitializersMeetNoMisfit}
-use Rattle.ang_source_typed.specs.Misfits.{Misfit}
-use Rattle.ang_source_typed.specs.Misfits as guarded
+use Rattle.ang_source_typed.specs.Guarded.{Guard, misfits}
+use Rattle.ang_source_typed.specs.Guarded as guarded
 use Rattle.ang_source_typed.proofs.Ends.{Good, give_good}
 use Rattle.ang_source_typed.proofs.Targets.{IsGoodCall}
 use Rattle.ang_source_typed.proofs.Bodies.{get_map, HasBody, TypedCode, begun_good, start_good}
@@ -83,7 +83,7 @@ module _ (z : Environment) (ms : Modules) (setting : IsTypedSetting z ms) where
 
   -- ---- one after the other
 
-  module _ (y : Misfit) where
+  module _ (y : Guard) where
     number_left : (w : World) → IsGood z ms [] [] w → IsGood z ms (Number ∷ []) (Bits 0 ∷ []) w
     number_left w g = record { own = g.own; places = (tt, tt); world = g.world; counted = counted_as [] (Bits 0 ∷ []) w (λ x. omega (arith, bits_name_none 0 x)) g.counted }
 
@@ -99,13 +99,13 @@ module _ (z : Environment) (ms : Modules) (setting : IsTypedSetting z ms) where
     next_good T (Raises f w) other go go' h e k = (ap (λ x. then_initialized x go') e, record { own = h.own; places = tt; world = h.world; counted = h.counted })
 
     all_good : (gs : List Routine) (ticks : ℕ) (w : World) → AreInitializers ms gs → IsGood z ms [] [] w
-        → (guarded.initialized_all y z (sources ms) gs ticks w ≡ initialized_all z (sources ms) gs ticks w)
+        → (guarded.initialized_all (misfits y) z (sources ms) gs ticks w ≡ initialized_all z (sources ms) gs ticks w)
         × IsGoodReply z ms initializer_signature (initialized_all z (sources ms) gs ticks w)
     all_good [] ticks w h g = (refl, number_left w g)
     all_good (x ∷ gs) ticks w h g =
         let q = begun_good z ms setting y ticks x initializer_signature [] w (initializer_body x h.0) (start_good z ms setting y [] [] w g) in
-        next_good ticks (initialized z (sources ms) ticks x w) (guarded.initialized y z (sources ms) ticks x w) (λ n u. initialized_all z (sources ms) gs n u)
-        (λ n u. guarded.initialized_all y z (sources ms) gs n u) q.0 q.1 (λ n u k. all_good gs n u h.1 k)
+        next_good ticks (initialized z (sources ms) ticks x w) (guarded.initialized (misfits y) z (sources ms) ticks x w) (λ n u. initialized_all z (sources ms) gs n u)
+        (λ n u. guarded.initialized_all (misfits y) z (sources ms) gs n u) q.0 q.1 (λ n u k. all_good gs n u h.1 k)
 
 pub initializers_meet_no_misfit : InitializersMeetNoMisfit
 initializers_meet_no_misfit z ms y setting gs ticks w h g = all_good z ms setting y gs ticks w h g

@@ -11,4 +11,6 @@ pub mod Expressions
 pub mod Statements
 pub mod Bodies
 pub mod Initializers
+pub mod Kept
+pub mod Causes
 pub mod Worked

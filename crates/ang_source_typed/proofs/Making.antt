@@ -1,6 +1,6 @@
 -- A new object is typed, and so is all that was: no place held its number before, so its owner may be another one now.
 use Rattle.std.proofs.Common.{◌≡◌, ℕ, zero, suc, ◌≤◌, List, [], ◌∷◌, ◌++◌, length, Option, Some, None, refl, sym, ap, ◌∙◌, subst, unwrap_or, arith}
-use Rattle.std.specs.Prelude.{Bool, true, false, cond, option_map, is_some, nat_eq, nat_lt, map as list_map, slice_get, slice_index_or}
+use Rattle.std.specs.Prelude.{Bool, true, false, ◌&&◌, cond, option_map, is_some, nat_eq, nat_lt, map as list_map, slice_get, slice_index_or}
 use Rattle.std.specs.List.{list_any}
 use Rattle.std.specs.FinMap as map
 use Rattle.std.proofs.lemmas.Bool.{eqb-true, eq-eqb}
@@ -14,7 +14,7 @@ use Rattle.ang_meaning.specs.declared.slot.Slot.{Slot}
 use Rattle.ang_meaning.specs.declared.slot.Slot.TheVariants.{Bits, Script, Host}
 use Rattle.ang_meaning.specs.declared.operation.Operation.TheVariants.{Make}
 use Rattle.ang_meaning.specs.World.{World, ScriptRecord, ScriptObjects, Input, Room, Said, Tallied, Fresh, Tried, Yes, No, memory_step, or_else}
-use Rattle.ang_meaning.specs.Environment.{Environment, class_in, class_at, default_of}
+use Rattle.ang_meaning.specs.Environment.{Environment, class_in, class_at, default_of, is_fit}
 use Rattle.ang_meaning.specs.Hosts.{Fails}
 use Rattle.ang_meaning.specs.Perform.{perform, new_object, number_for, made_from}
 use Rattle.ang_meaning.specs.Results.{Gave, Ready, performed, applied}
@@ -26,9 +26,10 @@ use Rattle.ang_source.specs.Meaning.{kind_of, default_in, fields_by, class_of, c
 use Rattle.ang_source_typed.specs.Types.{SlotType, Number, Key, Family, Modules, Owners, IsUnder, HasType, AllTyped, IsTypedObject, slot_type, first_family, field_types, global_types}
 use Rattle.ang_source_typed.specs.TypedProgram.{AreClasses}
 use Rattle.ang_source_typed.specs.Runs.{HasTree}
-use Rattle.ang_source_typed.specs.Misfits.{Misfit, fits}
-use Rattle.ang_source_typed.specs.Misfits as guarded
+use Rattle.ang_source_typed.specs.Guarded.{Guard, fits, misfits}
+use Rattle.ang_source_typed.specs.Guarded as guarded
 use Rattle.ang_source_typed.proofs.Values.{TriedLeads, memory_leads, moves_of}
+use Rattle.ang_source_typed.proofs.Operations.{both_true}
 use Rattle.ang_source_typed.proofs.Ends.{Good, At, IsGoodEnd, moved_good, below_counted, guard_passes}
 
 -- ---- what nothing was stored in
@@ -183,11 +184,11 @@ module _ (z : Environment) (ms : Modules) (T m n : ℕ) where
         let g = h.1 in
         made_by locals below ls under t u.inputs u (h.0, moved_good z ms g.own locals below ls under w u g.locals_typed g.under_typed (moves_of z ms g.own w u g.world k) p)
 
-    pub make_good : (y : Misfit) (locals below : List SlotType) (ls under : List Slot) (t : ℕ) (w : World) → At z ms T t locals below ls under w
+    pub make_good : (y : Guard) (locals below : List SlotType) (ls under : List Slot) (t : ℕ) (w : World) → At z ms T t locals below ls under w
         → IsGoodEnd z ms T (Family m n) locals below under (applied (perform z m (Make n)) (Ready [] ls t w))
-        × (applied (guarded.perform y z m (Make n)) (Ready [] ls t w) ≡ applied (perform z m (Make n)) (Ready [] ls t w))
-    unfolding perform fits
+        × (applied (guarded.perform (misfits y) z m (Make n)) (Ready [] ls t w) ≡ applied (perform z m (Make n)) (Ready [] ls t w))
+    unfolding perform fits is_fit
     make_good y locals below ls under t w g = (
       made_tried locals below ls under t w (memory_step w) (memory_leads w) (memory_counted (ls ++ under) w (g.1).counted) g,
-      ap (λ d. performed d [] ls t) (guard_passes y (is_some (z.class m n)) (perform z m (Make n) [] w) (λ f. Fails f w) there),
+      ap (λ d. performed d [] ls t) (guard_passes y (is_some (z.class m n) && true) (perform z m (Make n) [] w) (λ f. Fails f w) (both_true (is_some (z.class m n)) true there refl)),
     )

@@ -19,7 +19,7 @@ use Rattle.ang_meaning.specs.Counting.{count_of_object, IsCounted}
 use Rattle.ang_meaning.proofs.Counted.{first_there, counted_as}
 use Rattle.ang_source_typed.specs.Types.{SlotType, Number, Key, Family, Modules, Owners, HasType, AllTyped, IsTypedWorld, global_types}
 use Rattle.ang_source_typed.specs.TypedProgram.{IsHandle}
-use Rattle.ang_source_typed.specs.Misfits.{is_number, is_handle, has_global, fits}
+use Rattle.ang_source_typed.specs.Guarded.{is_number, is_handle, has_global, fits}
 use Rattle.ang_source_typed.proofs.Values.{kinds_same, kinds_then, kinds_kept, Leads, TriedLeads, leads_same, leads_then, give_leads, hold_leads, still, leads_world, Moves, moves_of, DoneTyped, DoneLeads, done_of, leads_type, holding_leads, typed_at, typed_within, typed_put}
 
 pub both_true : (a b : Bool) → a ≡ true → b ≡ true → (a && b) ≡ true

@@ -19,8 +19,8 @@ use Rattle.ang_meaning.proofs.Counted.{counted_as, counted_there, names_at, stor
 use Rattle.ang_source_typed.specs.Types.{SlotType, Number, Key, Family, Modules, Owners, IsA, HasType, field_types, global_types}
 use Rattle.ang_source_typed.specs.TypedProgram.{Signature, AreClasses}
 use Rattle.ang_source_typed.specs.Runs.{out_types}
-use Rattle.ang_source_typed.specs.Misfits.{Misfit, is_number, is_handle, is_alike, has_global, fields_in, field_may_hold, spot_takes, takes, all_take}
-use Rattle.ang_source_typed.specs.Misfits as guarded
+use Rattle.ang_source_typed.specs.Guarded.{Guard, is_number, is_handle, is_alike, has_global, fields_in, field_may_hold, spot_takes, takes, all_take, misfits}
+use Rattle.ang_source_typed.specs.Guarded as guarded
 use Rattle.ang_source_typed.proofs.Values.{all_still, is_a, still, typed_length, both_typed, split_typed, typed_at}
 use Rattle.ang_source_typed.proofs.Operations.{both_true, here_at, global_there, global_typed, global_put_typed, local_index}
 use Rattle.ang_source_typed.proofs.Fields.{Held, held_at, has_it, field_typed, put_typed, takes as field_takes}
@@ -249,9 +249,9 @@ module _ (z : Environment) (ms : Modules) (T : ℕ) where
 
     -- ---- replies
 
-    pub replied_good : (y : Misfit) (s : Signature) (locals below : List SlotType) (xs : List Target) (ls under : List Slot) (r : Reply) → IsTargets locals xs (out_types s.params)
+    pub replied_good : (y : Guard) (s : Signature) (locals below : List SlotType) (xs : List Target) (ls under : List Slot) (r : Reply) → IsTargets locals xs (out_types s.params)
         → length locals ≡ length ls → IsGoodCall s (locals ++ below) (ls ++ under) r
-        → IsGoodEnd z ms T s.result locals below under (replied m xs r ls) × (guarded.replied y z m xs r ls ≡ replied m xs r ls)
+        → IsGoodEnd z ms T s.result locals below under (replied m xs r ls) × (guarded.replied (misfits y) z m xs r ls ≡ replied m xs r ls)
     replied_good y s locals below xs ls under (Yields v outs t w) h n k =
         let g = k.1 in
         let types = out_types s.params in

@@ -1,6 +1,6 @@
 -- A worked example: the tree of `int next(int x) { return x + 1; }` is typed, whatever else its setting has.
-use Rattle.std.proofs.Common.{◌≡◌, ℕ, zero, suc, List, [], ◌∷◌, Option, Some, None, refl, sym, ap, ◌∙◌, subst, unwrap_or}
-use Rattle.std.specs.Prelude.{Bool, true, false, nat_eq, slice_get}
+use Rattle.std.proofs.Common.{◌≡◌, ℕ, zero, suc, [], ◌∷◌, Some, refl, sym, ap, ◌∙◌, subst, unwrap_or}
+use Rattle.std.specs.Prelude.{true, false, nat_eq, slice_get}
 use Rattle.std.specs.List.{list_any}
 use Rattle.ang_kinds.specs.declared.operator.Operator.TheVariants as operator
 use Rattle.ang_kinds.specs.declared.primitive.Primitive.TheVariants.{I32}
@@ -10,10 +10,10 @@ use Rattle.ang_typed.specs.declared.expression.TypedVariable.TheVariants as vari
 use Rattle.ang_typed.specs.Typed as t
 use Rattle.ang_meaning.specs.Environment.{Environment, class_in}
 use Rattle.ang_source_typed.specs.Types.{Number, TypedModule, Modules, IsUnder}
-use Rattle.ang_source_typed.specs.TypedProgram.{Signature, HasSignature, signature_of, TypesBody, AreClasses, TypedProgram}
+use Rattle.ang_source_typed.specs.TypedProgram.{Signature, signature_of, TypesBody, AreClasses, TypedProgram}
 use Rattle.ang_source_typed.specs.Runs.{HasTree}
 
-next : t.TypedFunction
+pub next : t.TypedFunction
 next = record {
   parameters = record { ty = type.Plain I32; pass = pass.Value } ∷ [];
   result = type.Plain I32;

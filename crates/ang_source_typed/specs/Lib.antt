@@ -1,5 +1,5 @@
 pub mod Types
-pub mod Misfits
+pub mod Guarded
 pub mod Paths
 pub mod TypedProgram
 pub mod Runs

@@ -1,6 +1,7 @@
--- The meaning of scripts once more, where a misfit may have a fault of its own (docs/CLAIMS.md, "What a script means"). A misfit is a value of another kind than
--- what it meets wants: the meaning takes it for null, reads 0, stores nothing, or hands null to the host. Null where an object is wanted is none.
-use Rattle.std.specs.Prelude.{ℕ, zero, suc, ◌&&◌, Bool, true, false, nat_eq, nat_lt, is_some, List, [], ◌∷◌, length, reverse, Option, Some, None}
+-- The meaning of scripts once more, where a fault may tell its cause (docs/CLAIMS.md, "What a script means"): a misfit, null where an object is wanted, or an
+-- import that leads nowhere. A misfit is a value of another kind than what it meets wants, or a place that is not there: the meaning takes it for null, reads 0,
+-- stores nothing, or hands null to the host.
+use Rattle.std.specs.Prelude.{ℕ, zero, suc, ◌&&◌, not, Bool, true, false, nat_eq, nat_lt, is_some, List, [], ◌∷◌, length, reverse, Option, Some, None}
 use Rattle.std.specs.FinMap as map
 use Rattle.ang_kinds.specs.declared.fault.Fault.{Fault}
 use Rattle.ang_kinds.specs.declared.fault.Fault.TheVariants.{Budget, Memory}
@@ -25,7 +26,7 @@ use Rattle.ang_meaning.specs.declared.routine.Spot.TheVariants as spot
 use Rattle.ang_meaning.specs.declared.routine.Target.{Target}
 use Rattle.ang_meaning.specs.Numbers.{truth, is_signed}
 use Rattle.ang_meaning.specs.World.{World, ScriptRecord, give, give_all, memory_step, or_else}
-use Rattle.ang_meaning.specs.Environment.{Environment, params_in, params_of, receiver_in, target, use_at}
+use Rattle.ang_meaning.specs.Environment.{Environment, Found, Enters, Misses, params_in, params_of, receiver_in, target, use_at, is_null, has_objects, is_fit}
 use Rattle.ang_meaning.specs.Hosts.{Done, Fails}
 use Rattle.ang_meaning.specs.Perform.{globals_of, may_take}
 use Rattle.ang_meaning.specs.Bodies.{Callees, then_initialized}
@@ -35,18 +36,33 @@ use Rattle.ang_source.specs.Meaning.{Passes, Code, of_function, of_global, Codes
 use Rattle.ang_source.specs.Meaning as source
 use Rattle.ang_meaning.specs.Perform as performed
 
--- ---- misfits
+-- ---- guards
 
--- what a misfit does: what the meaning says, or it ends the run with this fault
-pub data Misfit : Type 0 where
-  AsMeant : Misfit
-  Faulting : Fault → Misfit
+-- what follows where a guard's test fails: what the meaning says, or the run ends with this fault
+pub data Guard : Type 0 where
+  AsMeant : Guard
+  Faulting : Fault → Guard
 
--- The first where there is no misfit, and where it does what the meaning says.
-abbrev pub unless_misfit : {A : Type 0} → Misfit → Bool → A → (Fault → A) → A
-unless_misfit AsMeant fits go bad = go
-unless_misfit (Faulting f) true go bad = go
-unless_misfit (Faulting f) false go bad = bad f
+abbrev pub guard : {A : Type 0} → Guard → Bool → A → (Fault → A) → A
+guard AsMeant passes go bad = go
+guard (Faulting f) true go bad = go
+guard (Faulting f) false go bad = bad f
+
+-- the guards against each cause
+pub record Guards : Type 0 where
+  pub misfit : Guard
+  pub null : Guard
+  pub unbound : Guard
+
+abbrev pub as_meant : Guards
+as_meant = record { misfit = AsMeant; null = AsMeant; unbound = AsMeant }
+
+abbrev pub misfits : Guard → Guards
+misfits g = record { misfit = g; null = AsMeant; unbound = AsMeant }
+
+-- a fault for each
+abbrev pub causes : (misfit null unbound : Fault) → Guards
+causes f n u = record { misfit = Faulting f; null = Faulting n; unbound = Faulting u }
 
 -- ---- what fits
 
@@ -126,7 +142,7 @@ field_in i (Host d k) w = Bits 0
 abbrev pub has_global : ℕ → ℕ → World → Bool
 has_global m g w = nat_lt g (length (globals_of m w))
 
--- the operands of an operation fit it; they come with the last one first
+-- the operands of an operation are of the kinds that it works on, and its place is there; they come with the last one first
 unfoldable pub fits : Environment → ℕ → Operation → List Slot → World → Bool
 fits z m (Binary a p) (y ∷ x ∷ []) w = is_number y && is_number x
 fits z m (Compare c signed) (y ∷ x ∷ []) w = is_number y && is_number x
@@ -143,7 +159,7 @@ fits z m (Read e) vs w = are_of_host (use_at z m e).driver (with_receiver (use_a
 fits z m (Write e) vs w = are_of_host (use_at z m e).driver (with_receiver (use_at z m e).member ((use_at z m e).result ∷ [])) vs
 fits z m (Alter e c) vs w =
     is_number_type (use_at z m e).result && are_of_host (use_at z m e).driver (with_receiver (use_at z m e).member ((use_at z m e).result ∷ [])) vs
-fits z m (Make c) [] w = is_some (z.class m c)
+fits z m (Make c) [] w = true
 fits z m (FieldGet i) (o ∷ []) w = has_field i o w
 fits z m (FieldSet i) (o ∷ v ∷ []) w = field_may_hold i o v w
 fits z m (FieldChange c i) (o ∷ v ∷ []) w = has_field i o w && (is_number (field_in i o w) && is_number v)
@@ -161,11 +177,60 @@ has_method z m s (Script None) w = true
 has_method z m s (Script (Some n)) w = has_method_at z m s (map.get w.objects n)
 has_method z m s (Host d k) w = false
 
--- a call finds its function, if its receiver is not null and its import is bound
+-- a call finds its function, or its receiver is null, or its import is not bound
 abbrev pub finds : Environment → ℕ → Callee → List Slot → World → Bool
 finds z m (Own g) vs w = true
 finds z m (Import i) vs w = true
 finds z m (Virtual s) vs w = has_method z m s (receiver_in (params_in (z.slot m s)) vs) w
+
+-- ---- null where an object is wanted, and imports that lead nowhere
+
+-- the first value is that of an object, where one is wanted there
+abbrev pub has_first : Bool → List Slot → Bool
+has_first false vs = true
+has_first true [] = false
+has_first true (v ∷ vs) = not (is_null v)
+
+-- the object on which an operation works is not null
+unfoldable pub has_object : Environment → ℕ → Operation → List Slot → Bool
+has_object z m (Binary a p) vs = true
+has_object z m (Compare c signed) vs = true
+has_object z m (Convert p) vs = true
+has_object z m (Negate p) vs = true
+has_object z m (Complement p) vs = true
+has_object z m Not vs = true
+has_object z m Same vs = true
+has_object z m (GlobalGet g) vs = true
+has_object z m (GlobalSet g) vs = true
+has_object z m (GlobalChange c g) vs = true
+has_object z m (Ask e) vs = has_first (use_at z m e).member (reverse vs)
+has_object z m (Read e) vs = has_first (use_at z m e).member vs
+has_object z m (Write e) vs = has_first (use_at z m e).member vs
+has_object z m (Alter e c) vs = has_first (use_at z m e).member vs
+has_object z m (Make c) vs = true
+has_object z m (FieldGet i) vs = has_first true vs
+has_object z m (FieldSet i) vs = has_first true vs
+has_object z m (FieldChange c i) vs = has_first true vs
+has_object z m (Cast c) vs = true
+
+-- the receiver of a method is not null
+abbrev pub has_receiver : Environment → ℕ → Callee → List Slot → Bool
+has_receiver z m (Own g) vs = true
+has_receiver z m (Import i) vs = true
+has_receiver z m (Virtual s) vs = not (is_null (receiver_in (params_in (z.slot m s)) vs))
+
+-- no argument is null where the function that is found takes an object itself
+abbrev pub has_arguments : Environment → Found → List Slot → Bool
+has_arguments z (Enters g) vs = has_objects (params_of z g) vs
+has_arguments z (Misses f) vs = true
+
+-- an import leads to a function
+abbrev pub is_linked : Environment → ℕ → Callee → Bool
+is_linked z m (Own g) = true
+is_linked z m (Import i) = is_some (z.linked m i)
+is_linked z m (Virtual s) = true
+
+-- ---- targets of `&out` values
 
 -- a place holds a number where the value is one, and a handle where it is a handle
 abbrev pub is_alike : Slot → Slot → Bool
@@ -193,28 +258,29 @@ all_take m (x ∷ xs) (v ∷ outs) ls w =
 
 -- ---- the guarded meaning: what follows is that of `ang_source`, word for word, but for the guards
 
-module _ (y : Misfit) (z : Environment) where
+module _ (y : Guards) (z : Environment) where
   abbrev pub perform : ℕ → Operation → List Slot → World → Done
-  perform m o vs w = unless_misfit y (fits z m o vs w) (performed.perform z m o vs w) (λ f. Fails f w)
+  perform m o vs w =
+      guard y.misfit (is_fit z m o && fits z m o vs w) (guard y.null (has_object z m o vs) (performed.perform z m o vs w) (λ f. Fails f w)) (λ f. Fails f w)
 
   -- a choice by a test, which is a number
   abbrev pub chosen : Evaluated → (List Slot → ℕ → World → Evaluated) → (List Slot → ℕ → World → Evaluated) → Evaluated
-  chosen (Gave v ls t w) one two = unless_misfit y (is_number v) (results.chosen (Gave v ls t w) one two) (λ f. Failed f ls (give v w))
+  chosen (Gave v ls t w) one two = guard y.misfit (is_number v) (results.chosen (Gave v ls t w) one two) (λ f. Failed f ls (give v w))
   chosen (Failed f ls w) one two = Failed f ls w
 
   abbrev pub branched : Evaluated → (List Slot → ℕ → World → Ran) → (List Slot → ℕ → World → Ran) → Ran
-  branched (Gave v ls t w) go other = unless_misfit y (is_number v) (source.branched (Gave v ls t w) go other) (λ f. Halted f ls (give v w))
+  branched (Gave v ls t w) go other = guard y.misfit (is_number v) (source.branched (Gave v ls t w) go other) (λ f. Halted f ls (give v w))
   branched (Failed f ls w) go other = Halted f ls w
 
   -- a local that is a number, changed by a number
   abbrev pub altered : ℕ → Update → Evaluated → Evaluated
   altered i c (Gave v ls t w) =
-      unless_misfit y (is_number (local_at ls i) && is_number v) (results.altered i c (Gave v ls t w)) (λ f. Failed f ls (give v w))
+      guard y.misfit (is_number (local_at ls i) && is_number v) (results.altered i c (Gave v ls t w)) (λ f. Failed f ls (give v w))
   altered i c (Failed f ls w) = Failed f ls w
 
   abbrev pub replied : ℕ → List Target → Reply → List Slot → Evaluated
   replied m xs (Yields v outs t w) ls =
-      unless_misfit y (all_take m xs outs ls w) (results.replied m xs (Yields v outs t w) ls) (λ f. Failed f ls (give_all outs (give v w)))
+      guard y.misfit (all_take m xs outs ls w) (results.replied m xs (Yields v outs t w) ls) (λ f. Failed f ls (give_all outs (give v w)))
   replied m xs (Raises f w) ls = Failed f ls w
 
   abbrev pub called : ℕ → (List Slot → ℕ → World → Reply) → List Target → Gathered → Evaluated
@@ -223,7 +289,10 @@ module _ (y : Misfit) (z : Environment) where
 
   abbrev pub enter : Calls → ℕ → ℕ → Callee → List Slot → ℕ → World → Reply
   enter body d m c vs t w =
-      unless_misfit y (finds z m c vs w) (found_entered z body d (target z m c vs w) vs t w) (λ f. Raises f (give_all vs w))
+      let bad : Fault → Reply = λ f. Raises f (give_all vs w) in
+      let found : Found = target z m c vs w in
+      guard y.misfit (finds z m c vs w)
+      (guard y.null (has_receiver z m c vs && has_arguments z found vs) (guard y.unbound (is_linked z m c) (found_entered z body d found vs t w) bad) bad) bad
 
   -- ---- variables and members
 
