@@ -1,6 +1,6 @@
 -- The meaning of scripts once more, where a fault may tell its cause (docs/CLAIMS.md, "What a script means"): a misfit, null where an object is wanted, or an
 -- import that leads nowhere. A misfit is a value of another kind than what it meets wants, or a place that is not there: the meaning takes it for null, reads 0,
--- stores nothing, or hands null to the host.
+-- stores nothing, or hands null to the host. What soundness excludes has no guard: a local that is not alive, another number of arguments than of parameters.
 use Rattle.std.specs.Prelude.{ℕ, zero, suc, ◌&&◌, not, Bool, true, false, nat_eq, nat_lt, is_some, List, [], ◌∷◌, length, reverse, Option, Some, None}
 use Rattle.std.specs.FinMap as map
 use Rattle.ang_kinds.specs.declared.fault.Fault.{Fault}

@@ -81,7 +81,7 @@ InitializersMeetNoMisfit = (z : Environment) (ms : Modules) (y : Guard) → IsTy
     → (guarded.initialized_all (misfits y) z (sources ms) gs ticks w ≡ initialized_all z (sources ms) gs ticks w)
     × IsGoodReply z ms initializer_signature (initialized_all z (sources ms) gs ticks w)
 
--- Where a misfit does what the meaning says, the guarded meaning is the meaning, of every program, typed or not.
+-- Where each guard does what the meaning says, the guarded meaning is the meaning, of every program, typed or not.
 abbrev pub CallsAreAsMeant : Type 0
 CallsAreAsMeant = (z : Environment) (codes : Codes) (budget : ℕ) (g : Routine) (vs : List Slot) (w : World)
     → guarded.called_with as_meant z codes budget g vs w ≡ called_with z codes budget g vs w

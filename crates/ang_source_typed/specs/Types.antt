@@ -22,7 +22,7 @@ pub data SlotType : Type 0 where
   Key : (driver : ℕ) → SlotType
   Family : (home family : ℕ) → SlotType
 
--- What typing knows of a module beside its setting: what it sees of the host, its tree, of which families objects are made, which are the classes, and which
+-- What typing knows of a module beside its setting: what it sees of the host, its tree, which families are classes, so that objects are made of them, and which
 -- bodies are those of constructors.
 pub record TypedModule : Type 0 where
   pub view : RegistrationList
