@@ -65,7 +65,7 @@ global_types ms m = list_map (λ g. slot_type (ms m).view m g.ty) (ms m).program
 
 -- ---- what is typed
 
--- which module made each object
+-- the module of each object: that whose script made it
 abbrev pub Owners : Type 0
 Owners = ℕ → ℕ
 
@@ -109,7 +109,7 @@ module _ (z : Environment) (ms : Modules) where
   AllTyped own os (ty ∷ types) [] = ⊥
   AllTyped own os (ty ∷ types) (v ∷ vs) = HasType own os ty v × AllTyped own os types vs
 
-  -- An object is one of a class of the module that made it: it has that class's rank, and its fields are of the class's types.
+  -- An object is one of a class of its module: it has that class's rank, and its fields are of the class's types.
   pub record IsTypedObject (own : Owners) (os : ScriptObjects) (n : ℕ) (o : ScriptRecord) : Type 0 where
     pub fields : AllTyped own os (field_types ms (own n) o.class) o.fields
     pub rank : o.rank ≡ (class_in (z.class (own n) o.class)).rank

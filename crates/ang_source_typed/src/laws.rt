@@ -2,8 +2,8 @@
 ghost use Rattle.ang_source_typed.specs.Runs.{CallsAreAsMeant, CallsMeetNoMisfit, CallsTellCauses};
 ghost use Rattle.ang_source_typed.specs.Runs.{InitializersAreAsMeant, InitializersMeetNoMisfit, InitializersTellCauses};
 
-/// A run of typed programs is the same whatever a misfit does, so it meets none, and all places keep their types: an
-/// object of scripts is never in a place of another module than the one that made it.
+/// A run of typed programs is the same whatever a misfit does, so it meets none, and all places keep their types: no
+/// object of scripts is in places of two modules.
 pub fn typed_runs_meet_no_misfit()
     ensures calls { CallsMeetNoMisfit }
     ensures initializers { InitializersMeetNoMisfit }
