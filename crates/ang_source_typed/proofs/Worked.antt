@@ -3,7 +3,7 @@
 --     class Leaf { int n; }
 --     class Branch { Leaf@ leaf; }
 --     int number_of(Branch@ b) { return b.leaf.n; }
-use Rattle.std.proofs.Common.{◌≡◌, ◌≢◌, ℕ, zero, suc, ◌+◌, ◌<◌, List, [], ◌∷◌, Option, Some, None, refl, sym, ap, ◌∙◌, subst, unwrap_or, arith}
+use Rattle.std.proofs.Common.{◌≡◌, ◌≢◌, ℕ, zero, suc, ◌<◌, List, [], ◌∷◌, Option, Some, None, refl, sym, ap, ◌∙◌, subst, unwrap_or, arith}
 use Rattle.std.specs.Prelude.{Bool, true, false, ◌||◌, nat_eq, slice_get}
 use Rattle.std.specs.FinMap as map
 use Rattle.std.specs.FinMap.{get-empty}
@@ -20,7 +20,6 @@ use Rattle.ang_typed.specs.declared.expression.TypedVariable.TheVariants as vari
 use Rattle.ang_typed.specs.declared.program.TypedClass as families
 use Rattle.ang_typed.specs.Typed as t
 use Rattle.ang_meaning.specs.declared.routine.Routine.{Routine}
-use Rattle.ang_meaning.specs.declared.slot.Slot.{Slot}
 use Rattle.ang_meaning.specs.declared.slot.Slot.TheVariants.{Script}
 use Rattle.ang_meaning.specs.World.{World, ScriptRecord, Input, Room, hold, tally_step, one_more, memory_step, give, given}
 use Rattle.ang_meaning.specs.Environment.{Environment, class_in}
@@ -34,7 +33,7 @@ use Rattle.ang_source_typed.specs.Types.{SlotType, Number, Key, Family, Modules,
 use Rattle.ang_source_typed.specs.TypedProgram.{Signature, HasSignature, signature_of, TypesBody, AreClasses, TypedProgram}
 use Rattle.ang_source_typed.specs.Guarded.{causes}
 use Rattle.ang_source_typed.specs.Guarded as guarded
-use Rattle.ang_source_typed.specs.Runs.{HasTree, IsTypedSetting, sources, reply_named}
+use Rattle.ang_source_typed.specs.Runs.{IsTypedSetting, sources, reply_named}
 use Rattle.ang_source_typed.proofs.Causes.{calls_tell_causes}
 
 -- ---- the scripts
