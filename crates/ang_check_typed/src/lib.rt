@@ -1,0 +1,2 @@
+//! The trees of builds are typed: a draft of statements, without a law yet.
+#![tactic(auto)]
