@@ -1,0 +1,2 @@
+pub mod GoesUp
+pub mod SameTypes
