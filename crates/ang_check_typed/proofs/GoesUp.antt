@@ -1,5 +1,5 @@
 -- A typed tree is of each type above its own.
-use Rattle.std.proofs.Common.{◌≡◌, ℕ, Option, Some, None, refl, sym, ◌∙◌, subst}
+use Rattle.std.proofs.Common.{◌≡◌, ℕ, Some, None, refl, sym, ◌∙◌, subst}
 use Rattle.ang_typed.specs.Typed as t
 use Rattle.ang_meaning.specs.Environment.{Environment}
 use Rattle.ang_source_typed.specs.Types.{SlotType, Number, Key, Family, Modules, IsUnder, IsA}

@@ -1,15 +1,14 @@
 -- Equal types of two modules are equal slot types, since both views show one list.
-use Rattle.std.specs.Prelude.{◌≡◌, ◌==◌, ◌&&◌, ◌<◌, ◌-◌, ℕ, Bool, true, false, beq, nat_eq, nat_lt, if◌then◌else◌, Option, Some, None}
+use Rattle.std.specs.Prelude.{◌≡◌, ◌==◌, ◌&&◌, ◌<◌, ◌-◌, ℕ, Bool, true, false, if◌then◌else◌, Option, Some, None}
+use Rattle.std.specs.Bool.{beq}
 use Rattle.std.proofs.Common.{refl, sym, ap, ◌∙◌, subst}
 use Rattle.std.proofs.lemmas.Bool.{eqb-true, lt-ltb}
 use Rattle.ang_view.specs.declared.entry.Entry.{Entry}
 use Rattle.ang_view.specs.Registration.{RegistrationList, entry_at, is_seen, seen_entry, seen}
 use Rattle.ang_view.proofs.Seen.{entry_at-seen}
-use Rattle.ang_types.specs.declared.arg_type.ArgType.{ArgType}
 use Rattle.ang_types.specs.declared.arg_type.ArgType.TheVariants as type
-use Rattle.ang_names_known.specs.Lookup.{same_type}
-use Rattle.ang_source_typed.specs.Types.{SlotType, Key, Family, driver_of, object_type, slot_type, first_family}
-use Rattle.ang_check_typed.specs.Lacking.{IsSeenType, SameTypesHoldTheSame}
+use Rattle.ang_source_typed.specs.Types.{Key, Family, driver_of, object_type, first_family}
+use Rattle.ang_check_typed.specs.Lacking.{SameTypesHoldTheSame}
 
 shown : (b : Bool) (x y : Entry) → (if b then Some x else None) ≡ Some y → x ≡ y
 shown true x y e = cc

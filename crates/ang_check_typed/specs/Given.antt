@@ -1,5 +1,5 @@
 -- What typing knows of a module that scripts build to, and the facts of its names that a build gives. A draft: none of this is proved yet.
-use Rattle.std.specs.Prelude.{◌≡◌, ◌==◌, ◌<◌, ◌≤◌, ◌+◌, ℕ, suc, Bool, true, false, List, [], ◌∷◌, length, map as list_map, option_map, Option, Some, None, slice_get}
+use Rattle.std.specs.Prelude.{◌≡◌, ◌==◌, ◌<◌, ◌+◌, ℕ, Bool, true, false, List, length, Option, Some, None, slice_get}
 use Rattle.std.specs.List.{list_any}
 use Rattle.ang_view.specs.Registration.{RegistrationList}
 use Rattle.ang_typed.specs.Typed as t
@@ -10,7 +10,6 @@ use Rattle.ang_names_known.specs.declared.names.Family.{Family}
 use Rattle.ang_names_known.specs.declared.names.ScriptConstructor.{ScriptConstructor}
 use Rattle.ang_names_listed.specs.Sources.{Source}
 use Rattle.ang_check.specs.Bodies.{program_of}
-use Rattle.ang_meaning.specs.declared.class.Class.{Class}
 use Rattle.ang_meaning.specs.Environment.{Environment, class_in}
 use Rattle.ang_source.specs.Hosts.{HasView}
 use Rattle.ang_source.specs.Meaning.{method_among, class_among, fields_by}

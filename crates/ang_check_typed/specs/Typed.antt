@@ -1,5 +1,5 @@
 -- The trees of builds are typed. A draft: the statements of the second landing, none of which is proved yet.
-use Rattle.std.specs.Prelude.{◌≡◌, ◌≢◌, ◌≤◌, ℕ, true, List, [], ◌∷◌, length, reverse, map as list_map, Some, None, Option, IfOk, slice_get}
+use Rattle.std.specs.Prelude.{◌≡◌, ◌≤◌, ℕ, List, [], ◌∷◌, length, reverse, map as list_map, Some, None, Option, IfOk, slice_get}
 use Rattle.ang_tree.specs.Tree.{Tree}
 use Rattle.ang_view.specs.Registration.{RegistrationList}
 use Rattle.ang_view.specs.Values.{TakesValues}
