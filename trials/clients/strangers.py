@@ -7,7 +7,12 @@ Each script has at most 64 KiB. It is built, and called three times, with the li
 clients/python sets where nothing is said. Another module answers after each call, and the most memory that the process
 had (VmHWM) stays below 64 MB. Each is then built in two other engines with a budget of two ticks, and called in one. In
 the other nothing can be made and nobody asked, so the builds differ by what initializers take. Milliseconds are processor
-time of the engine's process alone; of a tick, and of initializers that take none, 50 are wanted at most.
+time of the engine's process alone, the least of several calls; of a tick, and of initializers that take none, 50 are wanted
+at most.
+
+A function that returns takes no tick, so what 200 of them have left is run after the last tick of a call. Each script of
+the second table is called with a tick less than its functions take, and with all of them: a tick takes 50 milliseconds at
+most of the whole call, and the last one by itself far more than that.
 
 Then limits are met in an initializer, in the midst of a constructor and in a chain of imports: afterwards scripts hold
 what they held before, and each host object that was made and is no longer there has its end in the events.
@@ -27,6 +32,8 @@ MOST = 65536  # bytes of a section
 MEMORY = 64_000_000  # bytes, of the process
 TICK = 50.0  # milliseconds
 SECONDS = 100.0  # that a command may take where its processor time is measured
+DEPTH = 200  # functions, one inside the other
+ROUNDS = 3  # of which the quickest counts
 OTHER = "class Note{int64 n;Note(int64 m){n=m;}}Note note(42);int64 answer(){return note.n;}"
 
 
@@ -43,6 +50,7 @@ def offered() -> Profile:
     kept = [0]
     profile.function("void say(int64)", lambda n: None)
     profile.function(f"void many({','.join(['int64'] * 32)})", lambda *them: None)
+    profile.posted(f"void lots({','.join(['int64'] * 32)})", lambda *them: None)
     profile.global_property("int64 reg", lambda: kept[0], lambda n: kept.__setitem__(0, n % 1000))
     profile.type("Thing").factory("Thing@ f()", Thing)
     return profile
@@ -172,6 +180,31 @@ SCRIPTS: Dict[str, str] = {
     ),
 }
 
+def returning(head: str, unit: str) -> str:
+    """200 functions one inside the other, each of which does the unit as often as there is room once the inner one has returned."""
+    return filled(f"{head}int d;void f(){{d=0;g();}}void g(){{if(++d<{DEPTH - 1})g();", unit)
+
+
+def each(type_name: str, value: str, count: int) -> str:
+    return "".join(f"{type_name} {name}={value};" for name in names(count))
+
+
+# Of each script its text. The call of `void f()` takes a tick for each of its 200 functions.
+RETURNING: Dict[str, str] = {
+    "statements": returning("int x;", "x;"),
+    "signs": returning("int x;", SIGNS),
+    "divisions": returning("int64 x=3;", f"x{'/x' * 125};"),
+    "changes of small types": returning("int8 x;uint64 y;", f"x{'+y+x' * 60};"),
+    "handles to a script's object": returning("class l{}l@ o=l();", "o;"),
+    "handles to 26 objects of the host": returning(each("Thing@", "Thing()", 26), "".join(f"{it};" for it in names(26))),
+    "such a handle, stored": returning(each("Thing@", "Thing()", 26), "".join(f"@A={it};" for it in names(26))),
+    "casts": returning(f"class k0{{}}{''.join(f'class k{n + 1}:k{n}{{}}' for n in range(254))}k254 o;", "cast<k0>(o);"),
+    "objects": returning("class l{}", "l();"),
+    "10,000 host calls": returning("", "reg+=" * 250 + "reg;"),
+    "10,000 host calls of 32 arguments": returning("int64 x=-9223372036854775807;", f"many({','.join('x' * 32)});"),
+    "10,000 posts of 32 arguments": returning("int64 x=-9223372036854775807;", f"lots({','.join('x' * 32)});"),
+}
+
 # What limits are met in. A part takes four slots, and a pair twelve and an object of the host.
 PARTS = """\
 class Part { int64 a, b, c; }
@@ -241,6 +274,17 @@ def built_in(engine: Engine, text: str) -> float:
     return milliseconds(engine) - before
 
 
+def called(engine: Engine, ticks: int) -> float:
+    """The milliseconds of a call that has so many ticks."""
+    engine.budget(ticks)
+    took = []
+    for _ in range(ROUNDS):
+        before = milliseconds(engine)
+        engine.command("call stranger () void f()")
+        took.append(milliseconds(engine) - before)
+    return min(took)
+
+
 class Trial:
     """What did not go well."""
 
@@ -275,9 +319,7 @@ class Trial:
         """The milliseconds of a build, of its initializers and of a call, where each run has two ticks."""
         with Engine(offered(), self.program, SECONDS) as engine:
             build = built_in(engine, text)
-            before = milliseconds(engine)
-            engine.command("call stranger () void f()")
-            ticks = milliseconds(engine) - before
+            ticks = called(engine, 2)
         with Engine(offered(), self.program, SECONDS) as engine:
             engine.limits(events=1, slots=0, objects=0)
             begun = build - built_in(engine, text)
@@ -296,6 +338,20 @@ class Trial:
                 self.wants(False, f"{name}: {lost}")
                 continue
             print(f"| {name} | {len(text):,} | {' | '.join(told)} |", flush=True)
+
+    def returned(self) -> None:
+        print("\n| What 200 functions do as they return | bytes | MB | ms of 199 ticks | of 200 | of one of them |")
+        print("|---|---|---|---|---|---|")
+        for name, text in RETURNING.items():
+            assert len(text) < MOST, name
+            with Engine(offered(), self.program, SECONDS) as engine:
+                self.wants(made(engine, "stranger", text).build().ok, f"{name}: not built")
+                fewer, all_ticks = called(engine, DEPTH - 1), called(engine, DEPTH)
+                memory = most_memory(engine)
+            self.wants(all_ticks <= DEPTH * TICK, f"{name}: {DEPTH} ticks take {all_ticks:.0f} milliseconds")
+            self.wants(memory < MEMORY, f"{name}: {memory} bytes of memory")
+            print(f"| {name} | {len(text):,} | {memory / 1e6:.1f} | {fewer:.1f} | {all_ticks:.0f} | {all_ticks / DEPTH:.2f} |", flush=True)
+        print()
 
     def balanced(self, what: str, engine: Engine, reply: Reply, outcome: str, objects: int) -> None:
         """After a reply nothing is held, and each object that was made has ended."""
@@ -344,8 +400,9 @@ class Trial:
 def main() -> None:
     trial = Trial(sys.argv[1])
     trial.strangers()
+    trial.returned()
     trial.met()
-    print(f"{len(SCRIPTS)} scripts, limits met {len(MET) + 4} times, {trial.bad} things that did not go well")
+    print(f"{len(SCRIPTS) + len(RETURNING)} scripts, limits met {len(MET) + 4} times, {trial.bad} things that did not go well")
     sys.exit(trial.bad > 0)
 
 
