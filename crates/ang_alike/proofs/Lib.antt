@@ -11,4 +11,5 @@ pub mod Globals
 pub mod Fitting
 pub mod Steps
 pub mod Unseen
+pub mod Compared
 pub mod Sessions

@@ -14,18 +14,19 @@ use Rattle.ang_meaning.specs.Alike.{Renaming, unchanged, renamed_record}
 use Rattle.ang_meaning.proofs.AlikeWorlds.{three}
 use Rattle.ang_meaning.proofs.Roots.{nothing_counted}
 use Rattle.ang_meaning.proofs.Matching.{Match}
-use Rattle.ang_code_laws.specs.Alike.{AreAlike, GrantedAlike}
-use Rattle.ang_code_laws.proofs.AlikeRuns.{LeftAlike, granted_same, match_then, begun}
+use Rattle.ang_code_laws.specs.Alike.{AreAlike}
+use Rattle.ang_code_laws.proofs.AlikeRuns.{LeftAlike, match_then, begun}
 use Rattle.ang_engine_modules.specs.declared.command.Command.{Command}
 use Rattle.ang_engine_modules.specs.declared.command.Command.TheVariants.{NewModule, SetMask, AddSection, Build, Bind, Unbind, Call, Discard}
 use Rattle.ang_engine_modules.specs.declared.reply.Reply.{Reply}
 use Rattle.ang_engine_modules.specs.World.{ModuleStates, World, no_modules, running, left_to}
 use Rattle.ang_engine_modules.specs.Commands.{Stepped}
-use Rattle.ang_engine.specs.Step.{step}
-use Rattle.ang_alike.specs.Alike.{Grants, InTurn, SeesSame, answers_in, undenied, HiddenDoesNotMatter, AnswersDecide}
+use Rattle.ang_engine.specs.Step.{step, Takes}
+use Rattle.ang_alike.specs.Alike.{Grants, InTurn, SeesSame, grants_in, Agree, TakenAlike, BothInTurn, answers_in, undenied, HiddenDoesNotMatter, AnswersDecide, ToldAlikeReplyAlike, ToldAlikeReplySame}
 use Rattle.ang_alike.proofs.Modules.{AreGood}
 use Rattle.ang_alike.proofs.Steps.{AreSame, SteppedAlike, BothAlike, step_alike}
 use Rattle.ang_alike.proofs.Unseen.{bare, hidden_same}
+use Rattle.ang_alike.proofs.Compared.{granted_agree, told_same}
 
 -- ---- between commands
 
@@ -98,14 +99,6 @@ sees_again R S w q (Unbind name index) h = tt
 sees_again R S w q (Call name decl args budget) h = tt
 sees_again R S w q (Discard name) h = tt
 
-first_or : {A : Type 0} → A → List A → A
-first_or d [] = d
-first_or d (x ∷ xs) = x
-
-later : {A : Type 0} → List A → List A
-later [] = []
-later (x ∷ xs) = xs
-
 module _ (R S : RegistrationList) (values : TakesValues R) (few : length R ≤ 1024) where
   module _ (ms : ModuleStates) (good : AreGood ms) (r : Renaming) (v w : RunWorld) (counted : IsCounted [] v) (h : AreAlike r v w) (c : Command) (sees : SeesSame R S (left_to ms w) c) where
     abbrev goes : List Input → Option Stepped
@@ -121,51 +114,74 @@ module _ (R S : RegistrationList) (values : TakesValues R) (few : length R ≤ 1
     pairs apart is js a b m e f =
         left_by apart (step R (left_to ms v) c is) (step R (left_to ms w) c js) a b (both apart is js m) e (hidden_same R S (left_to ms w) c sees js ∙ f)
 
-    command_alike : (reply answer : Reply) (after left : World) → (one : Grants R (left_to ms v) c reply after) → (two : Grants S (left_to ms w) c answer left) → answers_in reply ≡ answers_in answer → AreTold (R ≡ S) reply answer after left
-    command_alike reply answer after left one two k =
-        let granted : GrantedAlike one.0.used two.0.used = record { room = one.1; again = two.1; answers = one.0.answers ∙ k ∙ sym two.0.answers } in
-        let m : Match ⊥ one.0.used two.0.used =
-        granted_same {A = Stepped} (λ a. a.left) (λ is a. goes is ≡ Some a) (λ js b. goes_too js ≡ Some b) pairs one.0.used two.0.used
-        (λ rest. (bare (record { reply = reply; world = after; left = rest }), ap (option_map bare) (one.0.tells rest), refl))
-        (λ rest. (bare (record { reply = answer; world = left; left = rest }), ap (option_map bare) (two.0.tells rest), refl)) granted in
-        let whole : Match ⊥ (one.0.used ++ []) (two.0.used ++ []) = match_then ⊥ one.0.used two.0.used [] [] m (λ x. x) in
-        told_by (R ≡ S) (step R (left_to ms v) c (one.0.used ++ [])) (step R (left_to ms w) c (two.0.used ++ []))
-        (record { reply = reply; world = after; left = [] }) (record { reply = answer; world = left; left = [] }) (both ⊥ (one.0.used ++ []) (two.0.used ++ []) whole)
-        (one.0.tells []) (hidden_same R S (left_to ms w) c sees (two.0.used ++ []) ∙ ap (option_map bare) (two.0.tells []))
-        (λ e. ap (λ L. step L (left_to ms w) c (two.0.used ++ [])) e ∙ two.0.tells [])
+    command_alike : (reply answer : Reply) (after left : World) → (one : Takes R (left_to ms v) c reply after) → (two : Takes S (left_to ms w) c answer left) → Agree (grants_in one.used) (grants_in two.used) → answers_in reply ≡ answers_in answer
+        → AreTold (R ≡ S) reply answer after left
+    command_alike reply answer after left one two granted k =
+        let m : Match ⊥ one.used two.used =
+        told_same {A = Stepped} (λ a. a.left) (λ is a. goes is ≡ Some a) (λ js b. goes_too js ≡ Some b) pairs one.used two.used
+        (λ rest. (bare (record { reply = reply; world = after; left = rest }), ap (option_map bare) (one.tells rest), refl))
+        (λ rest. (bare (record { reply = answer; world = left; left = rest }), ap (option_map bare) (two.tells rest), refl)) granted (one.answers ∙ k ∙ sym two.answers) in
+        let whole : Match ⊥ (one.used ++ []) (two.used ++ []) = match_then ⊥ one.used two.used [] [] m (λ x. x) in
+        told_by (R ≡ S) (step R (left_to ms v) c (one.used ++ [])) (step R (left_to ms w) c (two.used ++ []))
+        (record { reply = reply; world = after; left = [] }) (record { reply = answer; world = left; left = [] }) (both ⊥ (one.used ++ []) (two.used ++ []) whole)
+        (one.tells []) (hidden_same R S (left_to ms w) c sees (two.used ++ []) ∙ ap (option_map bare) (two.tells []))
+        (λ e. ap (λ L. step L (left_to ms w) c (two.used ++ [])) e ∙ two.tells [])
 
-  between_commands : (w u : World) (c : Command) (reply answer : Reply) (after left : World) → AreBetween w u → Grants R w c reply after → SeesSame R S w c → Grants S u c answer left → answers_in reply ≡ answers_in answer
-      → AreTold (R ≡ S) reply answer after left
-  between_commands w u c reply answer after left b one sees two k =
+  between_commands : (w u : World) (c : Command) (reply answer : Reply) (after left : World) → AreBetween w u → TakenAlike R S w u c reply answer after left → AreTold (R ≡ S) reply answer after left
+  between_commands w u c reply answer after left b h =
       let there : u ≡ left_to w.modules (running u []) = ap (λ ss. left_to ss (running u [])) b.modules in
-      command_alike w.modules b.good b.by (running w []) (running u []) b.counted b.alike c (sees_again R S w (running u []) c sees) reply answer after left one (subst (λ x. Grants S x c answer left) there two) k
+      let two = subst (λ x. (t : Takes S x c answer left) × Agree (grants_in h.one.used) (grants_in t.used)) there (h.other, h.granted) in
+      command_alike w.modules b.good b.by (running w []) (running u []) b.counted b.alike c (sees_again R S w (running u []) c h.sees) reply answer after left h.one two.0 two.1 h.answers
 
   -- ---- commands in turn
 
-  pub all_alike : (cs : List Command) (rs ss : List Reply) (w u v x : World) → AreBetween w u → InTurn (λ y c r t. Grants R y c r t × SeesSame R S y c) w cs rs v → InTurn (Grants S) u cs ss x
-      → list_map answers_in rs ≡ list_map answers_in ss → list_map undenied rs ≡ list_map undenied ss
-  unfolding first_or later
-  all_alike [] [] [] w u v x b d e k = refl
-  all_alike [] [] (s ∷ ss) w u v x b d e k = absurd e
-  all_alike [] (r ∷ rs) ss w u v x b d e k = absurd d
-  all_alike (c ∷ cs) [] ss w u v x b d e k = absurd d
-  all_alike (c ∷ cs) (r ∷ rs) [] w u v x b d e k = absurd e
-  all_alike (c ∷ cs) (r ∷ rs) (s ∷ ss) w u v x b d e k =
-      let one = between_commands w u c r s d.0 e.0 b d.1.0 d.1.1 e.1 (ap (first_or []) k) in
-      ap₂ (λ y ys. y ∷ ys) one.same (all_alike cs rs ss d.0 e.0 v x one.between d.2 e.2 (ap later k))
+  pub all_alike : (cs : List Command) (rs ss : List Reply) (w u v x : World) → AreBetween w u → BothInTurn (TakenAlike R S) w u cs rs ss v x → list_map undenied rs ≡ list_map undenied ss
+  all_alike [] [] [] w u v x b d = refl
+  all_alike [] [] (s ∷ ss) w u v x b d = absurd d
+  all_alike [] (r ∷ rs) ss w u v x b d = absurd d
+  all_alike (c ∷ cs) [] ss w u v x b d = absurd d
+  all_alike (c ∷ cs) (r ∷ rs) [] w u v x b d = absurd d
+  all_alike (c ∷ cs) (r ∷ rs) (s ∷ ss) w u v x b d =
+      let one = between_commands w u c r s d.0 d.1 b d.2 in
+      ap₂ (λ y ys. y ∷ ys) one.same (all_alike cs rs ss d.0 d.1 v x one.between d.3)
 
   -- over one list
-  pub all_same : R ≡ S → (cs : List Command) (rs ss : List Reply) (w u v x : World) → AreBetween w u → InTurn (λ y c r t. Grants R y c r t × SeesSame R S y c) w cs rs v → InTurn (Grants S) u cs ss x
-      → list_map answers_in rs ≡ list_map answers_in ss → rs ≡ ss
-  unfolding first_or later
-  all_same one_list [] [] [] w u v x b d e k = refl
-  all_same one_list [] [] (s ∷ ss) w u v x b d e k = absurd e
-  all_same one_list [] (r ∷ rs) ss w u v x b d e k = absurd d
-  all_same one_list (c ∷ cs) [] ss w u v x b d e k = absurd d
-  all_same one_list (c ∷ cs) (r ∷ rs) [] w u v x b d e k = absurd e
-  all_same one_list (c ∷ cs) (r ∷ rs) (s ∷ ss) w u v x b d e k =
-      let one = between_commands w u c r s d.0 e.0 b d.1.0 d.1.1 e.1 (ap (first_or []) k) in
-      ap₂ (λ y ys. y ∷ ys) (one.whole one_list) (all_same one_list cs rs ss d.0 e.0 v x one.between d.2 e.2 (ap later k))
+  pub all_same : R ≡ S → (cs : List Command) (rs ss : List Reply) (w u v x : World) → AreBetween w u → BothInTurn (TakenAlike R S) w u cs rs ss v x → rs ≡ ss
+  all_same one_list [] [] [] w u v x b d = refl
+  all_same one_list [] [] (s ∷ ss) w u v x b d = absurd d
+  all_same one_list [] (r ∷ rs) ss w u v x b d = absurd d
+  all_same one_list (c ∷ cs) [] ss w u v x b d = absurd d
+  all_same one_list (c ∷ cs) (r ∷ rs) [] w u v x b d = absurd d
+  all_same one_list (c ∷ cs) (r ∷ rs) (s ∷ ss) w u v x b d =
+      let one = between_commands w u c r s d.0 d.1 b d.2 in
+      ap₂ (λ y ys. y ∷ ys) (one.whole one_list) (all_same one_list cs rs ss d.0 d.1 v x one.between d.3)
+
+-- ---- what was granted was told alike
+
+first_or : {A : Type 0} → A → List A → A
+first_or d [] = d
+first_or d (x ∷ xs) = x
+
+later : {A : Type 0} → List A → List A
+later [] = []
+later (x ∷ xs) = xs
+
+together : (R S : RegistrationList) (cs : List Command) (rs ss : List Reply) (w u v x : World) → InTurn (λ y c r t. Grants R y c r t × SeesSame R S y c) w cs rs v → InTurn (Grants S) u cs ss x
+    → list_map answers_in rs ≡ list_map answers_in ss → BothInTurn (TakenAlike R S) w u cs rs ss v x
+unfolding first_or later
+together R S [] [] [] w u v x d e k = (d, e)
+together R S [] [] (s ∷ ss) w u v x d e k = absurd e
+together R S [] (r ∷ rs) ss w u v x d e k = absurd d
+together R S (c ∷ cs) [] ss w u v x d e k = absurd d
+together R S (c ∷ cs) (r ∷ rs) [] w u v x d e k = absurd e
+together R S (c ∷ cs) (r ∷ rs) (s ∷ ss) w u v x d e k =
+    let one = d.1.0 in
+    let other = e.1 in (
+      d.0,
+      e.0,
+      record { one = one.0; other = other.0; sees = d.1.1; granted = granted_agree one.0.used other.0.used one.1 other.1; answers = ap (first_or []) k },
+      together R S cs rs ss d.0 e.0 v x d.2 e.2 (ap later k),
+    )
 
 -- ---- the law
 
@@ -188,8 +204,14 @@ empty_between = record {
   good = record { places = tt; linked = record { each = λ m i g e. absurd (no_link m i g e) } };
 }
 
+pub told_alike_reply_alike : ToldAlikeReplyAlike
+told_alike_reply_alike R S cs rs ss v w registered d = all_alike R S registered.values registered.few cs rs ss no_modules no_modules v w empty_between d
+
+pub told_alike_reply_same : ToldAlikeReplySame
+told_alike_reply_same R cs rs ss v w registered d = all_same R R registered.values registered.few refl cs rs ss no_modules no_modules v w empty_between d
+
 pub hidden_does_not_matter : HiddenDoesNotMatter
-hidden_does_not_matter R S cs rs ss v w registered d e k = all_alike R S registered.values registered.few cs rs ss no_modules no_modules v w empty_between d e k
+hidden_does_not_matter R S cs rs ss v w registered d e k = told_alike_reply_alike R S cs rs ss v w registered (together R S cs rs ss no_modules no_modules v w d e k)
 
 -- ---- the law over one list
 
@@ -211,4 +233,4 @@ with_itself R (c ∷ cs) (r ∷ rs) w v d = (d.0, (d.1, sees_itself R w c), with
 
 pub answers_decide : AnswersDecide
 answers_decide R cs rs ss v w registered d e k =
-    all_same R R registered.values registered.few refl cs rs ss no_modules no_modules v w empty_between (with_itself R cs rs no_modules v d) e k
+    told_alike_reply_same R cs rs ss v w registered (together R R cs rs ss no_modules no_modules v w (with_itself R cs rs no_modules v d) e k)

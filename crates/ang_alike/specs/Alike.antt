@@ -1,9 +1,10 @@
 -- That hidden registrations do not matter: what a module's mask hides is not felt (docs/CLAIMS.md,
 -- "What hidden registrations change").
-use Rattle.std.specs.Prelude.{◌≡◌, ◌≤◌, ℕ, true, List, [], ◌∷◌, length, Some, map as list_map}
+use Rattle.std.specs.Prelude.{◌≡◌, ◌≤◌, ℕ, Bool, true, List, [], ◌∷◌, length, Some, map as list_map}
 use Rattle.ang_host.specs.declared.answer.HostReply.{HostReply}
 use Rattle.ang_view.specs.Registration.{RegistrationList, seen}
 use Rattle.ang_view.specs.Values.{TakesValues}
+use Rattle.ang_meaning.specs.World.{Input, Room, Said, Tallied, Fresh}
 use Rattle.ang_meaning.specs.Told.{has_room, answers_listed}
 use Rattle.ang_engine_modules.specs.declared.command.Command.{Command}
 use Rattle.ang_engine_modules.specs.declared.command.Command.TheVariants.{NewModule, SetMask, AddSection, Build, Bind, Unbind, Call, Discard}
@@ -41,6 +42,48 @@ SeesSame R S w (Unbind name index) = Unit {0}
 SeesSame R S w (Call name decl args budget) = Unit {0}
 SeesSame R S w (Discard name) = Unit {0}
 
+-- ---- commands that were told alike
+
+-- whether there was memory, or room in a tally, each time that a command asked for it
+abbrev pub grants_in : List Input → List Bool
+grants_in [] = []
+grants_in (Room b ∷ inputs) = b ∷ grants_in inputs
+grants_in (Tallied b ∷ inputs) = b ∷ grants_in inputs
+grants_in (Said reply ∷ inputs) = grants_in inputs
+grants_in (Fresh n ∷ inputs) = grants_in inputs
+
+-- As far as both lists go, they say the same.
+abbrev pub Agree : List Bool → List Bool → Type 0
+Agree [] ys = Unit {0}
+Agree (x ∷ xs) [] = Unit {0}
+Agree (x ∷ xs) (y ∷ ys) = (x ≡ y) × Agree xs ys
+
+-- what the drivers answered
+abbrev pub answers_in : Reply → List HostReply
+answers_in r = answers_listed r.events
+
+-- The command takes a world over the list R, and another over S. If it builds, it sees the same of both
+-- lists. Drivers answer the same, and the first request for memory or a tally is granted in both or
+-- refused in both, and so is the second, and each that there is in both.
+pub record TakenAlike (R S : RegistrationList) (w u : World) (c : Command) (reply answer : Reply)
+    (after left : World) : Type 0 where
+  pub one : Takes R w c reply after
+  pub other : Takes S u c answer left
+  pub sees : SeesSame R S w c
+  pub granted : Agree (grants_in one.used) (grants_in other.used)
+  pub answers : answers_in reply ≡ answers_in answer
+
+-- a list of commands in turn in two worlds, each of which does this to both and has a reply in both
+abbrev pub BothInTurn : (World → World → Command → Reply → Reply → World → World → Type 0) → World
+    → World → List Command → List Reply → List Reply → World → World → Type 0
+BothInTurn does w u [] [] [] after left = (w ≡ after) × (u ≡ left)
+BothInTurn does w u [] [] (s ∷ ss) after left = ⊥
+BothInTurn does w u [] (r ∷ rs) ss after left = ⊥
+BothInTurn does w u (c ∷ cs) [] ss after left = ⊥
+BothInTurn does w u (c ∷ cs) (r ∷ rs) [] after left = ⊥
+BothInTurn does w u (c ∷ cs) (r ∷ rs) (s ∷ ss) after left =
+    (m : World) × (n : World) × does w u c r s m n × BothInTurn does m n cs rs ss after left
+
 -- ---- the law
 
 -- What a registry holds: at most 1,024 entries, blanks among them, whose declarations take values
@@ -48,10 +91,6 @@ SeesSame R S w (Discard name) = Unit {0}
 pub record IsRegistered (R : RegistrationList) : Type 0 where
   pub values : TakesValues R
   pub few : length R ≤ 1024
-
--- what the drivers answered
-abbrev pub answers_in : Reply → List HostReply
-answers_in r = answers_listed r.events
 
 -- the reply without its denials
 abbrev pub undenied : Reply → Reply
@@ -78,4 +117,22 @@ AnswersDecide =
     → InTurn (Grants R) no_modules cs rs v
     → InTurn (Grants R) no_modules cs ss w
     → list_map answers_in rs ≡ list_map answers_in ss
+    → rs ≡ ss
+
+-- Commands over the list R of a registry and over S, told alike, those that were refused memory or a
+-- tally among them: the replies are the same but for their denials. So two engines reply otherwise only
+-- from a request on that one was granted and the other was refused.
+abbrev pub ToldAlikeReplyAlike : Type 0
+ToldAlikeReplyAlike =
+    (R S : RegistrationList) (cs : List Command) (rs ss : List Reply) (v w : World)
+    → IsRegistered R
+    → BothInTurn (TakenAlike R S) no_modules no_modules cs rs ss v w
+    → list_map undenied rs ≡ list_map undenied ss
+
+-- over one list of a registry with their denials
+abbrev pub ToldAlikeReplySame : Type 0
+ToldAlikeReplySame =
+    (R : RegistrationList) (cs : List Command) (rs ss : List Reply) (v w : World)
+    → IsRegistered R
+    → BothInTurn (TakenAlike R R) no_modules no_modules cs rs ss v w
     → rs ≡ ss

@@ -7,7 +7,7 @@ ghost use Rattle.ang_typed.specs.Typed.{Program};
 ghost use Rattle.ang_meaning.specs.Environment.{Environment};
 ghost use Rattle.ang_source.specs.Meaning.{Codes};
 ghost use Rattle.ang_alike.specs.SourcesAlike.{AreSoundSources, AreAlikeInRuns};
-ghost use Rattle.ang_alike.specs.Alike.{HiddenDoesNotMatter, AnswersDecide};
+ghost use Rattle.ang_alike.specs.Alike.{HiddenDoesNotMatter, AnswersDecide, ToldAlikeReplyAlike, ToldAlikeReplySame};
 
 /// Two calls of a function of sound trees, and a module's initializers run twice, in worlds that are
 /// equal up to the numbers of script objects, and told the same but for these, come to the same but for
@@ -30,4 +30,11 @@ pub fn alike()
 /// was granted that was asked for.
 pub fn answers_decide()
     ensures same { AnswersDecide }
+{}
+
+/// The same of commands that were refused memory or a tally, where both lists are refused the same requests.
+/// Where the replies differ, one was granted a request that the other was refused.
+pub fn told_alike()
+    ensures alike { ToldAlikeReplyAlike }
+    ensures same { ToldAlikeReplySame }
 {}
