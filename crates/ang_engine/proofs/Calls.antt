@@ -38,11 +38,11 @@ use Rattle.ang_engine_modules.proofs.PlaceLists.{get-map, map-get, get-front}
 use Rattle.ang_engine_modules.specs.declared.reply.Outcome.{Outcome}
 use Rattle.ang_engine_modules.specs.declared.reply.Refusal.TheVariants.{NotCallable}
 use Rattle.ang_engine_modules.specs.World.{Program, ModuleStates, World, built_in, running, left_to}
-use Rattle.ang_engine.specs.Step.{Chosen, Not}
+use Rattle.ang_engine.specs.Step.{Chosen, Not, cut_by}
 use Rattle.ang_engine.specs.Step.{choice_of, of_number, of_function, with_arguments, Leads, call_chosen, call_ended, called}
 use Rattle.ang_engine_modules.specs.Commands.{reply_of}
 use Rattle.ang_engine.specs.Outcomes.{NameNothing, HasCalled, IsTyped, outcome_as, outcome_by}
-use Rattle.ang_engine.proofs.Leading.{told_by}
+use Rattle.ang_engine.proofs.Leading.{told_by, fault_in}
 
 -- ---- the function of a call
 
@@ -230,6 +230,10 @@ called-so : (f : ScriptFunction) (r : Result Slot Fault) (x : RunWorld) (w : Wor
 called-so f (Ok v) x w rest = refl
 called-so f (Err fault) x w rest = refl
 
+called-fault : (f : ScriptFunction) (r : Result Slot Fault) → fault_in r ≡ cut_by (outcome_by f r)
+called-fault f (Ok v) = refl
+called-fault f (Err fault) = refl
+
 same_function : (o : Option ScriptFunction) (f g : ScriptFunction) → o ≡ Some f → o ≡ Some g → f ≡ g
 same_function o f g e h = cc
 
@@ -249,6 +253,6 @@ call-run p ms decl vs home budget c f outcome ss u x built first choice h =
           ∙ ap (λ e. Some (call_ended e w f)) (h.ends.ends rest)
           ∙ ap Some (called-so f h.value x w rest)
           ∙ ap (λ o. Some (record { reply = reply_of o x.events []; world = left_to ss x; left = rest })) ended;
-      told = told_by h.value h.ends.used h.ends.told;
+      told = told_by h.value h.ends.used (cut_by outcome) (called-fault f h.value ∙ ap cut_by ended) h.ends.told;
       answers = sym (ap (λ es. answers_listed es ++ answers_told h.ends.used) first) ∙ sym h.ends.answers;
     }

@@ -16,7 +16,7 @@ use Rattle.ang_engine_modules.specs.declared.reply.Refusal.{Refusal}
 use Rattle.ang_engine_modules.specs.declared.reply.Refusal.TheVariants.{Memory}
 use Rattle.ang_engine_modules.specs.World.{World}
 use Rattle.ang_engine_modules.specs.Commands.{Stepped, answered, reply_of}
-use Rattle.ang_engine.specs.Step.{Leads, Takes, judged, granted, may_want_memory, step}
+use Rattle.ang_engine.specs.Step.{Leads, Takes, judged, granted, may_want_memory, step, cut_by}
 use Rattle.ang_engine_modules.specs.Outcomes.{IsRefused, IsDone, IsDoneWithoutMemory, outcome_of}
 use Rattle.ang_engine.specs.Outcomes.{IsCalled, IsDiscarded, reply_to_call, reply_to_discard}
 
@@ -25,11 +25,27 @@ use Rattle.ang_engine.specs.Outcomes.{IsCalled, IsDiscarded, reply_to_call, repl
 some_stop : {A : Type 0} (o : Option A) (x : A) → o ≡ Some x → IsSome o
 some_stop o x e = ap is_some e
 
+abbrev pub fault_in : Result Slot Fault → Option Fault
+fault_in (Ok v) = None
+fault_in (Err f) = Some f
+
+none_some : {A : Type 0} (o : Option A) → o ≡ None → IsSome o → ⊥
+none_some None e h = absurd (cc)
+none_some (Some x) e h = absurd (cc)
+
 -- a run that was told enough, or stopped by its last input
-pub told_by : (r : Result Slot Fault) (used : List Input) → IsTold r used → (has_room used ≡ true) ⊎ IsSome (stopped_by used)
-told_by (Ok v) used h = inl h
-told_by (Err f) used (inl h) = inl h
-told_by (Err f) used (inr h) = inr (some_stop (stopped_by used) f h)
+pub told_by : (r : Result Slot Fault) (used : List Input) (o : Option Fault) → fault_in r ≡ o → IsTold r used → (has_room used ≡ true) ⊎ ((stopped_by used ≡ o) × IsSome (stopped_by used))
+told_by (Ok v) used o e h = inl h
+told_by (Err f) used o e (inl h) = inl h
+told_by (Err f) used o e (inr h) = inr (h ∙ e, some_stop (stopped_by used) f h)
+
+-- told so, with an outcome that is of no refusal, it was granted all that it asked for
+granted_in : (used : List Input) (o : Option Fault) → o ≡ None → (has_room used ≡ true) ⊎ ((stopped_by used ≡ o) × IsSome (stopped_by used)) → has_room used ≡ true
+granted_in used o e (inl h) = h
+granted_in used o e (inr h) = absurd (none_some (stopped_by used) (h.0 ∙ e) h.1)
+
+pub granted_by : (R : RegistrationList) (w v : World) (c : Command) (reply : Reply) (t : Takes R w c reply v) → cut_by reply.outcome ≡ None → has_room t.used ≡ true
+granted_by R w v c reply t e = granted_in t.used (cut_by reply.outcome) e t.told
 
 -- ---- commands that asked for no more
 
@@ -65,7 +81,7 @@ pub takes-memory : (R : RegistrationList) (w v : World) (c : Command) → may_wa
 takes-memory R w v c wants same = record {
   used = Room false ∷ [];
   tells = λ rest. step-granted R w c (Room false ∷ rest) wants ∙ ap (λ x. Some (record { reply = reply_of (Refused Memory) [] []; world = x; left = rest })) (sym same);
-  told = inr refl;
+  told = inr (refl, refl);
   answers = refl;
 }
 

@@ -24,7 +24,9 @@ use Rattle.ang_engine_modules.specs.declared.command.Command.TheVariants.{NewMod
 use Rattle.ang_engine_modules.specs.declared.reply.Reply.{Reply}
 use Rattle.ang_engine_modules.specs.declared.reply.Outcome.TheVariants.{Done, Failed, Refused}
 use Rattle.ang_engine_modules.specs.declared.reply.Refusal.{Refusal}
-use Rattle.ang_engine_modules.specs.declared.reply.Refusal.TheVariants.{NotBuilt, BadBudget, BuildMemory, BuildErrors, InitFailed, NoFunction, NoImport, SignatureDiffers, NotCallable, BadArguments, Memory}
+use Rattle.ang_engine_modules.specs.declared.reply.Refusal.TheVariants.{BadName, ModuleExists, Limit, NoModule, NotBuilt, BadBudget, BuildMemory, BuildErrors, InitFailed, NoFunction, NoImport, SignatureDiffers, NotCallable, BadArguments, Memory}
+use Rattle.ang_engine_modules.specs.declared.reply.Outcome.{Outcome}
+use Rattle.ang_kinds.specs.declared.fault.Fault.TheVariants.{Memory as MemoryFault}
 use Rattle.ang_engine_modules.specs.World.{Program, ModuleState, ModuleStates, World, module_named, module_at, placed, all_unbound_from, built_in, running, left_to, globals_ended}
 use Rattle.ang_engine_modules.specs.Commands.{Stepped, answered, refused, after_run, linked, added_module, set_mask, add_section, unbind, discard, on_module, on_both}
 
@@ -254,6 +256,29 @@ step R w c inputs = if may_want_memory c then granted R w c inputs else judged R
 
 -- ---- relations
 
+-- the fault of the refusal that can have cut short a command which was refused so, or ended so
+abbrev pub cut_by_refusal : Refusal → Option Fault
+cut_by_refusal BadName = None
+cut_by_refusal ModuleExists = None
+cut_by_refusal Limit = None
+cut_by_refusal NoModule = None
+cut_by_refusal NotBuilt = None
+cut_by_refusal BadBudget = None
+cut_by_refusal BuildMemory = Some MemoryFault
+cut_by_refusal BuildErrors = None
+cut_by_refusal (InitFailed f) = Some f
+cut_by_refusal NoFunction = None
+cut_by_refusal NoImport = None
+cut_by_refusal SignatureDiffers = None
+cut_by_refusal NotCallable = None
+cut_by_refusal BadArguments = None
+cut_by_refusal Memory = Some MemoryFault
+
+abbrev pub cut_by : Outcome → Option Fault
+cut_by (Done v) = None
+cut_by (Failed f) = Some f
+cut_by (Refused why) = cut_by_refusal why
+
 -- Told these inputs, and whatever further ones it leaves, it gives this reply and leaves this
 -- world. There was memory and room each time, or the last input alone refused it; and drivers
 -- answered just what the reply's events list.
@@ -261,7 +286,7 @@ pub record Leads (go : List Input → Option Stepped) (reply : Reply) (after : W
   pub used : List Input
   pub tells : (rest : List Input)
       → go (used ++ rest) ≡ Some (record { reply = reply; world = after; left = rest })
-  pub told : (has_room used ≡ true) ⊎ IsSome (stopped_by used)
+  pub told : (has_room used ≡ true) ⊎ ((stopped_by used ≡ cut_by reply.outcome) × IsSome (stopped_by used))
   pub answers : answers_told used ≡ answers_listed reply.events
 
 -- The command takes the world from `before` to `after` with this reply, told what it asked for and
