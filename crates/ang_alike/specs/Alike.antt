@@ -1,6 +1,8 @@
 -- That hidden registrations do not matter: what a module's mask hides is not felt (docs/CLAIMS.md,
 -- "What hidden registrations change").
-use Rattle.std.specs.Prelude.{◌≡◌, ◌≤◌, ℕ, Bool, true, List, [], ◌∷◌, length, Some, map as list_map}
+use Rattle.std.specs.Prelude.{◌≡◌, ◌≤◌, ℕ, Bool, true, false, List, [], ◌∷◌, length, Option, Some, None, map as list_map}
+use Rattle.ang_kinds.specs.declared.fault.Fault.{Fault}
+use Rattle.ang_kinds.specs.declared.fault.Fault.TheVariants.{Null, NoObject, DivideByZero, DivideOverflow, Budget, Depth, Host, BadAnswer, Memory, Tally, Unbound}
 use Rattle.ang_host.specs.declared.answer.HostReply.{HostReply}
 use Rattle.ang_view.specs.Registration.{RegistrationList, seen}
 use Rattle.ang_view.specs.Values.{TakesValues}
@@ -10,7 +12,7 @@ use Rattle.ang_engine_modules.specs.declared.command.Command.{Command}
 use Rattle.ang_engine_modules.specs.declared.command.Command.TheVariants.{NewModule, SetMask, AddSection, Build, Bind, Unbind, Call, Discard}
 use Rattle.ang_engine_modules.specs.declared.reply.Reply.{Reply}
 use Rattle.ang_engine_modules.specs.World.{World, no_modules, module_named, module_at}
-use Rattle.ang_engine.specs.Step.{Takes, is_budget}
+use Rattle.ang_engine.specs.Step.{Takes, is_budget, cut_by}
 
 -- ---- commands that were granted all that they asked for
 
@@ -136,3 +138,42 @@ ToldAlikeReplySame =
     → IsRegistered R
     → BothInTurn (TakenAlike R R) no_modules no_modules cs rs ss v w
     → rs ≡ ss
+
+-- ---- commands whose replies tell of no refusal
+
+-- whether a fault tells that memory, or one more reference, was refused
+abbrev pub is_want : Fault → Bool
+is_want Null = false
+is_want NoObject = false
+is_want DivideByZero = false
+is_want DivideOverflow = false
+is_want Budget = false
+is_want Depth = false
+is_want (Host n) = false
+is_want BadAnswer = false
+is_want Memory = true
+is_want Tally = true
+is_want Unbound = false
+
+abbrev pub tells_of_want : Option Fault → Bool
+tells_of_want None = false
+tells_of_want (Some f) = is_want f
+
+-- the reply does not: it is neither refused for want of memory, nor ends with such a fault
+abbrev pub IsUnrefused : Reply → Type 0
+IsUnrefused r = tells_of_want (cut_by r.outcome) ≡ false
+
+-- it takes the world so, and tells of no refusal
+abbrev pub Unrefused : RegistrationList → World → Command → Reply → World → Type 0
+Unrefused R before c reply after = Takes R before c reply after × IsUnrefused reply
+
+-- What a host sees: the same commands over both lists, with the same answers of drivers, have the same
+-- replies but for denials, as long as none of them tells of a refusal.
+abbrev pub UnrefusedReplyAlike : Type 0
+UnrefusedReplyAlike =
+    (R S : RegistrationList) (cs : List Command) (rs ss : List Reply) (v w : World)
+    → IsRegistered R
+    → InTurn (λ u c r t. Unrefused R u c r t × SeesSame R S u c) no_modules cs rs v
+    → InTurn (Unrefused S) no_modules cs ss w
+    → list_map answers_in rs ≡ list_map answers_in ss
+    → list_map undenied rs ≡ list_map undenied ss

@@ -7,7 +7,7 @@ ghost use Rattle.ang_typed.specs.Typed.{Program};
 ghost use Rattle.ang_meaning.specs.Environment.{Environment};
 ghost use Rattle.ang_source.specs.Meaning.{Codes};
 ghost use Rattle.ang_alike.specs.SourcesAlike.{AreSoundSources, AreAlikeInRuns};
-ghost use Rattle.ang_alike.specs.Alike.{HiddenDoesNotMatter, AnswersDecide, ToldAlikeReplyAlike, ToldAlikeReplySame};
+ghost use Rattle.ang_alike.specs.Alike.{HiddenDoesNotMatter, AnswersDecide, ToldAlikeReplyAlike, ToldAlikeReplySame, UnrefusedReplyAlike};
 
 /// Two calls of a function of sound trees, and a module's initializers run twice, in worlds that are
 /// equal up to the numbers of script objects, and told the same but for these, come to the same but for
@@ -37,4 +37,10 @@ pub fn answers_decide()
 pub fn told_alike()
     ensures alike { ToldAlikeReplyAlike }
     ensures same { ToldAlikeReplySame }
+{}
+
+/// The same as a host sees it: of commands none of whose replies tells that memory or one more reference was
+/// refused.
+pub fn unrefused_alike()
+    ensures alike { UnrefusedReplyAlike }
 {}
