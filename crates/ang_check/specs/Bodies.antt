@@ -268,7 +268,7 @@ module _ (V : RegistrationList) (names : Names) (sources : List Source) (p : t.P
   abbrev pub IsBody : ℕ → Typing t.TypedFunction → Type 0
   IsBody k typing = (f : t.TypedFunction) × (typing ≡ Ok f) × (slice_get p.functions k ≡ Some f)
 
-  -- ScriptMethod m of class c is written in some section, and its body k is what was typed there.
+  -- Method m of class c is written in some section, and its body k is what was typed there.
   pub record HasMethodBody (c m k : ℕ) (x : ScriptMethod) : Type 0 where
     pub text : List ℕ
     pub name : Token

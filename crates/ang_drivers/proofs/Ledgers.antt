@@ -12,12 +12,12 @@ use Rattle.std.specs.FinMap.{get-empty, get-insert, get-remove, get-entries, get
 use Rattle.std.specs.FinMap.Entries.{by_order}
 use Rattle.std.proofs.lemmas.Cmp.{nat_cmp_total}
 use Rattle.std.proofs.lemmas.Bool.{eq-eqb, ne_eqb, eqb-true, ltb-true, ltb-false}
-use Rattle.std.proofs.Common.{refl, sym, ◌∙◌, ap, subst, arith}
+use Rattle.std.proofs.Common.{Result, Ok, Err, OnOk, OnErr, refl, sym, ◌∙◌, ap, subst, arith}
 use Rattle.std.proofs.lemmas.List.Sums.{sum_by-cons}
 use Rattle.ang_host.specs.State.{Tally, total, count_of, count_at}
 use Rattle.ang_host.proofs.Steps.{same_test}
 use Rattle.ang_host.proofs.Counts.{total-empty}
-use Rattle.ang_drivers.specs.Objects.{Ledger, by_key, one_more, one_less_if}
+use Rattle.ang_drivers.specs.Objects.{Ledger, by_key, begun, one_more, one_less_if}
 
 -- ---- maps
 
@@ -299,3 +299,49 @@ count-bound m k c made added released g h = omega (arith, h.sums, total-gone m k
 pub same_ledger : {T : Type 0} (a b : map.FinMap nat_cmp ℕ) (n : ℕ) (x y : map.FinMap nat_cmp T) (t : Tally) → a ≡ b → x ≡ y
     → ◌≡◌ {A = Ledger T} (record { counts = a; table = record { next = n; values = x }; tally = t }) (record { counts = b; table = record { next = n; values = y }; tally = t })
 same_ledger a b n x y t p q = λ i. record { counts = p i; table = record { next = n; values = q i }; tally = t }
+
+pub begun_ledger : {T : Type 0} (a : map.FinMap nat_cmp ℕ) (x : map.FinMap nat_cmp T) (n asked : ℕ) → a ≡ map.empty → x ≡ map.empty → n ≡ 0
+    → ◌≡◌ {A = Ledger T} (record { counts = a; table = record { next = n; values = x }; tally = record { asked = asked; made = n; added = 0; released = 0 } }) (begun asked)
+begun_ledger a x n asked p q e = λ i. record { counts = p i; table = record { next = e i; values = q i }; tally = record { asked = asked; made = e i; added = 0; released = 0 } }
+
+pub recounted : (m : map.FinMap nat_cmp ℕ) (a b added released : ℕ) → a ≡ b → AreCounted m b added released → AreCounted m a added released
+recounted m a b added released e h = subst (λ n. AreCounted m n added released) (sym e) h
+
+pub recounted_at : (m n : map.FinMap nat_cmp ℕ) (a b added released : ℕ) → n ≡ m → a ≡ b → AreCounted m b added released → AreCounted n a added released
+recounted_at m n a b added released p e h = recounted n a b added released e (subst (λ x. AreCounted x b added released) (sym p) h)
+
+none_of : (m : map.FinMap nat_cmp ℕ) → ArePositive m → total m ≡ 0 → (q : ℕ) (o : Option ℕ) → map.get m q ≡ o → o ≡ None
+none_of m p z q None e = refl
+none_of m p z q (Some n) e = let lt : 0 < n = p q n e in absurd (omega (arith, lt, z, total-gone m q n e))
+
+-- nothing lives where all references were released
+pub none_live : (m : map.FinMap nat_cmp ℕ) (made added released : ℕ) → AreCounted m made added released → made + added ≡ released → m ≡ map.empty
+none_live m made added released h e =
+    let z : total m ≡ 0 = omega (arith, h.sums, e) in
+    same_map nat_cmp_total nat_cmp-IsAntisymmetric _ _ (λ q. none_of m h.positive z q (map.get m q) refl ∙ sym (get-empty nat_cmp q))
+
+pub all_released : (m : map.FinMap nat_cmp ℕ) (made added released : ℕ) → AreCounted m made added released → m ≡ map.empty → made + added ≡ released
+all_released m made added released h e = omega (arith, h.sums, ap total e, total-empty)
+
+-- ---- after a growth that may be refused
+
+pub on_err : {A E X : Type 0} (r : Result A E) → X → OnErr r X
+on_err (Ok a) h = tt
+on_err (Err e) h = h
+
+pub counted_pushed : {O E : Type 0} (f : O → ℕ) (es gs : List (ℕ × O)) (r : Result ℕ E) (a b added released : ℕ) → OnOk r (a ≡ b + 1) → OnOk r (by_key f gs ≡ map.insert (by_key f es) b 1)
+    → OnErr r (a ≡ b) → OnErr r (gs ≡ es) → AreCounted (by_key f es) b added released → AreCounted (by_key f gs) a added released
+counted_pushed f es gs (Ok k) a b added released next counts kept same h = recounted (by_key f gs) a (b + 1) added released next (counted-new (by_key f es) (by_key f gs) b added released counts h)
+counted_pushed f es gs (Err e) a b added released next counts kept same h = recounted_at (by_key f es) (by_key f gs) a b added released (ap (by_key f) same) kept h
+
+pub few_pushed : {E : Type 0} (r : Result ℕ E) (a b most : ℕ) → OnOk r (a ≡ b + 1) → OnErr r (a ≡ b) → b < most → a ≤ most
+few_pushed (Ok k) a b most next kept lt = omega (arith, next, lt)
+few_pushed (Err e) a b most next kept lt = omega (arith, kept, lt)
+
+-- the same objects and the same next key
+pub ledger_kept : {T O : Type 0} (f : O → ℕ) (v : O → T) (es gs : List (ℕ × O)) (a b asked added released : ℕ) → gs ≡ es → a ≡ b
+    → ◌≡◌ {A = Ledger T}
+    (record { counts = by_key f gs; table = record { next = a; values = by_key v gs }; tally = record { asked = asked; made = a; added = added; released = released } })
+    (record { counts = by_key f es; table = record { next = b; values = by_key v es }; tally = record { asked = asked; made = b; added = added; released = released } })
+ledger_kept f v es gs a b asked added released same e =
+    λ i. record { counts = by_key f (same i); table = record { next = e i; values = by_key v (same i) }; tally = record { asked = asked; made = e i; added = added; released = released } }

@@ -1,6 +1,7 @@
 pub mod Codes
 pub mod ConsoleLaws
 pub mod Ledgers
+pub mod Paging
 pub mod Moving
 pub mod Counting
 pub mod Celling

@@ -2,6 +2,8 @@ pub mod Plain
 pub mod Console
 pub mod ConsoleState
 pub mod Objects
+pub mod Pages
+pub mod PagesHeld
 pub mod ObjectsLedger
 pub mod Tables
 pub mod Counter

@@ -14,6 +14,7 @@ pub mod laws;
 mod limited;
 mod numbers;
 mod objects;
+mod pages;
 mod pairs;
 mod values;
 

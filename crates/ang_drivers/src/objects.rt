@@ -1,39 +1,42 @@
 //! Objects that a driver keeps for scripts, each under a key, with the references that are held to it.
-ghost use Rattle.std.specs.Prelude.{ℕ, ◌+◌, ◌≡◌, ◌<◌, ◌≤◌, ◌^◌, ◌↔◌, nat_lt, Some, IsSome, IsTrue, IfOk, OnErr};
-ghost use Rattle.std.specs.Ordering.{nat_cmp};
+ghost use Rattle.std.specs.Prelude.{ℕ, ◌+◌, ◌≡◌, ◌<◌, ◌≤◌, ◌^◌, ◌↔◌, Some, IsTrue, IfOk, OnErr};
 ghost use Rattle.std.specs.FinMap as map;
-ghost use Rattle.std.specs.BTreeMap.{get};
 ghost use Rattle.ang_host.specs.State.{total, count_at};
-ghost use Rattle.ang_drivers.specs.Objects.{by_key, begun, fresh, one_more, one_less_if, IsHeld, IsRevalued, Asks, Inserts, MakesOne, AddsOne, ReleasesOne};
+ghost use Rattle.ang_drivers.specs.Objects.{by_key, begun, fresh, IsHeld, IsRevalued, Asks, Inserts, MakesOne, AddsOne, ReleasesOne};
+ghost use Rattle.ang_drivers.specs.PagesHeld.{entries_of};
 
+use crate::pages::{Counted, Pages};
 use crate::values::LIMIT;
 use ang_host::Made;
 use std::alloc::{AllocError, Global};
-use std::collections::BTreeMap;
-use std::mem;
-
-/// An object: the references that are held to it, at least 1, and its value.
-#[derive(Drop)]
-struct Counted<T> {
-    count: u64,
-    value: T,
-}
 
 /// The live objects by key, and the tallies of a driver that keeps them.
 ///
 /// Keys rise from 0 and are not used again: the next key is the number of objects made so far. Each
-/// object that is made takes a host call, so `made` never runs out before `asked`.
+/// object that is made takes a host call, so keys never run out before `asked`.
+///
+/// Objects lie in pages, each for 64 keys that follow one another, so that a look-up takes as long among
+/// many objects as among few. The last release of an object moves those behind it in its page, 63 at
+/// most.
+///
+/// An object is 16 bytes and its value. A page of which not all keys are used has room for at most 64
+/// objects. Once all are, it has room for fewer than four times those that live, and none where none
+/// lives; if no smaller place can be had, it keeps the larger one. So where one object of each page
+/// lives, it takes the room of three at most, and 48 bytes for its page.
+///
+/// The list of the pages is never made smaller. It takes 24 bytes a page, and has room for twice as many
+/// at most: for each object that was ever made less than a byte stays until the whole is dropped.
 #[derive(Drop)]
 pub struct Objects<T> {
-    live: BTreeMap<u64, Counted<T>>,
+    live: Pages<T>,
+    alloc: Global,
     asked: u64,
-    made: u64,
     added: u64,
     released: u64,
-    ghost sums: { made + added ≡ released + total (by_key (λ c. c.count) live.entries) },
-    ghost positive: { (k n : ℕ) → map.get (by_key (λ c. c.count) live.entries) k ≡ Some n → 0 < n },
-    ghost unused: { (k : ℕ) → made ≤ k → count_at (by_key (λ c. c.count) live.entries) k ≡ 0 },
-    ghost makings: { made ≤ asked },
+    ghost sums: { live.next + added ≡ released + total (by_key (λ c. c.count) (entries_of live)) },
+    ghost positive: { (k n : ℕ) → map.get (by_key (λ c. c.count) (entries_of live)) k ≡ Some n → 0 < n },
+    ghost unused: { (k : ℕ) → live.next ≤ k → count_at (by_key (λ c. c.count) (entries_of live)) k ≡ 0 },
+    ghost makings: { live.next ≤ asked },
     ghost few_asked: { asked < 2 ^ 63 },
     ghost few_added: { added < 2 ^ 63 },
 }
@@ -54,9 +57,9 @@ impl<T: Drop> Objects<T> {
         ensures begun { ledger result ≡ begun asked }
     {
         Objects {
-            live: BTreeMap::new(alloc),
+            live: Pages::new(alloc),
+            alloc,
             asked,
-            made: 0,
             added: 0,
             released: 0,
         }
@@ -66,7 +69,8 @@ impl<T: Drop> Objects<T> {
     pub fn is_empty(&self) -> bool
         ensures exact { IsTrue result ↔ ((ledger self.now).counts ≡ map.empty) }
     {
-        self.live.is_empty()
+        // As many references were released as were made and added.
+        self.live.next() + self.added == self.released
     }
 
     /// How many host calls are counted.
@@ -114,9 +118,7 @@ impl<T: Drop> Objects<T> {
             (λ key. Inserts (ledger self.old) value key (ledger self.new)) }
         ensures unchanged { OnErr result (ledger self.new ≡ ledger self.old) }
     {
-        let key = self.made;
-        self.live.insert(key, Counted { count: 1, value })?;
-        self.made += 1;
+        let key = self.live.push(self.alloc, Counted { count: 1, value })?;
         Ok(key)
     }
 
@@ -125,7 +127,7 @@ impl<T: Drop> Objects<T> {
         requires held { IsHeld (ledger self.old) key }
         ensures revalued { IsRevalued (ledger self.old) key value (ledger self.new) }
     {
-        revalue(&mut self.live, key, value);
+        self.live.exchange(key, value);
     }
 
     /// Gives a live object another value, and answers the one that it had.
@@ -134,7 +136,7 @@ impl<T: Drop> Objects<T> {
         ensures exact { map.get (ledger self.old).table.values key ≡ Some result }
         ensures revalued { IsRevalued (ledger self.old) key value (ledger self.new) }
     {
-        exchange(&mut self.live, key, value)
+        self.live.exchange(key, value)
     }
 
     /// Adds a reference to a live object. False, with nothing done, where 2^63 - 1 were added.
@@ -145,7 +147,7 @@ impl<T: Drop> Objects<T> {
         if self.added == LIMIT {
             return false;
         }
-        count_up(&mut self.live, key);
+        self.live.count_up(key);
         self.added += 1;
         true
     }
@@ -157,10 +159,10 @@ impl<T: Drop> Objects<T> {
         ensures released { ReleasesOne (ledger self.old) key result (ledger self.new) }
     {
         self.released += 1;
-        if count_down(&mut self.live, key) {
+        if self.live.count_down(key) {
             return false;
         }
-        take_out(&mut self.live, key);
+        self.live.take_out(key);
         true
     }
 }
@@ -173,95 +175,6 @@ impl<T: Copy> Objects<T> {
         requires held { IsHeld (ledger self.now) key }
         ensures exact { map.get (ledger self.now).table.values key ≡ Some result }
     {
-        object_at(&self.live, key).value
+        self.live.get(key).value
     }
-}
-
-// The object of a live key. A look-up takes time as the logarithm of the number of objects.
-fn object_at<T>(live: &BTreeMap<u64, Counted<T>>, key: u64) -> &Counted<T>
-    requires held { IsSome (get nat_cmp live.now key) }
-    ensures exact { get nat_cmp live.now key ≡ Some result.now }
-{
-    match live.get(&key) {
-        Some(object) => object,
-        None => unreachable!(),
-    }
-}
-
-// Gives the object of a live key another value, with one look-up.
-fn revalue<T: Drop>(live: &mut BTreeMap<u64, Counted<T>>, key: u64, value: T)
-    requires held { IsSome (get nat_cmp live.old key) }
-    ensures counts { by_key (λ c. c.count) live.new.entries
-        ≡ by_key (λ c. c.count) live.old.entries }
-    ensures values { by_key (λ c. c.value) live.new.entries
-        ≡ map.insert (by_key (λ c. c.value) live.old.entries) key value }
-{
-    match live.get_mut(&key) {
-        Some(object) => object.value = value,
-        None => unreachable!(),
-    }
-}
-
-// Gives the object of a live key another value, with one look-up, and answers the one that it had.
-fn exchange<T>(live: &mut BTreeMap<u64, Counted<T>>, key: u64, value: T) -> T
-    requires held { IsSome (get nat_cmp live.old key) }
-    ensures exact { map.get (by_key (λ c. c.value) live.old.entries) key ≡ Some result }
-    ensures counts { by_key (λ c. c.count) live.new.entries
-        ≡ by_key (λ c. c.count) live.old.entries }
-    ensures values { by_key (λ c. c.value) live.new.entries
-        ≡ map.insert (by_key (λ c. c.value) live.old.entries) key value }
-{
-    match live.get_mut(&key) {
-        Some(object) => mem::replace(&mut object.value, value),
-        None => unreachable!(),
-    }
-}
-
-// Adds a reference to the object of a live key, with one look-up.
-fn count_up<T>(live: &mut BTreeMap<u64, Counted<T>>, key: u64)
-    requires held { IsSome (get nat_cmp live.old key) }
-    requires room { count_at (by_key (λ c. c.count) live.old.entries) key + 1 < 2 ^ 64 }
-    ensures counts { by_key (λ c. c.count) live.new.entries
-        ≡ one_more (by_key (λ c. c.count) live.old.entries) key }
-    ensures values { by_key (λ c. c.value) live.new.entries
-        ≡ by_key (λ c. c.value) live.old.entries }
-{
-    match live.get_mut(&key) {
-        Some(object) => object.count += 1,
-        None => unreachable!(),
-    }
-}
-
-// Releases a reference to the object of a live key, with one look-up. False, with nothing done,
-// where it is the last.
-fn count_down<T>(live: &mut BTreeMap<u64, Counted<T>>, key: u64) -> bool
-    requires held { IsSome (get nat_cmp live.old key) }
-    ensures exact { result ≡ nat_lt 1 (count_at (by_key (λ c. c.count) live.old.entries) key) }
-    ensures counts { by_key (λ c. c.count) live.new.entries
-        ≡ one_less_if result (by_key (λ c. c.count) live.old.entries) key }
-    ensures values { by_key (λ c. c.value) live.new.entries
-        ≡ by_key (λ c. c.value) live.old.entries }
-{
-    match live.get_mut(&key) {
-        Some(object) => {
-            if object.count > 1 {
-                object.count -= 1;
-                return true;
-            }
-            false
-        }
-        None => unreachable!(),
-    }
-}
-
-// Takes the object of a key out. It stands apart, so that what releases another reference than the last
-// stays small.
-#[inline(never)]
-fn take_out<T: Drop>(live: &mut BTreeMap<u64, Counted<T>>, key: u64)
-    ensures counts { by_key (λ c. c.count) live.new.entries
-        ≡ map.remove (by_key (λ c. c.count) live.old.entries) key }
-    ensures values { by_key (λ c. c.value) live.new.entries
-        ≡ map.remove (by_key (λ c. c.value) live.old.entries) key }
-{
-    live.remove(&key);
 }

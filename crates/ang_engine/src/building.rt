@@ -35,7 +35,7 @@ use ang_host::{Driver, EventBuffer};
 use ang_kinds::{Denial, Error, Fault, List, Mask};
 use ang_meaning::{Routine, Slot};
 use ang_registry::Registry;
-use ang_typed::Heading;
+use ang_typed::{Heading, Typed};
 use ang_view::View;
 use ang_vm::Machine;
 use std::alloc::{AllocError, Global};
@@ -85,6 +85,46 @@ fn unbound_links(alloc: Global, imports: &[Heading]) -> Result<Vec<Option<Routin
     imports.iter().map(|_| None).collect(alloc)
 }
 
+/// What a built module has beside its program and its view.
+#[derive(Drop)]
+struct Beside {
+    name: List<u8>,
+    tree: KeptTree,
+    links: List<Option<Routine>>,
+}
+
+/// What stands beside a program of this tree, under this name.
+fn make_beside(alloc: Global, name: &[u8], tree: &Typed) -> Result<Beside, AllocError>
+    ensures name { IfOk result (λ b. b.name ≡ name.now) }
+    ensures tree { IfOk result (λ b. b.tree ≡ tree.now) }
+    ensures links { IfOk result (λ b. b.links ≡ list_map (λ h. None) tree.now.imports) }
+{
+    let name = List::from_vec(Vec::from_slice(alloc, name)?);
+    let links = List::from_vec(unbound_links(alloc, tree.imports.as_slice())?);
+    let tree = KeptTree::of(alloc, tree)?;
+    Ok(Beside { name, tree, links })
+}
+
+/// A program with its view and what stands beside it.
+fn assembled(view: View, program: Program, parts: Beside) -> WholeModule
+    requires tree { parts.tree ≡ program.tree }
+    requires links { parts.links ≡ list_map (λ h. None) program.tree.imports }
+    ensures name { result.name ≡ parts.name }
+    ensures view { result.view ≡ view }
+    ensures program { resolved_in result ≡ resolved_of program }
+    ensures unbound { result.links ≡ list_map (λ h. None) result.tree.imports }
+{
+    let Program { names, tree } = program;
+    let loaded = LoadedModule {
+        name: parts.name,
+        names,
+        view,
+        tree: parts.tree,
+        links: parts.links,
+    };
+    WholeModule::new(loaded, tree)
+}
+
 /// A program with its name and its view.
 fn with_view(
     alloc: Global,
@@ -97,17 +137,14 @@ fn with_view(
     ensures program { IfOk result (λ l. resolved_in l ≡ resolved_of program) }
     ensures unbound { IfOk result (λ l. l.links ≡ list_map (λ h. None) l.tree.imports) }
 {
-    let name = List::from_vec(Vec::from_slice(alloc, name)?);
-    let Program { names, tree } = program;
-    let links = List::from_vec(unbound_links(alloc, tree.imports.as_slice())?);
-    let loaded = LoadedModule {
-        name,
-        names,
-        view,
-        tree: KeptTree::of(alloc, &tree)?,
-        links,
-    };
-    Ok(WholeModule::new(loaded, tree))
+    match make_beside(alloc, name, &program.tree) {
+        Ok(parts) => Ok(assembled(view, program, parts)),
+        Err(error) => {
+            drop(program);
+            drop(view);
+            Err(error)
+        }
+    }
 }
 
 /// What the sections build to over what the mask sees.
@@ -132,7 +169,10 @@ fn compile(
     };
     let program = match build_sections(alloc, registry, mask, &view, sections) {
         Ok(program) => program,
-        Err(why) => return Err(why),
+        Err(why) => {
+            drop(view);
+            return Err(why);
+        }
     };
     match with_view(alloc, name, view, program) {
         Ok(loaded) => Ok(loaded),

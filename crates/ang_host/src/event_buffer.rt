@@ -100,6 +100,7 @@ impl EventBuffer {
     /// # Errors
     /// There is no memory. The events stay.
     #[tactic(auto, unfolding(crate::specs::Logs::listed_in, crate::specs::Logs::is_heard, crate::specs::Logs::log_capacity))]
+    #[inline(always)]
     pub fn reserve(&mut self, more: usize) -> Result<(), AllocError>
         ensures events { listed_in self.new ≡ listed_in self.old }
         ensures len { log_len self.new ≡ log_len self.old }
@@ -122,6 +123,7 @@ impl EventBuffer {
     /// # Errors
     /// There is no memory, or `count` is 2^32 or more. The events stay, and so does what room there is by then.
     #[tactic(auto, unfolding(crate::specs::Logs::listed_in, crate::specs::Logs::is_heard, crate::specs::Logs::log_capacity, crate::specs::Logs::HasRoomForCall))]
+    #[inline(always)]
     pub fn reserve_call(
         &mut self,
         more: usize,
@@ -144,6 +146,7 @@ impl EventBuffer {
 
     /// Lists a host call, for which there is room.
     #[tactic(auto, using(crate::proofs::Listing::ends_listed_join), unfolding(crate::specs::Logs::listed_in, crate::specs::Logs::is_heard, crate::specs::Logs::log_capacity, crate::specs::Logs::HasRoomForCall))]
+    #[inline(always)]
     pub(crate) fn push_call(
         &mut self,
         caller: &[u8],

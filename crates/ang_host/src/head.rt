@@ -64,6 +64,7 @@ const _: () = prove!(size_of::<Head>() == 40);
 const _: () = prove!(size_of::<Head>() + 2 * size_of::<Value>() == 88);
 
 /// A reply as it is kept.
+#[inline(always)]
 pub fn reply_parts(reply: HostReply) -> (ReplyKind, u64)
     ensures exact { reply_in result.0 result.1 ≡ reply }
 {
@@ -73,6 +74,7 @@ pub fn reply_parts(reply: HostReply) -> (ReplyKind, u64)
     }
 }
 
+#[inline(always)]
 fn made_parts(made: Made) -> (ReplyKind, u64)
     ensures exact { reply_in result.0 result.1 ≡ Making made }
 {
@@ -85,6 +87,7 @@ fn made_parts(made: Made) -> (ReplyKind, u64)
     }
 }
 
+#[inline(always)]
 fn answer_parts(answer: Answer) -> (ReplyKind, u64)
     ensures exact { reply_in result.0 result.1 ≡ Asking answer }
 {
@@ -97,6 +100,7 @@ fn answer_parts(answer: Answer) -> (ReplyKind, u64)
     }
 }
 
+#[inline(always)]
 fn value_parts(value: Value) -> (ReplyKind, u64)
     ensures exact { reply_in result.0 result.1 ≡ Asking (Gave value) }
 {
@@ -141,6 +145,7 @@ fn low_half(number: u64) -> u32
 
 impl Head {
     /// The head of a host call, which says nothing of its caller's name and its arguments.
+    #[inline(always)]
     pub fn of_call(entity: EntityNo, driver: u8, object: Option<u64>, reply: HostReply) -> Head
         ensures call { is_end result.kind ≡ false }
         ensures exact { (caller : List ℕ) (args : List Value)

@@ -65,6 +65,7 @@ impl KeptEvents {
     ///
     /// # Errors
     /// There is no memory. The events stay.
+    #[inline(always)]
     pub fn reserve(&mut self, more: usize) -> Result<(), AllocError>
         ensures events { self.new.events ≡ self.old.events }
         ensures capacity { self.old.capacity ≤ self.new.capacity }
@@ -77,6 +78,7 @@ impl KeptEvents {
     ///
     /// # Errors
     /// There is no memory, or there are 2^32 names or arguments. The events stay.
+    #[inline(always)]
     pub fn reserve_call(&mut self, caller: &[u8], count: usize) -> Result<(), AllocError>
         ensures events { self.new.events ≡ self.old.events }
         ensures capacity { self.new.capacity ≡ self.old.capacity }
@@ -90,7 +92,7 @@ impl KeptEvents {
     }
 
     /// Takes room for a caller's name.
-    #[tactic(auto, using(crate::proofs::Listing::name_added, crate::proofs::Listing::within_names))]
+    #[inline(always)]
     fn reserve_name(&mut self, name: &[u8]) -> Result<(), AllocError>
         ensures events { self.new.events ≡ self.old.events }
         ensures capacity { self.new.capacity ≡ self.old.capacity }
@@ -99,6 +101,17 @@ impl KeptEvents {
         if is_named(&self.names, self.caller as usize, name) {
             return Ok(());
         }
+        self.find_name(name)
+    }
+
+    /// Takes room for the name of a caller that need not be the last one.
+    #[tactic(auto, using(crate::proofs::Listing::name_added, crate::proofs::Listing::within_names))]
+    #[inline(never)]
+    fn find_name(&mut self, name: &[u8]) -> Result<(), AllocError>
+        ensures events { self.new.events ≡ self.old.events }
+        ensures capacity { self.new.capacity ≡ self.old.capacity }
+        ensures name { OnOk result (self.new.name ≡ Some name.now) }
+    {
         let found = number_of(&self.names, name);
         let number = match found {
             Some(number) => number,
@@ -113,6 +126,7 @@ impl KeptEvents {
 
     /// Adds a host call, for which there is room, and tells how many events there are.
     #[tactic(auto, using(crate::proofs::Listing::call_added))]
+    #[inline(always)]
     pub fn push_call(&mut self, caller: &[u8], head: Head, args: &[Value]) -> usize
         requires call { is_end head.kind ≡ false }
         requires room { length self.old.events < self.old.capacity }

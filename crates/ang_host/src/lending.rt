@@ -31,11 +31,12 @@ pub fn event_lent<'a>(head: &Head, names: &'a [List<u8>], values: &'a [Value]) -
 }
 
 /// Adds the arguments of a call, for which there is room.
+#[inline(always)]
 pub fn append_reserved(values: &mut Vec<Value>, args: &[Value])
     requires room { vec_len values.old + length args.now ≤ vec_capacity values.old }
     ensures items { values.new.items ≡ values.old.items ++ args.now }
 {
-    if values.extend_from_slice(args).is_err() {
-        unreachable!();
+    for value in args.iter() {
+        values.push_reserved(*value);
     }
 }

@@ -57,6 +57,7 @@ pub fn make_listed(
 
 /// Calls the driver's function `f`, which is registered as the function or method `entity`, and lists the
 /// event, whatever the answer. The caller has reserved room for the event.
+#[inline(always)]
 pub fn call_listed(
     drivers: &mut Drivers,
     events: &mut EventBuffer,

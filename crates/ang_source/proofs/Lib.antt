@@ -1,2 +1,1 @@
-pub mod Typed
 pub mod Worked

@@ -6,6 +6,8 @@ pub mod Weighing
 pub mod BorrowedOperands
 pub mod OperandPaths
 pub mod OperandLists
+pub mod HandedOperands
+pub mod CallPaths
 pub mod Counting
 pub mod Going
 pub mod Calling

@@ -1,4 +1,5 @@
 pub mod Operands
+pub mod Shapes
 pub mod Crossings
 pub mod BodyRunning
 pub mod Legs

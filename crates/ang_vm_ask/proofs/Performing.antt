@@ -3,6 +3,7 @@ use Rattle.std.proofs.Common.{◌≡◌, ℕ, ◌≤◌, List, [], ◌∷◌, Bo
 use Rattle.std.specs.Prelude.{Result, Ok, Err}
 use Rattle.std.proofs.lemmas.List.{reverse-reverse}
 use Rattle.ang_kinds.specs.declared.mask.EntityNo.{EntityNo}
+use Rattle.ang_kinds.specs.declared.value.Value.{Value}
 use Rattle.ang_kinds.specs.declared.fault.Fault.{Fault}
 use Rattle.ang_kinds.specs.declared.fault.Fault.TheVariants.{Null}
 use Rattle.ang_host.specs.declared.event.Role.{Role}
@@ -183,13 +184,20 @@ module _ (caller : List ℕ) (e : EntityNo) (u : HostUse) (ops : List Slot) (w w
   AskedSo object args r = (z : Environment) (m : ℕ) → Sees z m caller e u
       → Told (λ is. asked z m e object (values_of u.driver u.params args) u.result (with_inputs is w)) (λ is. done r (with_inputs is w'))
 
+  -- a call with these values, for one module
+  pub ask_with : (z : Environment) (m : ℕ) → Sees z m caller e u → (object : Option ℕ) (args : List Value) (r : Result Slot Fault) → object_in (receiver_of u ops) ≡ Ok object
+      → values_of u.driver u.params (arguments_of u ops) ≡ args → Told (λ is. asked z m e object args u.result (with_inputs is w)) (λ is. done r (with_inputs is w'))
+      → Told (λ is. asks z m (Ask e) (reverse ops) (with_inputs is w)) (λ is. done r (with_inputs is w'))
+  ask_with z m sees object args r is same t =
+      told_then
+      (told_same (λ ins. ask_is z m caller e u sees ops (with_inputs ins w) ∙ called_as z m caller e u sees (receiver_of u ops) object (arguments_of u ops) (with_inputs ins w) is
+      ∙ ap (λ vs. asked z m e object vs u.result (with_inputs ins w)) same))
+      t
+
   pub ask_performed : (object : Option ℕ) (args : List Slot) (r : Result Slot Fault) → object_in (receiver_of u ops) ≡ Ok object → args ≡ arguments_of u ops → AskedSo object args r
       → Performed caller e u (Ask e) ops w r w'
   ask_performed object args r is same t = record {
-    told = λ z m sees fit count. told_then
-        (told_same (λ ins. ask_is z m caller e u sees ops (with_inputs ins w) ∙ ap (λ l. called_of z m e (receiver_of u ops) l (with_inputs ins w)) (sym same)
-        ∙ called_as z m caller e u sees (receiver_of u ops) object args (with_inputs ins w) is))
-        (t z m sees);
+    told = λ z m sees fit count. ask_with z m sees object (values_of u.driver u.params args) r is (ap (values_of u.driver u.params) (sym same)) (t z m sees);
   }
 
   pub make_performed : (f : ℕ) (object : Option ℕ) (args : List Slot) (r : Result Slot Fault) → u.role ≡ MakingRole f → object_in (receiver_of u ops) ≡ Ok object → args ≡ arguments_of u ops

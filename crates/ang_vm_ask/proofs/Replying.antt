@@ -1,6 +1,10 @@
 -- What a driver's answer comes to in the meaning.
-use Rattle.std.proofs.Common.{◌≡◌, ℕ, ◌<◌, List, Bool, true, false, cond, Option, Some, None, refl, sym, ap, subst, ◌∙◌}
+use Rattle.std.proofs.Common.{◌≡◌, ℕ, ◌<◌, ◌-◌, ◌^◌, ℤ, pos, negsuc, arith, w64, List, Bool, true, false, cond, Option, Some, None, refl, sym, ap, subst, ◌∙◌}
 use Rattle.std.specs.Prelude.{IfSome, Result, Ok, Err}
+use Rattle.std.specs.Int.{cast_unsigned}
+use Rattle.std.proofs.lemmas.Bool.{lt-ltb, le-leb}
+use Rattle.std.proofs.lemmas.Int.{int_wrap_fits}
+use mir.Val.{SFits}
 use Rattle.ang_kinds.specs.declared.value.Value.{Value}
 use Rattle.ang_kinds.specs.declared.value.Value.TheVariants.{Int, Uint, Bool as Truth, Key}
 use Rattle.ang_kinds.specs.declared.primitive.Primitive.TheVariants.{I8, I16, I32, I64, U8, U16, U32, U64, Bool as TruthType}
@@ -16,8 +20,9 @@ use Rattle.ang_meaning.specs.declared.slot.Slot.{Slot}
 use Rattle.ang_meaning.specs.declared.slot.Slot.TheVariants.{Bits}
 use Rattle.ang_meaning.specs.declared.host.HostValueType.{HostValueType}
 use Rattle.ang_meaning.specs.declared.host.HostValueType.TheVariants.{Nothing, Plain, Handle}
+use Rattle.ang_meaning.specs.Numbers.{bits_of}
 use Rattle.ang_meaning.specs.World.{World, Tried, or_else, hold, if_told, with_inputs}
-use Rattle.ang_meaning.specs.Hosts.{Done, Fine, Fails, if_within, slot_of, accepted, is_void, replied_by}
+use Rattle.ang_meaning.specs.Hosts.{Done, Fine, Fails, is_within, if_within, slot_of, accepted, is_void, replied_by}
 use Rattle.ang_meaning.specs.Told.{Told}
 use Rattle.ang_meaning.specs.Counting.{HasKey, counts_by}
 use Rattle.ang_meaning.proofs.Telling.{told_same, told_then, told_map}
@@ -74,6 +79,17 @@ module _ (ss : List State) (d : ℕ) (sound : IsSound (state_at ss d)) where
   slot_there Handle (Truth b) h = tt
   slot_there Handle (Key None) h = tt
   slot_there Handle (Key (Some k)) h = subst (λ n. 0 < n) (sym (ap count_of h.1)) (sound.positive k h.0 h.1)
+
+-- ---- a number of the type of all of them
+
+within_long : (z : ℤ) → SFits w64 z → is_within I64 z ≡ true
+within_long (pos n) f = let small = f.sfits in lt-ltb n (2 ^ 63) (omega (arith, small))
+within_long (negsuc n) f = let small = f.sfits in le-leb n (2 ^ 63 - 1) (omega (arith, small))
+
+pub long_slot : (d : ℕ) (z : ℤ) (n : ℕ) → SFits w64 z → n ≡ cast_unsigned w64 z → slot_of d (Plain I64) (Int z) ≡ Some (Bits n)
+unfolding slot_of
+long_slot d z n f e =
+    ap (λ b. if_within b (bits_of I64 z)) (within_long z f) ∙ ap (λ k. Some (Bits k)) (ap (cast_unsigned w64) (int_wrap_fits w64 z f) ∙ sym e)
 
 -- ---- an answer that names nothing
 

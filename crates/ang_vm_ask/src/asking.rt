@@ -21,10 +21,58 @@ use crate::replies::take_answer;
 use crate::rooms::{room_for_call, room_for_ends};
 use ang_heap::Store;
 use ang_host::{Driver, Made, call_listed, make_listed, read_listed, write_listed};
-use ang_kinds::{EntityNo, Fault};
+use ang_kinds::{EntityNo, Fault, Value};
 use ang_meaning::{HostUse, HostValueType, Slot};
 use ang_vm_numbers::value_from;
 use std::alloc::Global;
+
+/// Calls the function or method of that number of its driver, with the values that it is handed. The event is
+/// listed, whatever the answer. The number is that of the entry's role, and each object that is named lives.
+///
+/// # Errors
+/// `Memory` where there is none for the event, or it would be beyond the store's limit, and then the driver is not
+/// asked; the driver's own faults and its want of memory; `BadAnswer` where the answer is not of the declared type or
+/// not in its range, and `Tally` where a tally of the driver has run out (docs/HOST.md, "Drivers").
+#[inline(always)]
+pub fn call_with(
+    store: &mut Store,
+    caller: &[u8],
+    entity: EntityNo,
+    host: &HostUse,
+    number: u32,
+    object: Option<u64>,
+    args: &[Value],
+) -> Result<Slot, Fault>
+    requires role { host.now.role ≡ CallingRole number }
+    requires in_list { host.now.driver < length (members store.old.drivers) }
+    requires ready { IsReady ⟦<dyn Driver as Driver>⟧ store.old }
+    requires object_live { IsLiveOption
+        (driver_state ⟦<dyn Driver as Driver>⟧ store.old host.now.driver) object }
+    requires args_live { AreLive (driver_state ⟦<dyn Driver as Driver>⟧ store.old host.now.driver)
+        args.now }
+    ensures told { (z : Environment) (m : ℕ) → Sees z m caller.now entity host.now
+        → StoreTold ⟦<dyn Driver as Driver>⟧
+        (asked z m entity object args.now host.now.result) store.old (done result) store.new }
+    ensures enough { (vs : List Slot) → CanGive vs (world_of ⟦<dyn Driver as Driver>⟧ store.old)
+        → CanGive (with_result result vs) (world_of ⟦<dyn Driver as Driver>⟧ store.new) }
+    ensures asked { StoreAsked ⟦<dyn Driver as Driver>⟧ entity host.now.role store.old store.new }
+{
+    let most = store.limits.events;
+    let Ok(()) = room_for_call(&mut store.events, most, store.live, caller, args.len()) else {
+        return Err(Fault::Memory);
+    };
+    let answer = call_listed(
+        &mut store.drivers,
+        &mut store.events,
+        caller,
+        entity,
+        host.driver,
+        number,
+        object,
+        args,
+    );
+    take_answer(store, host.driver, host.result, answer)
+}
 
 /// Calls the function or method of that number of its driver. The event is listed, whatever the answer.
 pub(crate) fn call(
@@ -55,22 +103,15 @@ pub(crate) fn call(
     let Ok(values) = arguments_for(alloc, host, args) else {
         return Err(Fault::Memory);
     };
-    let args = values.as_slice();
-    let most = store.limits.events;
-    let Ok(()) = room_for_call(&mut store.events, most, store.live, caller, args.len()) else {
-        return Err(Fault::Memory);
-    };
-    let answer = call_listed(
-        &mut store.drivers,
-        &mut store.events,
+    call_with(
+        store,
         caller,
         entity,
-        host.driver,
+        host,
         number,
         object,
-        args,
-    );
-    take_answer(store, host.driver, host.result, answer)
+        values.as_slice(),
+    )
 }
 
 /// Reads the property of that number of its driver. The event is listed, whatever the answer.

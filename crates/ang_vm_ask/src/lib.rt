@@ -7,7 +7,7 @@
 #![tactic(auto)]
 
 mod arguments;
-mod asking;
+pub mod asking;
 pub mod fields;
 mod fitting;
 pub mod globals;
@@ -18,4 +18,4 @@ mod replies;
 mod rooms;
 
 pub use fitting::{entry_of, given_count, operands, operands_of};
-pub use operation::{ask, ask_entry};
+pub use operation::{ask, ask_entry, call_entry};

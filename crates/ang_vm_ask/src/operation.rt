@@ -1,17 +1,17 @@
 //! One operation of a script on the host.
-ghost use Rattle.std.specs.Prelude.{◌≡◌, ℕ, ◌<◌, ◌≤◌, ◌∷◌, true, List, [], Some, Ok, length};
+ghost use Rattle.std.specs.Prelude.{◌≡◌, ℕ, ◌<◌, ◌≤◌, ◌∷◌, true, List, [], Some, Ok, length, reverse};
 ghost use Rattle.ang_kinds.specs.declared.mask.EntityNo.{EntityNo};
 ghost use Rattle.ang_host.specs.declared.event.Role.{Role};
-ghost use Rattle.ang_host.specs.declared.event.Role.TheVariants.{Property as PropertyRole};
+ghost use Rattle.ang_host.specs.declared.event.Role.TheVariants.{Calling as CallingRole, Property as PropertyRole};
 ghost use Rattle.ang_host.specs.Boxes.{members};
-ghost use Rattle.ang_host.specs.Laws.{IsLiveOption, IsLiveValue};
+ghost use Rattle.ang_host.specs.Laws.{IsLiveOption, IsLiveValue, AreLive};
 ghost use Rattle.ang_code.specs.Machine.{take_some};
 ghost use Rattle.ang_meaning.specs.declared.operation.Operation.TheVariants.{Ask, Read, Write, Alter};
 ghost use Rattle.ang_meaning.specs.declared.host.HostValueType.TheVariants.{Nothing};
 ghost use Rattle.ang_meaning.specs.Counting.{CanGive, CanGiveEach};
-ghost use Rattle.ang_meaning.specs.Hosts.{value_of, asked};
+ghost use Rattle.ang_meaning.specs.Hosts.{value_of, values_of, asked};
 ghost use Rattle.ang_meaning.specs.Numbers.{Changed};
-ghost use Rattle.ang_meaning.specs.Perform.{Receiver, in_place_of, altered_to, operands as operand_count};
+ghost use Rattle.ang_meaning.specs.Perform.{Receiver, receiver_of, arguments_of as arguments_in, in_place_of, altered_to, operands as operand_count};
 ghost use Rattle.ang_meaning.specs.Environment.{Environment, is_fit};
 ghost use Rattle.ang_heap.specs.Stores.{world_of, IsReady, StoreTold};
 ghost use Rattle.ang_vm_numbers.specs.Answers.{altered_of};
@@ -23,12 +23,12 @@ ghost use Rattle.ang_vm_ask.specs.Askings.{Sees, Performed, StoreAsked, StillGiv
 ghost use Rattle.ang_vm_ask.specs.Entities.{DriversThere, AsksEntry};
 ghost use Rattle.ang_vm_ask.specs.Handing.{object_in};
 
-use crate::asking::{call, make, read, write};
+use crate::asking::{call, call_with, make, read, write};
 use crate::fitting::entry_of;
 use crate::handing::{arguments_of, behind_first, first_of, object_of, operands_at};
 use ang_heap::{Store, give};
 use ang_host::{Driver, Role};
-use ang_kinds::{EntityNo, Fault};
+use ang_kinds::{EntityNo, Fault, Value};
 use ang_meaning::{HostUse, Operation, Slot, Update};
 use ang_vm_numbers::{Updated, change_slot};
 use ang_vm_stack::table::{Table, name_at};
@@ -389,4 +389,42 @@ pub fn ask_entry(
     let caller = name_at(table, home);
     let operands = operands_at(stack, top, count);
     perform(alloc, store, caller, host, operation, operands)
+}
+
+/// Calls a function or method for a module, of an object or of none, with the values that its driver is handed, and
+/// answers its value. The operands from which they come needn't stand on a stack, and are all still there then.
+///
+/// What is listed, and when the driver isn't asked, is as `ask` says, and so are the errors but `NoObject`.
+#[inline(always)]
+pub fn call_entry(
+    table: &Table,
+    home: u32,
+    host: &HostUse,
+    number: u32,
+    object: Option<u64>,
+    args: &[Value],
+    store: &mut Store,
+    entity: EntityNo,
+) -> Result<Slot, Fault>
+    requires entry { AsksEntry table.now home (Ask entity) host.now }
+    requires role { host.now.role ≡ CallingRole number }
+    requires drivers { DriversThere table.now (length (members store.old.drivers)) }
+    requires ready { IsReady ⟦<dyn Driver as Driver>⟧ store.old }
+    requires object_live { IsLiveOption
+        (driver_state ⟦<dyn Driver as Driver>⟧ store.old host.now.driver) object }
+    requires args_live { AreLive (driver_state ⟦<dyn Driver as Driver>⟧ store.old host.now.driver)
+        args.now }
+    ensures called { (ops : List Slot) → object_in (receiver_of host.now ops) ≡ Ok object
+        → values_of host.now.driver host.now.params (arguments_in host.now ops) ≡ args.now
+        → (nesting : ℕ) → is_fit (setting_of table.now nesting) home (Ask entity) ≡ true
+        → length ops ≡ operand_count (setting_of table.now nesting) home (Ask entity)
+        → StoreTold ⟦<dyn Driver as Driver>⟧ (asks (setting_of table.now nesting) home (Ask entity)
+        (reverse ops)) store.old (done result) store.new }
+    ensures enough { StillGives ⟦<dyn Driver as Driver>⟧ store.old store.new }
+    ensures ready { IsReady ⟦<dyn Driver as Driver>⟧ store.new }
+    ensures same { length (members store.new.drivers) ≡ length (members store.old.drivers) }
+    ensures moves { HasMovedOver ⟦<dyn Driver as Driver>⟧ table.now store.old store.new }
+{
+    let name = name_at(table, home);
+    call_with(store, name, entity, host, number, object, args)
 }

@@ -240,20 +240,11 @@ fn steps_are_taken_or_left(rt: HostRuntime) {
 }
 
 /// `int64 i = 0; for (; i < 10; i++) {} return i;`
-const COUNTING: &[Instruction] = &[
-    PushBits(0),
-    Tick,
-    Load(0),
-    PushBits(10),
-    Apply(Operation::Compare(LESS, true)),
-    JumpIfFalse(4),
-    PushBits(1),
-    Changed(LATER, 0),
-    Drop,
-    LoopBack(7),
-    Load(0),
-    Return(1),
-];
+const COUNTING: &[Instruction] = list! {
+    PushBits(0), Tick, Load(0), PushBits(10), Apply(Operation::Compare(LESS, true)),
+    JumpIfFalse(4), PushBits(1), Changed(LATER, 0), Drop,
+    LoopBack(7), Load(0), Return(1),
+};
 
 /// Steps of a text by their places.
 type Places = &'static [(usize, Option<Step>)];
@@ -275,20 +266,11 @@ const STEPS: Places = &[
 ];
 
 /// `c.set(n + 1); c.set(3); return n;` where `set` is a method of the host
-const ASKING: &[Instruction] = &[
-    Load(0),
-    Load(2),
-    PushBits(1),
-    Apply(Operation::Binary(ADD, I64)),
-    Apply(Operation::Ask(EntityNo(7))),
-    Drop,
-    Load(0),
-    PushBits(3),
-    Apply(Operation::Ask(EntityNo(7))),
-    Drop,
-    Load(1),
-    Return(2),
-];
+const ASKING: &[Instruction] = list! {
+    Load(0), Load(2), PushBits(1), Apply(Operation::Binary(ADD, I64)),
+    Apply(Operation::Ask(EntityNo(7))), Drop, Load(0), PushBits(3), Apply(Operation::Ask(EntityNo(7))),
+    Drop, Load(1), Return(2),
+};
 
 /// A host call whose operands are pushed one after the other begins where the first of them is loaded.
 const ASKED: Places = &[
@@ -301,18 +283,10 @@ const ASKED: Places = &[
 ];
 
 /// A local and the top value are stored, and a function is entered; a body is left with 0, and with another number.
-const CALLING: &[Instruction] = &[
-    Load(1),
-    Store(2),
-    Drop,
-    Enter(Callee::Own(3)),
-    Store(4),
-    Drop,
-    PushBits(0),
-    Return(5),
-    PushBits(1),
-    Return(6),
-];
+const CALLING: &[Instruction] = list! {
+    Load(1), Store(2), Drop, Enter(Callee::Own(3)), Store(4), Drop,
+    PushBits(0), Return(5), PushBits(1), Return(6),
+};
 
 /// What gives back 0 is one step with the return after it, as that of a function without a value.
 const CALLS: Places = &[
@@ -339,80 +313,27 @@ const COUNTED: Update = Update { old: true, ..PLUS };
 
 /// Two operators that stand together, values that are given up at a loop's end, and such that are given up below the top
 /// one or change places, one after the other; at the end the top one is given up after those below it.
-const PAIRED: &[Instruction] = &[
-    Load(1),
-    Load(1),
-    Apply(Operation::Binary(Operator::Multiply, I64)),
-    PushBits(16),
+const PAIRED: &[Instruction] = list! {
+    Load(1), Load(1), Apply(Operation::Binary(Operator::Multiply, I64)), PushBits(16),
     Apply(Operation::Binary(Operator::ShiftRightArithmetic, I64)),
-    Load(1),
-    Load(1),
-    Apply(Operation::Binary(ADD, I64)),
-    PushBits(9),
-    Apply(Operation::Compare(Comparison::Greater, true)),
-    JumpIfFalse(4),
-    Load(1),
-    Load(1),
-    Apply(Operation::Binary(SUBTRACT, I64)),
-    Load(2),
-    Apply(Operation::Binary(ADD, I64)),
-    Store(0),
-    Drop,
-    Load(1),
-    Load(1),
-    Apply(Operation::Binary(Operator::Multiply, Prim::I32)),
-    Load(2),
-    Apply(Operation::Compare(Comparison::LessEqual, true)),
-    JumpIfFalse(4),
-    Load(1),
-    Load(1),
-    Apply(Operation::Binary(Operator::Remainder, Prim::I32)),
-    PushBits(0),
-    Apply(Operation::Compare(Comparison::Equal, true)),
-    JumpIfFalse(4),
-    Load(1),
-    Load(1),
-    PushBits(255),
-    Apply(Operation::Binary(Operator::BitAnd, Prim::U32)),
+    Load(1), Load(1), Apply(Operation::Binary(ADD, I64)), PushBits(9),
+    Apply(Operation::Compare(Comparison::Greater, true)), JumpIfFalse(4),
+    Load(1), Load(1), Apply(Operation::Binary(SUBTRACT, I64)), Load(2), Apply(Operation::Binary(ADD, I64)),
+    Store(0), Drop, Load(1), Load(1), Apply(Operation::Binary(Operator::Multiply, Prim::I32)), Load(2),
+    Apply(Operation::Compare(Comparison::LessEqual, true)), JumpIfFalse(4),
+    Load(1), Load(1), Apply(Operation::Binary(Operator::Remainder, Prim::I32)), PushBits(0),
+    Apply(Operation::Compare(Comparison::Equal, true)), JumpIfFalse(4),
+    Load(1), Load(1), PushBits(255), Apply(Operation::Binary(Operator::BitAnd, Prim::U32)),
     Apply(Operation::Binary(Operator::BitXor, Prim::U32)),
-    Load(1),
-    PushBits(15),
-    Apply(Operation::Binary(Operator::ShiftRight, Prim::U32)),
-    Changed(DIFFER, 0),
-    Drop,
-    Load(1),
-    Load(1),
-    Apply(Operation::Binary(Operator::BitXor, Prim::I32)),
-    Apply(Operation::Convert(I64)),
-    Changed(LATER, 0),
-    Drop,
-    Leave(2),
-    LoopBack(9),
-    Leave(3),
-    LoopBack(9),
-    Leave(2),
-    Drop,
-    DropUnder(2),
-    DropUnder(3),
-    Instruction::Swap {
-        to: Some(Prim::I32),
-        under: 0,
-        with: 2,
-    },
-    DropUnder(1),
-    Drop,
-    DropUnder(2),
-    Drop,
-    DropUnder(3),
-    Drop,
-    DropUnder(1),
-    Leave(2),
-    PushBits(1),
-    Changed(COUNTED, 1),
-    Drop,
-    LoopBack(9),
+    Load(1), PushBits(15), Apply(Operation::Binary(Operator::ShiftRight, Prim::U32)), Changed(DIFFER, 0),
+    Drop, Load(1), Load(1), Apply(Operation::Binary(Operator::BitXor, Prim::I32)),
+    Apply(Operation::Convert(I64)), Changed(LATER, 0), Drop,
+    Leave(2), LoopBack(9), Leave(3), LoopBack(9), Leave(2),
+    Drop, DropUnder(2), DropUnder(3), Instruction::Swap { to: Some(Prim::I32), under: 0, with: 2 },
+    DropUnder(1), Drop, DropUnder(2), Drop, DropUnder(3), Drop,
+    DropUnder(1), Leave(2), PushBits(1), Changed(COUNTED, 1), Drop, LoopBack(9),
     Instruction::Jump(5),
-];
+};
 
 /// Each of them is one step. Three values and more are given up alone.
 const PAIRS: Places = &[
@@ -442,48 +363,14 @@ const PAIRS: Places = &[
 
 /// Values of `&out` arguments that change places with locals: of one, of two, of one of a rare type, of one at a place
 /// that is none of a local's, and of one of a call whose value is used.
-const OUTS: &[Instruction] = &[
-    Instruction::Swap {
-        to: Some(I64),
-        under: 1,
-        with: 2,
-    },
-    DropUnder(1),
-    Drop,
-    Instruction::Swap {
-        to: None,
-        under: 2,
-        with: 4,
-    },
-    Instruction::Swap {
-        to: Some(Prim::Bool),
-        under: 1,
-        with: 3,
-    },
-    DropUnder(2),
-    Drop,
-    Instruction::Swap {
-        to: Some(Prim::I8),
-        under: 1,
-        with: 2,
-    },
-    DropUnder(1),
-    Drop,
-    Instruction::Swap {
-        to: None,
-        under: 1,
-        with: 1,
-    },
-    DropUnder(1),
-    Drop,
-    Instruction::Swap {
-        to: None,
-        under: 1,
-        with: 2,
-    },
-    DropUnder(1),
-    Load(0),
-];
+const OUTS: &[Instruction] = list! {
+    Instruction::Swap { to: Some(I64), under: 1, with: 2 }, DropUnder(1), Drop,
+    Instruction::Swap { to: None, under: 2, with: 4 },
+    Instruction::Swap { to: Some(Prim::Bool), under: 1, with: 3 }, DropUnder(2), Drop,
+    Instruction::Swap { to: Some(Prim::I8), under: 1, with: 2 }, DropUnder(1), Drop,
+    Instruction::Swap { to: None, under: 1, with: 1 }, DropUnder(1), Drop,
+    Instruction::Swap { to: None, under: 1, with: 2 }, DropUnder(1), Load(0),
+};
 
 /// One of them, or the last of two, is stored by the step that gives up the call's value.
 const OUT_STEPS: Places = &[
@@ -527,26 +414,12 @@ const HASHED: Places = &[
 
 /// A field of an object that a local holds is stored into another one, and is changed. Then it is stored into a field of
 /// the object that it holds itself, and at the end the stored value is kept.
-const OBJECTS: &[Instruction] = &[
-    Load(1),
-    Apply(Operation::FieldGet(2)),
-    Load(3),
-    Apply(Operation::FieldSet(4)),
-    Drop,
-    Load(5),
-    Apply(Operation::FieldChange(LATER, 6)),
-    Drop,
-    Load(1),
-    Apply(Operation::FieldGet(2)),
-    Load(0),
-    Apply(Operation::FieldSet(4)),
-    Drop,
-    Load(1),
-    Apply(Operation::FieldGet(2)),
-    Load(3),
-    Apply(Operation::FieldSet(4)),
-    Return(1),
-];
+const OBJECTS: &[Instruction] = list! {
+    Load(1), Apply(Operation::FieldGet(2)), Load(3), Apply(Operation::FieldSet(4)), Drop,
+    Load(5), Apply(Operation::FieldChange(LATER, 6)), Drop,
+    Load(1), Apply(Operation::FieldGet(2)), Load(0), Apply(Operation::FieldSet(4)), Drop,
+    Load(1), Apply(Operation::FieldGet(2)), Load(3), Apply(Operation::FieldSet(4)), Return(1),
+};
 
 /// Each is one step, but where the object is the value that was pushed, or the value is kept.
 const FIELDS: Places = &[
@@ -561,16 +434,11 @@ const FIELDS: Places = &[
 ];
 
 /// A global is stored into another one, and is changed; at the end the stored value is kept.
-const GLOBALS: &[Instruction] = &[
-    Apply(Operation::GlobalGet(2)),
-    Apply(Operation::GlobalSet(3)),
-    Drop,
-    Apply(Operation::GlobalChange(LATER, 4)),
-    Drop,
-    Apply(Operation::GlobalGet(2)),
-    Apply(Operation::GlobalSet(3)),
-    Return(1),
-];
+const GLOBALS: &[Instruction] = list! {
+    Apply(Operation::GlobalGet(2)), Apply(Operation::GlobalSet(3)),
+    Drop, Apply(Operation::GlobalChange(LATER, 4)), Drop,
+    Apply(Operation::GlobalGet(2)), Apply(Operation::GlobalSet(3)), Return(1),
+};
 
 /// Each is one step, but where the value is kept.
 const GLOBAL_STEPS: Places = &[
@@ -582,20 +450,11 @@ const GLOBAL_STEPS: Places = &[
 ];
 
 /// Handles of locals, of a global and null are compared; at the end the second one is the first.
-const COMPARING: &[Instruction] = &[
-    Load(1),
-    Load(1),
-    Apply(Operation::Same),
-    Apply(Operation::GlobalGet(3)),
-    PushNull,
-    Apply(Operation::Same),
-    PushNull,
-    Load(3),
-    Apply(Operation::Same),
-    Load(1),
-    Load(0),
-    Apply(Operation::Same),
-];
+const COMPARING: &[Instruction] = list! {
+    Load(1), Load(1), Apply(Operation::Same), Apply(Operation::GlobalGet(3)),
+    PushNull, Apply(Operation::Same), PushNull, Load(3), Apply(Operation::Same),
+    Load(1), Load(0), Apply(Operation::Same),
+};
 
 /// Each pair is one step, but where the second one is the value that the first one pushes.
 const COMPARED: Places = &[

@@ -1,22 +1,17 @@
-use Rattle.std.proofs.Common.{subst, sym, ◌∙◌, Ok, Err}
+use Rattle.std.proofs.Common.{refl, subst, sym, ◌∙◌, Ok, Err}
 use Rattle.ang_kinds.specs.declared.fault.Fault.TheVariants.{Host as HostFault, BadAnswer, Memory, Tally}
 use Rattle.ang_host.specs.declared.answer.Answer.TheVariants.{Void, Fault as SaidFault, Memory as SaidMemory, Full}
-use Rattle.ang_host.specs.Boxes.{members}
 use Rattle.ang_host.specs.Laws.{IsLiveAnswer}
-use Rattle.ang_host.specs.Members.{state_at, states_of}
 use Rattle.ang_meaning.specs.declared.slot.Slot.TheVariants.{Bits}
 use Rattle.ang_meaning.proofs.Telling.{told_same, told_then}
 use Rattle.ang_heap.specs.Stores.{world_of}
-use Rattle.ang_vm_ask.proofs.Replying.{HasKeyOption, slot_there, replied_as, void_fine, void_bad, said_fault, said_memory, said_full, gave}
+use Rattle.ang_vm_ask.specs.Askings.{driver_state}
+use Rattle.ang_vm_ask.proofs.Replying.{replied_as, void_fine, void_bad, said_fault, said_memory, said_full, gave}
 use Rattle.ang_vm_ask.proofs.replies.take_answer.Goals as goal
 
-pub accept-requires : goal.accept-requires
-accept-requires g c =
-    let ss = states_of (λ v. (g.dyn-1.0.entry v).1) (members c.args.store.now.drivers) in
-    record {
-      there = subst (HasKeyOption ss c.args.driver c.requires.sound) (sym c.slot_from.ensures.exact)
-          (slot_there ss c.args.driver c.requires.sound c.args.of c.in-Gave.value (subst (IsLiveAnswer (state_at ss c.args.driver)) c.in-Gave.is c.requires.live));
-    }
+pub take_value-requires-clause-live : goal.take_value-requires-clause-live
+take_value-requires-clause-live g c =
+    subst (IsLiveAnswer (driver_state (λ v. (g.dyn-1.0.entry v).1) c.args.store.now c.args.driver)) c.in-Gave.is c.requires.live
 
 pub returns-then-is_void-clause-told : goal.returns-then-is_void-clause-told
 returns-then-is_void-clause-told g c =
@@ -30,7 +25,7 @@ returns-else-is_void-clause-told g c =
 
 pub returns-in-Gave-clause-told : goal.returns-in-Gave-clause-told
 returns-in-Gave-clause-told g c =
-    told_then (told_same (λ is. gave c.args.driver c.args.of c.args.answer c.in-Gave.value c.slot_from.result _ c.in-Gave.is c.slot_from.ensures.exact)) c.accept.ensures.told
+    told_then (told_same (λ is. gave c.args.driver c.args.of c.args.answer c.in-Gave.value _ _ c.in-Gave.is refl)) c.take_value.ensures.told
 
 pub returns-in-Fault-clause-told : goal.returns-in-Fault-clause-told
 returns-in-Fault-clause-told g c =

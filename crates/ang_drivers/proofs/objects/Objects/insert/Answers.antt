@@ -1,25 +1,48 @@
-use Rattle.std.proofs.Common.{refl, ◌+◌, arith, ap}
-use Rattle.ang_drivers.specs.declared.objects.Counted.{Counted}
+use Rattle.std.proofs.Common.{sym, ◌∙◌, arith, ap}
+use Rattle.std.specs.FinMap as map
+use Rattle.ang_drivers.specs.declared.pages.Counted.{Counted}
 use Rattle.ang_drivers.specs.Objects.{by_key}
-use Rattle.ang_drivers.proofs.Ledgers.{by_key-inserted, counted-new, unused-none}
+use Rattle.ang_drivers.specs.PagesHeld.{entries_of}
+use Rattle.ang_drivers.proofs.Ledgers.{AreCounted, unused-none, counted_pushed, few_pushed, ledger_kept, on_err}
 use Rattle.ang_drivers.proofs.objects.Objects.insert.Goals as goal
 
-pub invariant_of-self-2 : goal.invariant_of-self-2
-invariant_of-self-2 g c =
+pub push-requires : goal.push-requires
+push-requires g c =
     let s = c.args.self.now in
-    let new = counted-new (by_key (λ (o : Counted g.row.T.Denot). o.count) s.live.entries) _ s.made s.added s.released
-    (by_key-inserted (λ (o : Counted g.row.T.Denot). o.count) _ _ s.made (record { count = 1; value = c.args.value }) c.in_ok-insert.ensures.updates.0)
-    (record { sums = s.sums; positive = s.positive; unused = s.unused }) in
-    record { sums = new.sums; positive = new.positive; unused = new.unused; makings = omega (arith, c.requires.asking_left); few_asked = s.few_asked; few_added = s.few_added }
+    record { room = omega (arith, c.requires.asking_left, s.few_asked) }
+
+pub invariant_of-self : goal.invariant_of-self
+invariant_of-self g c =
+    let s = c.args.self.now in
+    let done = c.push.ensures in
+    let counted : AreCounted (by_key (λ (o : Counted g.row.T.Denot). o.count) (entries_of s.live)) s.live.next s.added s.released =
+    record { sums = s.sums; positive = s.positive; unused = s.unused } in
+    let new = counted_pushed (λ (o : Counted g.row.T.Denot). o.count) (entries_of s.live) _ c.push.result _ s.live.next s.added s.released done.next done.counts done.kept done.unchanged counted in
+    record {
+      sums = new.sums;
+      positive = new.positive;
+      unused = new.unused;
+      makings = few_pushed c.push.result _ s.live.next s.asked done.next done.kept c.requires.asking_left;
+      few_asked = s.few_asked;
+      few_added = s.few_added;
+    }
+
+pub returns-in_err-key-clause-unchanged : goal.returns-in_err-key-clause-unchanged
+returns-in_err-key-clause-unchanged g c =
+    let s = c.args.self.now in
+    on_err _
+    (ledger_kept (λ (o : Counted g.row.T.Denot). o.count) (λ (o : Counted g.row.T.Denot). o.value) (entries_of s.live) _ _ s.live.next s.asked s.added s.released c.in_err-key.ensures.unchanged
+    c.in_err-key.ensures.kept)
 
 pub returns-clause-inserted : goal.returns-clause-inserted
 returns-clause-inserted g c =
     let s = c.args.self.now in
+    let counts = by_key (λ (o : Counted g.row.T.Denot). o.count) (entries_of s.live) in
+    let key = c.in_ok-key.ensures.key in
     record {
-      key = refl;
-      unused = unused-none _ s.made s.made s.positive s.unused (omega arith);
-      counts = by_key-inserted (λ (o : Counted g.row.T.Denot). o.count) _ _ s.made (record { count = 1; value = c.args.value }) c.in_ok-insert.ensures.updates.0;
-      table = ap (λ m. record { next = s.made + 1; values = m })
-          (by_key-inserted (λ (o : Counted g.row.T.Denot). o.value) _ _ s.made (record { count = 1; value = c.args.value }) c.in_ok-insert.ensures.updates.0);
-      tally = refl;
+      key = key;
+      unused = unused-none _ s.live.next c.in_ok-key.key s.positive s.unused (omega (arith, key));
+      counts = c.in_ok-key.ensures.counts ∙ ap (λ k. map.insert counts k 1) (sym key);
+      table = λ i. record { next = c.in_ok-key.ensures.next i; values = c.in_ok-key.ensures.values i };
+      tally = λ i. record { asked = s.asked; made = c.in_ok-key.ensures.next i; added = s.added; released = s.released };
     }

@@ -1,13 +1,13 @@
-use Rattle.ang_drivers.specs.declared.objects.Counted.{Counted}
+use Rattle.ang_drivers.specs.declared.pages.Counted.{Counted}
 use Rattle.ang_drivers.proofs.Ledgers.{is_held, read_at}
 use Rattle.ang_drivers.proofs.objects.Objects.value.Goals as goal
 
-pub object_at-requires : goal.object_at-requires
-object_at-requires g c = record {
+pub get-requires : goal.get-requires
+get-requires g c = record {
   held = is_held (λ (o : Counted g.row.T.Denot). o.count) _ _ c.requires.held.0 c.requires.held.1;
 }
 
 pub returns : goal.returns
 returns g c = record {
-  exact = read_at (λ (o : Counted g.row.T.Denot). o.value) _ _ _ c.object_at.ensures.exact;
+  exact = read_at (λ (o : Counted g.row.T.Denot). o.value) _ _ _ c.get.ensures.exact;
 }
