@@ -292,12 +292,56 @@ static void make_module(struct game *game, const char *name, unsigned mask, cons
     build(game, name);
 }
 
+/* The functions in which a command ended with a fault: lines `at MODULE NAME PLACE PLACE`. */
+static void print_trace(struct game *game)
+{
+    char module[64], name[64], place[64];
+    size_t bytes, line_bytes;
+    command(game, "trace");
+    const char *at = bb_reply(game->engine, &bytes), *end = at + bytes;
+    while (at < end) {
+        const char *line = next_line(&at, end, &line_bytes);
+        if (sscanf(line, "at %63s %63s %63s", module, name, place) == 3)
+            printf("  in %s %s %s\n", module, name, place);
+    }
+}
+
+/* Does a call, and prints what it gave, or how it ended. */
+static void tell(struct game *game, const char *what, const char *text)
+{
+    size_t bytes;
+    command(game, text);
+    print_outcome(game, what);
+    const char *outcome = bb_outcome(game->engine, &bytes);
+    if (begins_with(outcome, bytes, "fault "))
+        print_trace(game);
+}
+
 static void call(struct game *game, const char *what, const char *module_and_values, const char *declaration)
 {
     char text[200];
     snprintf(text, sizeof text, "call %s %s", module_and_values, declaration);
+    tell(game, what, text);
+}
+
+/* The number of a function that is looked up, to be called again and again without its text. */
+static unsigned prepare(struct game *game, const char *module_and_declaration)
+{
+    char text[200];
+    size_t bytes;
+    unsigned number = 0;
+    snprintf(text, sizeof text, "prepare %s", module_and_declaration);
     command(game, text);
-    print_outcome(game, what);
+    if (sscanf(bb_reply(game->engine, &bytes), "prepared %u", &number) != 1)
+        exit(1);
+    return number;
+}
+
+static void run(struct game *game, const char *what, unsigned number, const char *values)
+{
+    char text[200];
+    snprintf(text, sizeof text, "run %u %s", number, values);
+    tell(game, what, text);
 }
 
 /* ---- The game */
@@ -331,8 +375,9 @@ static void play_players(struct game *game, const char *stronger)
     call(game, "luck of 6", "player (6u)", "uint8 luck(uint8)");
     call(game, "attack with 4, unbound", "player (4)", "int attack(int)");
     command(game, "bind player 0 admin int wound(int)");
-    call(game, "attack with 4", "player (4)", "int attack(int)");
-    call(game, "attack with -1", "player (-1)", "int attack(int)");
+    unsigned attack = prepare(game, "player int attack(int)");
+    run(game, "attack with 4", attack, "(4)");
+    run(game, "attack with -1", attack, "(-1)");
     call(game, "gold", "player ()", "int64 gold()");
     call(game, "reward", "admin (1,50)", "int64 reward(int64, int64)");
     call(game, "gold", "player ()", "int64 gold()");
@@ -343,13 +388,15 @@ static void play_players(struct game *game, const char *stronger)
     command(game, "discard cheater");
     call(game, "spin", "player ()", "void spin()");
 
-    /* A new script for the player, while the admin's goes on with its troll. The import is to be bound anew. */
+    /* A new script for the player, while the admin's goes on with its troll. The import is to be bound anew, and what was
+       looked up is to be prepared anew. */
     section(game, "player", stronger);
     build(game, "player");
     command(game, "bind player 0 admin int wound(int)");
-    call(game, "attack with 4", "player (4)", "int attack(int)");
+    attack = prepare(game, "player int attack(int)");
+    run(game, "attack with 4", attack, "(4)");
     call(game, "armor", "admin (3)", "int armored(int)");
-    call(game, "attack with 4", "player (4)", "int attack(int)");
+    run(game, "attack with 4", attack, "(4)");
 }
 
 static void play(struct game *game)

@@ -180,7 +180,8 @@ class Page:
     def used(self) -> Dict[str, int]:
         """How many slots and objects scripts hold."""
         lines = self._process.command("used").lines
-        return {name: int(number) for name, number in (it.split(" ") for it in lines[:-1])}
+        told = dict(it.split(" ") for it in lines[:-1])
+        return {name: int(told[name]) for name in ("slots", "objects")}
 
     def close(self) -> None:
         """Ends its engines, also while other threads wait for replies."""

@@ -6,7 +6,7 @@
 //! The engine is in this process, where LIBRARY is the path of a libbustlebrick.so that is there, and else a process.
 //! Prints what stands in ../game.expected.
 
-use bustlebrick::{Engine, Error, Fault, Module, Options, Profile, Reply};
+use bustlebrick::{Engine, Error, Fault, Module, Options, Plain, Prepared, Profile, Reply, Typed};
 use std::cell::{Cell, RefCell};
 use std::collections::HashMap;
 use std::fmt::Display;
@@ -144,14 +144,44 @@ fn tell_build(name: &str, reply: &Reply) {
     }
 }
 
-/// Prints what a call gave, or how it ended.
-fn tell<T: Display>(what: &str, called: Result<T, Error>) -> Result<(), Error> {
+/// Prints what a call gave, or how it ended, and in which functions.
+fn tell<T: Display>(what: &str, called: Result<T, Error>, engine: &mut Engine) -> Result<(), Error> {
     match called {
         Ok(value) => println!("{what}: {value}"),
-        Err(error @ (Error::Refused(_) | Error::Fault(_))) => println!("{what}: {error}"),
+        Err(error @ Error::Refused(_)) => println!("{what}: {error}"),
+        Err(error @ Error::Fault(_)) => {
+            println!("{what}: {error}");
+            for frame in engine.trace()? {
+                let [section, line, column] = frame.declared;
+                println!("  in {} {} {section}:{line}:{column}", frame.module, frame.name);
+            }
+        }
         Err(error) => return Err(error),
     }
     Ok(())
+}
+
+/// Calls a function of a module, and prints how that ended.
+fn call<T: Typed + Display>(
+    engine: &mut Engine,
+    what: &str,
+    module: &Module,
+    declaration: &str,
+    values: &[&dyn Plain],
+) -> Result<(), Error> {
+    let called = engine.call::<T>(module, declaration, values);
+    tell(what, called, engine)
+}
+
+/// The same of what was looked up.
+fn run<T: Typed + Display>(
+    engine: &mut Engine,
+    what: &str,
+    prepared: Prepared,
+    values: &[&dyn Plain],
+) -> Result<(), Error> {
+    let called = engine.run::<T>(prepared, values);
+    tell(what, called, engine)
 }
 
 fn built(engine: &mut Engine, name: &str, mask: u32, script: &str) -> Result<Module, Error> {
@@ -174,39 +204,45 @@ fn main() -> Result<(), Error> {
     let mut words = std::env::args().skip(1);
     let options = Options::of(words.next().unwrap_or("asremote".to_owned()));
     let options = Options { library: words.next().map(Into::into), ..options };
-    let mut engine = Engine::with(options, offered(&world))?;
+    let engine = &mut Engine::with(options, offered(&world))?;
     engine.budget(10000)?;
-    let admin = built(&mut engine, "admin", PLAYERS | STAFF, ADMIN)?;
-    let player = built(&mut engine, "player", PLAYERS, PLAYER)?;
+    let admin = built(engine, "admin", PLAYERS | STAFF, ADMIN)?;
+    let player = built(engine, "player", PLAYERS, PLAYER)?;
 
-    // Calls, with values of all kinds. A player's script reaches the staff's by an import that the host binds.
-    tell("may enter", engine.call::<bool>(&player, "bool may_enter()", &[]))?;
-    tell("luck of 6", engine.call::<u8>(&player, "uint8 luck(uint8)", &[&6_u8]))?;
-    tell("attack with 4, unbound", engine.call::<i32>(&player, "int attack(int)", &[&4]))?;
-    engine.bind(&player, 0, &admin, "int wound(int)")?;
-    tell("attack with 4", engine.call::<i32>(&player, "int attack(int)", &[&4]))?;
-    tell("attack with -1", engine.call::<i32>(&player, "int attack(int)", &[&-1]))?;
-    tell("gold", engine.call::<i64>(&player, "int64 gold()", &[]))?;
-    tell("reward", engine.call::<i64>(&admin, "int64 reward(int64, int64)", &[&1, &50]))?;
-    tell("gold", engine.call::<i64>(&player, "int64 gold()", &[]))?;
-    tell("heal", engine.call::<()>(&player, "void heal()", &[]).map(|()| "healed"))?;
+    // Calls, with values of all kinds. A player's script reaches the staff's by an import that the host binds. What is
+    // called often is looked up once.
+    call::<bool>(engine, "may enter", &player, "bool may_enter()", &[])?;
+    call::<u8>(engine, "luck of 6", &player, "uint8 luck(uint8)", &[&6_u8])?;
+    call::<i32>(engine, "attack with 4, unbound", &player, "int attack(int)", &[&4])?;
+    engine.bind_import(&player, "int wound(int)", &admin)?;
+    let attack = engine.prepare(&player, "int attack(int)")?;
+    run::<i32>(engine, "attack with 4", attack, &[&4])?;
+    run::<i32>(engine, "attack with -1", attack, &[&-1])?;
+    call::<i64>(engine, "gold", &player, "int64 gold()", &[])?;
+    call::<i64>(engine, "reward", &admin, "int64 reward(int64, int64)", &[&1, &50])?;
+    call::<i64>(engine, "gold", &player, "int64 gold()", &[])?;
+    let healed = engine.call::<()>(&player, "void heal()", &[]).map(|()| "healed");
+    tell("heal", healed, engine)?;
 
     // A script that asks for what its mask hides, and one that doesn't end.
-    let cheater = built(&mut engine, "cheater", PLAYERS, CHEAT)?;
+    let cheater = built(engine, "cheater", PLAYERS, CHEAT)?;
     engine.discard(cheater)?;
-    tell("spin", engine.call::<()>(&player, "void spin()", &[]).map(|()| "ended"))?;
+    let spun = engine.call::<()>(&player, "void spin()", &[]).map(|()| "ended");
+    tell("spin", spun, engine)?;
 
-    // A new script for the player, while the admin's goes on with its troll. The import is to be bound anew.
+    // A new script for the player, while the admin's goes on with its troll. The import is to be bound anew, and what was
+    // looked up is to be prepared anew.
     engine.section(&player, &PLAYER.replace("wound(n)", "wound(n * 2)"))?;
     tell_build("player", &engine.build(&player)?);
-    engine.bind(&player, 0, &admin, "int wound(int)")?;
-    tell("attack with 4", engine.call::<i32>(&player, "int attack(int)", &[&4]))?;
-    tell("armor", engine.call::<i32>(&admin, "int armored(int)", &[&3]))?;
-    tell("attack with 4", engine.call::<i32>(&player, "int attack(int)", &[&4]))?;
+    engine.bind_import(&player, "int wound(int)", &admin)?;
+    let attack = engine.prepare(&player, "int attack(int)")?;
+    run::<i32>(engine, "attack with 4", attack, &[&4])?;
+    call::<i32>(engine, "armor", &admin, "int armored(int)", &[&3])?;
+    run::<i32>(engine, "attack with 4", attack, &[&4])?;
 
-    // The host keeps an object as long as scripts hold it.
-    tell("wins over 10", engine.call::<bool>(&admin, "bool wins(int)", &[&10]))?;
-    tell("wins over 20", engine.call::<bool>(&admin, "bool wins(int)", &[&20]))?;
+    // The host keeps an object as long as scripts hold engine.
+    call::<bool>(engine, "wins over 10", &admin, "bool wins(int)", &[&10])?;
+    call::<bool>(engine, "wins over 20", &admin, "bool wins(int)", &[&20])?;
     println!("monsters: {}", engine.objects());
     for event in engine.command("call admin () void retire()")?.events {
         println!("retire: {event}");
@@ -215,20 +251,20 @@ fn main() -> Result<(), Error> {
 
     // An engine that hangs. The next one has no modules.
     engine.timeout = Duration::from_millis(500);
-    hang(&engine, &world);
+    hang(engine, &world);
     if let Err(Error::TimedOut) = engine.call::<i64>(&player, "int64 gold()", &[]) {
         println!("the engine hung");
     }
     engine.timeout = Duration::from_secs(10);
     world.delay.set(Duration::ZERO);
     engine.restart()?;
-    tell("wound with 1", engine.call::<i32>(&admin, "int wound(int)", &[&1]))?;
-    let admin = built(&mut engine, "admin", PLAYERS | STAFF, ADMIN)?;
-    tell("wound with 1", engine.call::<i32>(&admin, "int wound(int)", &[&1]))?;
+    call::<i32>(engine, "wound with 1", &admin, "int wound(int)", &[&1])?;
+    let admin = built(engine, "admin", PLAYERS | STAFF, ADMIN)?;
+    call::<i32>(engine, "wound with 1", &admin, "int wound(int)", &[&1])?;
     println!("monsters: {}", engine.objects());
 
     // A line that no command spells.
     println!("nonsense: {}", engine.command("nonsense")?.outcome);
-    tell("wound with 1", engine.call::<i32>(&admin, "int wound(int)", &[&1]))?;
+    call::<i32>(engine, "wound with 1", &admin, "int wound(int)", &[&1])?;
     Ok(())
 }

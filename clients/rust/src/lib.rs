@@ -8,10 +8,12 @@ mod limits;
 mod link;
 mod profile;
 mod talk;
+mod told;
 mod values;
 
 pub use limits::{Held, Limits, Used};
 pub use profile::Profile;
+pub use told::Frame;
 pub use values::{Answer, Asked, Fault, Function, Objects, Plain, Typed, Value};
 
 use library::{InProcess, Library};
@@ -31,7 +33,7 @@ pub const VERSION: &str = env!("CARGO_PKG_VERSION");
 pub enum Error {
     /// It was not done, or the profile not taken. The text is the refusal, as `NoFunction`.
     Refused(String),
-    /// A call ended with this fault, as `Budget` or `Host 7`.
+    /// A call ended with this fault, as `Budget` or `Host 7`. [`Engine::trace`] says where.
     Fault(String),
     /// A call ended with the fault `Memory`, which comes of a limit too.
     Memory(Held),
@@ -121,6 +123,13 @@ impl Reply {
 #[derive(Clone, Debug)]
 pub struct Module(String);
 
+/// A function of a module's scripts that was looked up by [`Engine::prepare`].
+#[derive(Clone, Copy, Debug)]
+pub struct Prepared {
+    start: u64,
+    number: u32,
+}
+
 /// How an engine is run.
 #[derive(Clone, Debug)]
 pub struct Options {
@@ -152,6 +161,8 @@ pub struct Engine {
     events: Vec<String>,
     ticks: Option<u32>,
     limits: Limits,
+    /// How often it was started: numbers of prepared calls are those of one start.
+    starts: u64,
     /// What a command may take, with what closures take meanwhile. It doesn't end a closure.
     pub timeout: Duration,
 }
@@ -174,8 +185,9 @@ impl Engine {
         limits.check(0)?;
         let library = library.map_or(Ok(None), |path| Library::at(&path))?;
         let (objects, events, timeout) = (Objects::default(), Vec::new(), Duration::from_secs(10));
-        let (talk, ticks) = (None, None);
-        let mut engine = Engine { program, library, memory, profile, talk, objects, events, ticks, limits, timeout };
+        let (talk, ticks, starts) = (None, None, 0);
+        let mut engine =
+            Engine { program, library, memory, profile, talk, objects, events, ticks, limits, starts, timeout };
         engine.restart().map(|()| engine)
     }
 
@@ -183,6 +195,7 @@ impl Engine {
     /// gone: they have to be made, built and bound anew. All objects are given up.
     pub fn restart(&mut self) -> Result<(), Error> {
         (self.talk, self.objects) = (None, Objects::default());
+        self.starts += 1;
         self.events.clear();
         let text = format!("{}{}\n", self.profile.text(), self.limits.lines().join("\n"));
         let drivers = 1 + self.profile.types.len();
@@ -242,13 +255,29 @@ impl Engine {
         Ok(())
     }
 
-    /// What scripts hold.
+    /// What scripts hold, and the ticks that the last build or call took.
     pub fn used(&mut self) -> Result<Used, Error> {
-        let mut lines = Vec::new();
-        self.say("used\n", &mut |line, _, _| lines.push(line))?;
-        let reply = Reply { outcome: lines.pop().unwrap_or_default(), ..Reply::default() };
-        reply.value()?;
+        let lines = self.told("used")?;
         Used::told(&lines).ok_or(Error::Unfit(lines.join("\n")))
+    }
+
+    /// What was running when the last build or call ended with a fault, innermost first. None after any other end, and
+    /// where there was no memory to keep it.
+    pub fn trace(&mut self) -> Result<Vec<Frame>, Error> {
+        let lines = self.told("trace")?;
+        let frames: Option<Vec<Frame>> = lines.iter().map(|line| Frame::told(line)).collect();
+        frames.ok_or(Error::Unfit(lines.join("\n")))
+    }
+
+    /// The lines that answer a question of one line, as `used`, without `ok`. It is no command: the last one stays that
+    /// before it.
+    pub fn told(&mut self, question: &str) -> Result<Vec<String>, Error> {
+        let text = whole(question).filter(|text| text.lines().count() == 1);
+        let text = text.ok_or_else(|| Error::Unfit(question.to_owned()))?;
+        let mut lines = Vec::new();
+        self.say(&text, &mut |line, _, _| lines.push(line))?;
+        let reply = Reply { outcome: lines.pop().unwrap_or_default(), ..Reply::default() };
+        reply.value().map(|_| lines)
     }
 
     /// Makes a module, without scripts.
@@ -275,6 +304,41 @@ impl Engine {
         self.command(&format!("build {}", module.0))
     }
 
+    /// Says what a build of the sections that wait would say, and builds nothing. Sections with errors wait no more, as
+    /// after a build; others wait still, and a build can follow.
+    pub fn check(&mut self, module: &Module) -> Result<Reply, Error> {
+        self.command(&format!("check {}", module.0))
+    }
+
+    /// The declarations of the functions that a module was built with, in the order of its text.
+    pub fn functions(&mut self, module: &Module) -> Result<Vec<String>, Error> {
+        self.listed(module, "function ")
+    }
+
+    /// The declarations of its global variables.
+    pub fn globals(&mut self, module: &Module) -> Result<Vec<String>, Error> {
+        self.listed(module, "global ")
+    }
+
+    /// The declarations of its imports: the place of one is its number.
+    pub fn imports(&mut self, module: &Module) -> Result<Vec<String>, Error> {
+        let numbered = self.listed(module, "import ")?;
+        Ok(numbered.iter().map(|it| it.split_once(' ').unwrap_or_default().1.to_owned()).collect())
+    }
+
+    fn listed(&mut self, module: &Module, word: &str) -> Result<Vec<String>, Error> {
+        let lines = self.told(&format!("list {}", module.0))?;
+        Ok(lines.iter().filter_map(|line| line.strip_prefix(word)).map(str::to_owned).collect())
+    }
+
+    /// Binds the module's import of this declaration to the function of the same one of another module.
+    pub fn bind_import(&mut self, module: &Module, declaration: &str, exporter: &Module) -> Result<(), Error> {
+        let wanted = told::plain_words(declaration);
+        let number = self.imports(module)?.iter().position(|it| told::plain_words(it) == wanted);
+        let number = number.ok_or(Error::Refused("NoImport".to_owned()))?;
+        self.bind(module, number as u32, exporter, declaration)
+    }
+
     /// Binds the module's import of that number to a function of another module.
     pub fn bind(&mut self, module: &Module, number: u32, exporter: &Module, declaration: &str) -> Result<(), Error> {
         self.done(&format!("bind {} {number} {} {declaration}", module.0, exporter.0)).map(drop)
@@ -287,8 +351,29 @@ impl Engine {
 
     /// Calls a function of the module's scripts by its declaration, with integers and `bool`s, and gives its result.
     pub fn call<R: Typed>(&mut self, module: &Module, declaration: &str, values: &[&dyn Plain]) -> Result<R, Error> {
-        let values: Vec<String> = values.iter().map(|value| value.text()).collect();
-        let text = self.done(&format!("call {} ({}) {declaration}", module.0, values.join(",")))?;
+        self.result(&format!("call {} ({}) {declaration}", module.0, written(values)))
+    }
+
+    /// Looks a function of the module's scripts up, to be called again and again without its text.
+    pub fn prepare(&mut self, module: &Module, declaration: &str) -> Result<Prepared, Error> {
+        let lines = self.told(&format!("prepare {} {declaration}", module.0))?;
+        let number = lines.first().and_then(|line| line.strip_prefix("prepared ")?.parse().ok());
+        let number = number.ok_or(Error::Unfit(lines.join("\n")))?;
+        Ok(Prepared { start: self.starts, number })
+    }
+
+    /// Calls a function that was looked up, as `call` does. It is refused as `NoFunction` once its module was built again
+    /// or discarded, or the engine restarted: then it is to be prepared anew.
+    pub fn run<R: Typed>(&mut self, prepared: Prepared, values: &[&dyn Plain]) -> Result<R, Error> {
+        if prepared.start != self.starts {
+            return Err(Error::Refused("NoFunction".to_owned()));
+        }
+        self.result(&format!("run {} ({})", prepared.number, written(values)))
+    }
+
+    /// Does a call, and gives its result.
+    fn result<R: Typed>(&mut self, line: &str) -> Result<R, Error> {
+        let text = self.done(line)?;
         let value = if text.is_empty() { Some(None) } else { Value::of(&text).map(Some) };
         value.and_then(|value| R::read(value, &self.objects)).ok_or(Error::Unfit(text))
     }
@@ -363,6 +448,12 @@ impl Engine {
         }
         Ok(())
     }
+}
+
+/// The values of a call, as its line has them.
+fn written(values: &[&dyn Plain]) -> String {
+    let values: Vec<String> = values.iter().map(|value| value.text()).collect();
+    values.join(",")
 }
 
 /// How an engine ended, and what it said last.

@@ -13,6 +13,7 @@ ghost use Rattle.ang_typed.specs.View.{view_typed};
 ghost use Rattle.ang_source.specs.Sound.{SoundProgram};
 ghost use Rattle.ang_engine_modules.specs.Executed.{first_globals, call_of, initialization_of};
 ghost use Rattle.ang_engine_modules.specs.Ends.{Ends, Answers, completed};
+ghost use Rattle.ang_engine_modules.specs.declared.modules.LoadedModule.{LoadedModule};
 ghost use Rattle.ang_engine_modules.specs.Loaded.{loaded_at, modules_of, linked_in, unbound_in};
 ghost use Rattle.ang_engine_modules.specs.Modules.{module_at, result_at, LinkFits, TakesSoMany, AreDriversThere, AgreesWith, IsAskedIn};
 
@@ -32,6 +33,7 @@ use ang_vm::{Machine, Table, run};
 use ang_vm_stack::table::ModuleCode;
 use std::alloc::{AllocError, Global};
 use std::marker::Model;
+use std::mem;
 
 /// What a built module is loaded with.
 #[derive(Drop)]
@@ -57,6 +59,8 @@ pub struct LoadedModule {
 pub struct Modules {
     table: Table,
     loaded: Vec<Option<LoadedModule>>,
+    /// What the module was loaded with whose initializer the last command failed at. No contract speaks of it.
+    failed: Option<LoadedModule>,
 }
 
 impl Model for Modules {
@@ -112,8 +116,28 @@ fn put_loaded(loaded: &mut Vec<Option<LoadedModule>>, home: u32, item: Option<Lo
 {
     let place = home as usize;
     if place < loaded.len() {
-        loaded[place] = item;
+        drop(mem::replace(&mut loaded[place], item));
+    } else {
+        drop(item);
     }
+}
+
+/// Takes what a module is loaded with out of its place, where there is one.
+fn take_loaded(loaded: &mut Vec<Option<LoadedModule>>, home: u32) -> Option<LoadedModule>
+    ensures taken { loaded.new.items ≡ slice_set loaded.old.items home None }
+{
+    let place = home as usize;
+    if place < loaded.len() {
+        return mem::replace(&mut loaded[place], None);
+    }
+    None
+}
+
+/// Keeps this in the place of what was kept.
+fn put_failed(failed: &mut Option<LoadedModule>, item: Option<LoadedModule>)
+    ensures put { failed.new ≡ item }
+{
+    *failed = item;
 }
 
 impl Modules {
@@ -126,6 +150,7 @@ impl Modules {
                 modules: Vec::new(alloc),
             },
             loaded: Vec::new(alloc),
+            failed: None,
         }
     }
 
@@ -153,15 +178,24 @@ impl Modules {
         ensures unchanged { OnErr result (self.new ≡ self.old) }
     {
         let (loaded, tree) = loaded.into_parts();
-        let generated = generate(alloc, &tree)?;
-        let code = code_of(
-            alloc,
-            home,
-            loaded.name.as_slice(),
-            &loaded.view,
-            &tree,
-            generated,
-        )?;
+        let generated = match generate(alloc, &tree) {
+            Ok(generated) => generated,
+            Err(error) => {
+                drop(loaded);
+                drop(tree);
+                return Err(error);
+            }
+        };
+        let name = loaded.name.as_slice();
+        let code = match code_of(alloc, home, name, &loaded.view, &tree, generated) {
+            Ok(code) => code,
+            Err(error) => {
+                drop(loaded);
+                drop(tree);
+                return Err(error);
+            }
+        };
+        drop(tree);
         put_code(&mut self.table.modules, home, code);
         put_loaded(&mut self.loaded, home, Some(loaded));
         Ok(())
@@ -176,6 +210,26 @@ impl Modules {
         put_loaded(&mut self.loaded, home, None);
         unbind_codes(home, &mut self.table.modules);
         unbind_places(alloc, home, &mut self.loaded);
+    }
+
+    /// The same where an initializer of the module has failed: what it was loaded with is kept, for its names,
+    /// until `forget_failed` is called. It takes no memory.
+    pub fn unload_failed(&mut self, alloc: Global, home: u32)
+        ensures unloaded { self.new ≡ unbound_in home (slice_set self.old home None) }
+    {
+        let codes = &mut self.table.modules;
+        put_code(codes, home, no_code(alloc));
+        let taken = take_loaded(&mut self.loaded, home);
+        put_failed(&mut self.failed, taken);
+        unbind_codes(home, codes);
+        unbind_places(alloc, home, &mut self.loaded);
+    }
+
+    /// What was kept of a module that failed is given up.
+    pub fn forget_failed(&mut self)
+        ensures same { self.new ≡ self.old }
+    {
+        put_failed(&mut self.failed, None);
     }
 
     /// Binds an import of a module to a function of another one, or of the same. An earlier binding
@@ -209,6 +263,18 @@ impl Modules {
         ensures exact { option_copied result ≡ loaded_at self.now home }
     {
         self.loaded.get(home as usize)?.as_ref()
+    }
+
+    /// What the module of that number is loaded with, where it is built; else what is kept of the one that
+    /// failed, if there is one.
+    pub fn loaded_or_failed(&self, home: u32) -> Option<&LoadedModule>
+        ensures loaded { (l : LoadedModule) → loaded_at self.now home ≡ Some l
+            → option_copied result ≡ Some l }
+    {
+        match self.loaded(home) {
+            Some(loaded) => Some(loaded),
+            None => self.failed.as_ref(),
+        }
     }
 
     /// The values with which a module's globals begin, each 0, `false` or null.

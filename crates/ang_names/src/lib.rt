@@ -20,10 +20,7 @@ mod rings;
 
 pub use ang_kinds::Unbuilt;
 pub use ang_names_classes::heading_of;
-pub use ang_names_known::{
-    Access, Family, Field, Names, Origin, ScriptConstructor, ScriptFunction, ScriptGlobal,
-    ScriptMethod, ScriptParameter, Written,
-};
+pub use ang_names_known::{Access, Family, Field, Names, Origin, ScriptConstructor, ScriptFunction, ScriptGlobal, ScriptMethod, ScriptParameter, Written};
 pub use declaring::{declare, names_over, phase_refusals, unbuilt};
 pub use headings::heading_refusal;
 pub use heirs::heir_refusals;

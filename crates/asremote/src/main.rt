@@ -10,6 +10,7 @@ pub mod laws;
 mod options;
 mod own_lines;
 mod posted;
+mod prepared;
 mod shared;
 mod turns;
 

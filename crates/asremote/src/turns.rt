@@ -1,21 +1,23 @@
 //! Doing a command of a conversation.
-ghost use Rattle.std.specs.Prelude.{◌≡◌, ◌+◌, IfOk, OnOk, OnErr};
+ghost use Rattle.std.specs.Prelude.{◌≡◌, ◌+◌, ℕ, IfOk, OnOk, OnErr};
 ghost use Rattle.std.specs.Io.KnownBytes.{Appends};
 ghost use Rattle.ang_engine.specs.Engines.{registrations, drivers_in};
 ghost use Rattle.ang_engine.specs.Sound.{IsSound};
 ghost use Rattle.asrun_session.specs.Drivers.{kinds_of};
 ghost use Rattle.asrun_session.specs.Writing.{HasFront};
 ghost use Rattle.asremote.specs.Talk.{done_line};
+ghost use Rattle.asremote.specs.declared.own_lines.OwnLine.TheVariants.{Check};
 ghost use Rattle.asrun_lines.specs.SessionLines.{is_header};
 ghost use Rattle.asremote.specs.Turns.{Obeys, ObeysHalf, Refuses, RefusesHalf, TakesTurn, TakesHalf, TakesOne};
 
 use crate::own_lines::{OwnLine, own_line};
-use ang_engine::Engine;
+use crate::prepared::{prepare, run_prepared};
+use ang_engine::{Engine, Prepared};
 use ang_host::Driver;
 use asrun_lines::{LineError, first_line, is_header, is_skipped, shown};
 use asrun_session::{
-    IoFault, ReplyBuffer, SessionError, perform, print_bad_line, print_held, read_act, with_limit,
-    write_text,
+    IoFault, ReplyBuffer, SessionError, is_done, perform, print_bad_line, print_declarations,
+    print_reply, print_trace, print_used, read_act, with_limit, write_text,
 };
 use std::alloc::Global;
 use std::io::Write;
@@ -66,33 +68,88 @@ fn refuse<W: Write>(
     Ok(Turn::Done(false, ticks, 0))
 }
 
-/// Does a line that no session has, and prints its answer.
+/// Judges the sections that wait in a module, and prints what a build of them would say. Answers whether with `ok`.
 ///
 /// # Errors
 /// A write fault, and want of memory.
-fn obey<W: Write>(
+fn check<W: Write>(
     engine: &mut Engine,
     writer: &mut W,
     buffer: &mut ReplyBuffer,
-    line: OwnLine,
-) -> Result<(), SessionError>
+    name: &[u8],
+) -> Result<bool, SessionError>
     requires sound { IsSound ⟦<dyn Driver as Driver>⟧ engine.old }
     ensures sound { IsSound ⟦<dyn Driver as Driver>⟧ engine.new }
     ensures registrations { registrations engine.new ≡ registrations engine.old }
     ensures order { kinds_of (drivers_in engine.new) ≡ kinds_of (drivers_in engine.old) }
-    ensures obeyed { OnOk result (Obeys ⟦<dyn Driver as Driver>⟧ engine.old engine.new
-        (W.contents writer.old) (W.contents writer.new) line) }
+    ensures obeyed { (ticks : ℕ) → IfOk result (λ ok. Obeys ⟦<dyn Driver as Driver>⟧ engine.old
+        engine.new (W.contents writer.old) (W.contents writer.new) ticks (Check name.now) ok) }
+    ensures cut { (ticks : ℕ) → OnErr result (ObeysHalf ⟦<dyn Driver as Driver>⟧ engine.old
+        engine.new (W.contents writer.old) (W.contents writer.new) ticks (Check name.now)) }
+{
+    let reply = engine.check(name);
+    print_reply(writer, buffer, &reply)?;
+    Ok(is_done(reply.outcome))
+}
+
+/// Does a line that no session has, and prints its answer. Answers whether it is anything but `fault` and `refused`.
+///
+/// # Errors
+/// A write fault, and want of memory.
+fn obey<W: Write>(
+    alloc: Global,
+    engine: &mut Engine,
+    writer: &mut W,
+    buffer: &mut ReplyBuffer,
+    prepared: &mut Vec<Prepared>,
+    line: OwnLine,
+    ticks: u64,
+) -> Result<bool, SessionError>
+    requires sound { IsSound ⟦<dyn Driver as Driver>⟧ engine.old }
+    ensures sound { IsSound ⟦<dyn Driver as Driver>⟧ engine.new }
+    ensures registrations { registrations engine.new ≡ registrations engine.old }
+    ensures order { kinds_of (drivers_in engine.new) ≡ kinds_of (drivers_in engine.old) }
+    ensures obeyed { IfOk result (λ ok. Obeys ⟦<dyn Driver as Driver>⟧ engine.old engine.new
+        (W.contents writer.old) (W.contents writer.new) ticks line ok) }
     ensures cut { OnErr result (ObeysHalf ⟦<dyn Driver as Driver>⟧ engine.old engine.new
-        (W.contents writer.old) (W.contents writer.new) line) }
+        (W.contents writer.old) (W.contents writer.new) ticks line) }
 {
     match line {
         OwnLine::Limit(limit) => {
             let limits = with_limit(engine.limits(), limit);
             engine.set_limits(limits);
             write_text(writer, b"ok\n")?;
-            Ok(())
+            Ok(true)
         }
-        OwnLine::Used => print_held(writer, buffer, engine.held()),
+        OwnLine::Used => {
+            print_used(writer, buffer, engine.ticks_used(), engine.held())?;
+            Ok(true)
+        }
+        OwnLine::Trace => {
+            print_trace(writer, buffer, engine)?;
+            Ok(true)
+        }
+        OwnLine::Check(name) => check(engine, writer, buffer, name.as_slice()),
+        OwnLine::Declarations(name) => {
+            print_declarations(alloc, writer, buffer, engine, name.as_slice())
+        }
+        OwnLine::Prepare { name, decl } => prepare(
+            engine,
+            writer,
+            buffer,
+            prepared,
+            name.as_slice(),
+            decl.as_slice(),
+        ),
+        OwnLine::Run { number, args } => run_prepared(
+            engine,
+            writer,
+            buffer,
+            prepared,
+            number,
+            args.as_slice(),
+            ticks,
+        ),
     }
 }
 
@@ -106,6 +163,7 @@ pub fn take_turn<W: Write>(
     engine: &mut Engine,
     writer: &mut W,
     buffer: &mut ReplyBuffer,
+    prepared: &mut Vec<Prepared>,
     text: &[u8],
     number: u64,
     ticks: u64,
@@ -126,9 +184,13 @@ pub fn take_turn<W: Write>(
     if is_skipped(line) {
         return Ok(Turn::Done(true, ticks, 0));
     }
-    if let Some(own) = own_line(line) {
-        obey(engine, writer, buffer, own)?;
-        return Ok(Turn::Done(true, ticks, 0));
+    match own_line(alloc, line) {
+        Ok(own) => {
+            let ok = obey(alloc, engine, writer, buffer, prepared, own, ticks)?;
+            return Ok(Turn::Done(ok, ticks, 0));
+        }
+        Err(LineError::Memory) => return Err(SessionError::Memory),
+        Err(LineError::BadLine) => {}
     }
     match read_act(alloc, ticks, line, after) {
         Ok(act) => {
@@ -172,6 +234,7 @@ pub fn one_turn<W: Write>(
     engine: &mut Engine,
     writer: &mut W,
     buffer: &mut ReplyBuffer,
+    prepared: &mut Vec<Prepared>,
     text: &[u8],
     number: u64,
     ticks: u64,
@@ -185,7 +248,7 @@ pub fn one_turn<W: Write>(
     ensures cut { OnErr result (TakesHalf ⟦<dyn Driver as Driver>⟧ engine.old engine.new
         (W.contents writer.old) (W.contents writer.new) number ticks text.now) }
 {
-    match take_turn(alloc, engine, writer, buffer, text, number, ticks)? {
+    match take_turn(alloc, engine, writer, buffer, prepared, text, number, ticks)? {
         Turn::Done(ok, ticks, lines) => {
             print_done(writer)?;
             let number = advanced(number, lines)?;

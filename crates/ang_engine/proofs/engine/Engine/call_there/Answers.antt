@@ -1,0 +1,14 @@
+use Rattle.std.proofs.Common.{◌≡◌, true, sym, rules}
+use Rattle.ang_host.specs.Logs.{listed_in}
+use Rattle.ang_engine.specs.Engines.{world_in}
+use Rattle.ang_engine.specs.Step.{is_budget}
+use Rattle.ang_engine.proofs.Named.{called-number}
+use Rattle.ang_engine.proofs.engine.Engine.call_there.Goals as goal
+
+pub returns-clause-done : goal.returns-clause-done
+returns-clause-done g c =
+    let w = world_in (λ v. (g.dyn-1.0.entry v).1) c.args.self.now in
+    let may : is_budget c.args.budget ≡ true = search rules in
+    λ name decl h.
+    called-number w name decl c.args.args.now c.args.budget c.args.prepared.home (sym h.place) h.program h.built may c.args.prepared.number c.call_number.result (listed_in c.call_number.new.events)
+    (world_in (λ v. (g.dyn-1.0.entry v).1) c.call_number.new.self) h.number c.call_number.ensures.done

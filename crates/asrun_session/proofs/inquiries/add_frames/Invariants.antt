@@ -1,0 +1,8 @@
+use Rattle.std.proofs.Common.{None}
+use Rattle.asrun_text.specs.Trace.{frame_text}
+use Rattle.asrun_session.specs.Pieces.{AddsLines}
+use Rattle.asrun_session.proofs.inquiries.add_frames.Given as goal
+
+abbrev pub invariant-loop-depth : goal.invariant-loop-depth
+invariant-loop-depth g l =
+    AddsLines (frame_text None) (g.W.Write.contents l.initial.writer) (g.W.Write.contents l.writer) l.initial.text.items l.text.items
