@@ -10,9 +10,9 @@ hold (docs/FORMATS.md, "Profile"). The module's mask is MASK, 00000001 if none i
 `int main()`; `sum(2, 40)`, of which the declaration is looked up in the script; or `(2,40) int64 sum(int64, int64)`.
 
 An error is told with its file, line and column (in bytes), the line, a caret, a sentence, and hints where there are some.
-Each host call is told as it happens, each end of an object after its command, and the ticks of each call. These are
-counted by doing the same again in another engine, with the host's answers of the first time: for three seconds at most.
-The engine does not say where in a script a fault came. PATH is its program, asremote, which else the shell's PATH has.
+Each host call is told as it happens, each end of an object after its command, and the ticks of each call. After a fault
+come the functions that were running, the innermost first, each with its line. PATH is the engine's program, asremote,
+which else the shell's PATH has.
 
 Host calls are answered with 0, false, null or a new object. With FILE, a Python file, they are answered by what it
 defines: a function or a class of the name of the host's function or type, a name or a function of that of a global
@@ -66,14 +66,13 @@ def arguments() -> argparse.Namespace:
     words.add_argument("--engine", metavar="PATH", help="the program asremote")
     words.add_argument("--budget", type=int, default=BUDGET, help="the ticks that a build or a call may take (1000000)")
     words.add_argument("--timeout", type=float, help="the seconds that it may take (60; 10 with --web)")
-    words.add_argument("--no-ticks", action="store_true", help="ticks are not counted")
     words.add_argument("--shell", action="store_true", help="goes on with the shell")
     words.add_argument("--watch", action="store_true", help="does it again when a file changes")
     words.add_argument("--web", action="store_true", help="serves a page on this machine")
     words.add_argument("--port", type=int, default=0, help="the port of the page (any)")
     words.add_argument("--json", action="store_true", help="prints a JSON object for each happening")
     given = words.parse_args()
-    apart = given.shell or given.watch or given.json or given.call or given.host or given.no_ticks or given.budget != BUDGET
+    apart = given.shell or given.watch or given.json or given.call or given.host or given.budget != BUDGET
     if given.web and apart:
         words.error("--web goes with scripts, --profile, --mask, --engine, --timeout and --port alone")
     if given.timeout is None:
@@ -82,7 +81,7 @@ def arguments() -> argparse.Namespace:
 
 
 def options_of(given: argparse.Namespace) -> Options:
-    return Options(given.engine, given.profile, given.host, given.budget, given.timeout, not given.no_ticks)
+    return Options(given.engine, given.profile, given.host, given.budget, given.timeout)
 
 
 def play(given: argparse.Namespace, sources: List[Source], stage: Stage) -> bool:
@@ -98,7 +97,7 @@ def play(given: argparse.Namespace, sources: List[Source], stage: Stage) -> bool
 def call(stage: Stage, text: str) -> bool:
     """Makes the call that a text means."""
     try:
-        return stage.call(MODULE, call_of(text, stage.parts[MODULE].functions()))
+        return stage.call(MODULE, call_of(text, stage.functions(MODULE)))
     except NotCalled as wrong:
         stage.tell("wrong", where=text, message=str(wrong))
         return False

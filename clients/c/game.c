@@ -79,6 +79,7 @@ struct monster {
 
 struct game {
     bb_engine *engine;
+    const char *player; /* the script of that module */
     struct monster monsters[MOST_MONSTERS]; /* by their keys */
     int made, living;
     int64_t purse, price;
@@ -292,12 +293,69 @@ static void make_module(struct game *game, const char *name, unsigned mask, cons
     build(game, name);
 }
 
+/* A function in which a command ended with a fault, its place, and the line there: the host has the texts of its
+   modules, the engine none. */
+static void print_frame(const struct game *game, const char *module, const char *name, const char *place)
+{
+    const char *script = strcmp(module, "admin") == 0 ? admin_script : game->player, *end;
+    unsigned line = 1;
+    sscanf(place, "%*u:%u", &line);
+    for (; line > 1 && (end = strchr(script, '\n')); line--)
+        script = end + 1;
+    script += strspn(script, " ");
+    printf("  in %s %s %s: %.*s\n", module, name, place, (int)strcspn(script, "\n"), script);
+}
+
+/* The trace: lines `at MODULE NAME PLACE AT`, with the place of the name and that of the statement, or `-`. */
+static void print_trace(struct game *game)
+{
+    char module[64], name[64], declared[64], statement[64];
+    size_t bytes, line_bytes;
+    command(game, "trace");
+    const char *at = bb_reply(game->engine, &bytes), *end = at + bytes;
+    while (at < end) {
+        const char *line = next_line(&at, end, &line_bytes);
+        if (sscanf(line, "at %63s %63s %63s %63s", module, name, declared, statement) == 4)
+            print_frame(game, module, name, strcmp(statement, "-") == 0 ? declared : statement);
+    }
+}
+
+/* Does a call, and prints what it gave, or how it ended. */
+static void tell(struct game *game, const char *what, const char *text)
+{
+    size_t bytes;
+    command(game, text);
+    print_outcome(game, what);
+    const char *outcome = bb_outcome(game->engine, &bytes);
+    if (begins_with(outcome, bytes, "fault "))
+        print_trace(game);
+}
+
 static void call(struct game *game, const char *what, const char *module_and_values, const char *declaration)
 {
     char text[200];
     snprintf(text, sizeof text, "call %s %s", module_and_values, declaration);
+    tell(game, what, text);
+}
+
+/* The number of a function that is looked up, to be called again and again without its text. */
+static unsigned prepare(struct game *game, const char *module_and_declaration)
+{
+    char text[200];
+    size_t bytes;
+    unsigned number = 0;
+    snprintf(text, sizeof text, "prepare %s", module_and_declaration);
     command(game, text);
-    print_outcome(game, what);
+    if (sscanf(bb_reply(game->engine, &bytes), "prepared %u", &number) != 1)
+        exit(1);
+    return number;
+}
+
+static void run(struct game *game, const char *what, unsigned number, const char *values)
+{
+    char text[200];
+    snprintf(text, sizeof text, "run %u %s", number, values);
+    tell(game, what, text);
 }
 
 /* ---- The game */
@@ -331,8 +389,9 @@ static void play_players(struct game *game, const char *stronger)
     call(game, "luck of 6", "player (6u)", "uint8 luck(uint8)");
     call(game, "attack with 4, unbound", "player (4)", "int attack(int)");
     command(game, "bind player 0 admin int wound(int)");
-    call(game, "attack with 4", "player (4)", "int attack(int)");
-    call(game, "attack with -1", "player (-1)", "int attack(int)");
+    unsigned attack = prepare(game, "player int attack(int)");
+    run(game, "attack with 4", attack, "(4)");
+    run(game, "attack with -1", attack, "(-1)");
     call(game, "gold", "player ()", "int64 gold()");
     call(game, "reward", "admin (1,50)", "int64 reward(int64, int64)");
     call(game, "gold", "player ()", "int64 gold()");
@@ -343,13 +402,16 @@ static void play_players(struct game *game, const char *stronger)
     command(game, "discard cheater");
     call(game, "spin", "player ()", "void spin()");
 
-    /* A new script for the player, while the admin's goes on with its troll. The import is to be bound anew. */
+    /* A new script for the player, while the admin's goes on with its troll. The import is to be bound anew, and what was
+       looked up is to be prepared anew. */
+    game->player = stronger;
     section(game, "player", stronger);
     build(game, "player");
     command(game, "bind player 0 admin int wound(int)");
-    call(game, "attack with 4", "player (4)", "int attack(int)");
+    attack = prepare(game, "player int attack(int)");
+    run(game, "attack with 4", attack, "(4)");
     call(game, "armor", "admin (3)", "int armored(int)");
-    call(game, "attack with 4", "player (4)", "int attack(int)");
+    run(game, "attack with 4", attack, "(4)");
 }
 
 static void play(struct game *game)
@@ -358,6 +420,7 @@ static void play(struct game *game)
     snprintf(player, sizeof player, player_script, "n");
     snprintf(stronger, sizeof stronger, player_script, "n * 2");
     make_module(game, "admin", BOTH, admin_script);
+    game->player = player;
     make_module(game, "player", PLAYERS, player);
     play_players(game, stronger);
 

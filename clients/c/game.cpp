@@ -287,9 +287,41 @@ private:
         std::cout << what << ": " << (outcome.rfind("ok ", 0) == 0 ? outcome.substr(3) : outcome) << '\n';
     }
 
-    void call(const std::string& what, const std::string& module_and_values, const std::string& declaration) {
-        command("call " + module_and_values + ' ' + declaration);
+    // The functions in which a command ended with a fault: lines `at MODULE NAME PLACE AT`, with the place of the name
+    // and that of the statement, or `-`. The host has the texts of its modules, the engine none.
+    void tell_trace() {
+        command("trace");
+        for (auto& line : lines_of(engine_.reply())) {
+            std::istringstream in(line);
+            std::string word, module, name, declared, at;
+            if (!(in >> word >> module >> name >> declared >> at)) continue;
+            const std::string place = at == "-" ? declared : at;
+            const std::size_t number = std::stoul(place.substr(place.find(':') + 1));
+            const std::string source = lines_of(scripts_.at(module)).at(number - 1);
+            std::cout << "  in " << module << ' ' << name << ' ' << place << ": ";
+            std::cout << source.substr(source.find_first_not_of(' ')) << '\n';
+        }
+    }
+
+    // Does a call, and prints what it gave, or how it ended.
+    void tell_call(const std::string& what, const std::string& text) {
+        command(text);
         tell(what);
+        if (engine_.outcome().rfind("fault ", 0) == 0) tell_trace();
+    }
+
+    void call(const std::string& what, const std::string& module_and_values, const std::string& declaration) {
+        tell_call(what, "call " + module_and_values + ' ' + declaration);
+    }
+
+    // The number of a function that is looked up, to be called again and again without its text.
+    std::string prepare(const std::string& module_and_declaration) {
+        command("prepare " + module_and_declaration);
+        return lines_of(engine_.reply()).at(0).substr(9);
+    }
+
+    void run(const std::string& what, const std::string& number, const std::string& values) {
+        tell_call(what, "run " + number + ' ' + values);
     }
 
     // `denied PLACE ENTRY EMASK MMASK` is printed with the declaration of its entry.
@@ -301,7 +333,9 @@ private:
         return word == "denied" ? word + ' ' + place + ' ' + profile_.declaration(entry) : line;
     }
 
-    void build(const std::string& module) {
+    void build(const std::string& module, const std::string& script) {
+        engine_.section(module, script);
+        scripts_[module] = script;
         command("build " + module);
         tell(module);
         auto lines = lines_of(engine_.reply());
@@ -311,8 +345,7 @@ private:
 
     void make_module(const std::string& name, unsigned mask, const std::string& script) {
         command("module " + name + ' ' + Profile::hexadecimal(mask));
-        engine_.section(name, script);
-        build(name);
+        build(name, script);
     }
 
     void hang();
@@ -321,6 +354,7 @@ private:
     const Profile& profile_;
     World& world_;
     Engine engine_;
+    std::map<std::string, std::string> scripts_;  // of the modules, by their names
 };
 
 // An ask that is not answered: the script waits, and the engine is given up. The next one has no modules, and no script
@@ -339,8 +373,9 @@ void Game::play_player() {
     call("luck of 6", "player (6u)", "uint8 luck(uint8)");
     call("attack with 4, unbound", "player (4)", "int attack(int)");
     command("bind player 0 admin int wound(int)");
-    call("attack with 4", "player (4)", "int attack(int)");
-    call("attack with -1", "player (-1)", "int attack(int)");
+    auto attack = prepare("player int attack(int)");
+    run("attack with 4", attack, "(4)");
+    run("attack with -1", attack, "(-1)");
     call("gold", "player ()", "int64 gold()");
     call("reward", "admin (1,50)", "int64 reward(int64, int64)");
     call("gold", "player ()", "int64 gold()");
@@ -351,13 +386,14 @@ void Game::play_player() {
     command("discard cheater");
     call("spin", "player ()", "void spin()");
 
-    // A new script for the player, while the admin's goes on with its troll. The import is to be bound anew.
-    engine_.section("player", player_script("n * 2"));
-    build("player");
+    // A new script for the player, while the admin's goes on with its troll. The import is to be bound anew, and what was
+    // looked up is to be prepared anew.
+    build("player", player_script("n * 2"));
     command("bind player 0 admin int wound(int)");
-    call("attack with 4", "player (4)", "int attack(int)");
+    attack = prepare("player int attack(int)");
+    run("attack with 4", attack, "(4)");
     call("armor", "admin (3)", "int armored(int)");
-    call("attack with 4", "player (4)", "int attack(int)");
+    run("attack with 4", attack, "(4)");
 }
 
 void Game::play() {

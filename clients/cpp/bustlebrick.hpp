@@ -14,6 +14,7 @@
 #include <unistd.h>
 
 #include <algorithm>
+#include <cctype>
 #include <charconv>
 #include <chrono>
 #include <cerrno>
@@ -85,9 +86,10 @@ struct Limits {
     }
 };
 
-// What scripts hold: the slots of objects of their classes, and how many objects of the host.
+// What scripts hold: the slots of objects of their classes, and how many objects of the host; and the ticks that the last
+// build or call took.
 struct Used {
-    std::uint64_t slots, objects;
+    std::uint64_t slots, objects, ticks;
 };
 
 // What there was once a call had ended with the fault `Memory`, and the limits. The events are those of the reply, and
@@ -108,15 +110,55 @@ struct Held {
     }
 };
 
+// A place in the scripts of a build: sections count from 0, lines and columns from 1.
+struct Place {
+    unsigned section = 0, line = 0, column = 0;
+};
+
+// A function of a script that was running when a call ended with a fault. The name is `f`, `C::f` of a method or
+// constructor, or `global g` of the global whose initializer it is. `declared` is the place of the name, and `place`
+// that of the statement, where it is known. `source` is the line of this place as it was when the call ended, and
+// std::nullopt where no Module::section added it. It has at most 200 characters: of a longer line those from the place
+// on, or the last.
+struct Frame {
+    std::string module, name;
+    Place declared;
+    std::optional<Place> place;
+    std::optional<std::string> source;
+
+    // As `player attack 0:3:5: return 10 / n;`. Control characters of the source are spaces in it.
+    std::string text() const {
+        auto [section, line, column] = place.value_or(declared);
+        auto text = module + " " + name;
+        const char* before = " ";
+        for (auto number : {section, line, column}) text += std::exchange(before, ":") + std::to_string(number);
+        auto shown = source.value_or("");
+        std::replace_if(shown.begin(), shown.end(), [](unsigned char it) { return it < 0x20 || it == 0x7f; }, ' ');
+        auto first = shown.find_first_not_of(' ');
+        if (first == std::string::npos) return text;
+        return text + ": " + shown.substr(first, shown.find_last_not_of(' ') + 1 - first);
+    }
+};
+
 // A call ended with a fault, as `Host 7`. The cause is what a callable threw, if one did. The text is the fault. That of
-// `Memory`, which comes of a limit too, goes on with what there was and the limits.
+// `Memory`, which comes of a limit too, goes on with what there was and the limits. The trace is what was running,
+// innermost first, and empty where there was no memory to keep it.
 struct ScriptFault : std::runtime_error {
-    ScriptFault(const std::string& name, std::exception_ptr thrown) : runtime_error(name), fault(name), cause(thrown) {}
-    ScriptFault(const std::string& name, std::exception_ptr thrown, const Held& there)
-        : runtime_error(name + ": " + there.text()), fault(name), cause(thrown), held(there) {}
+    ScriptFault(const std::string& name, std::exception_ptr thrown, std::vector<Frame> frames = {})
+        : runtime_error(name), fault(name), cause(thrown), trace(std::move(frames)) {}
+    ScriptFault(const std::string& name, std::exception_ptr thrown, const Held& there, std::vector<Frame> frames = {})
+        : runtime_error(name + ": " + there.text()), fault(name), cause(thrown), held(there), trace(std::move(frames)) {}
     std::string fault;
     std::exception_ptr cause;
     std::optional<Held> held;
+    std::vector<Frame> trace;
+
+    // A line for each frame of the trace, as `player attack 0:3:5: return 10 / n;`.
+    std::vector<std::string> stack() const {
+        std::vector<std::string> lines;
+        for (auto& frame : trace) lines.push_back(frame.text());
+        return lines;
+    }
 };
 
 // The engine ended or was killed. Engine::restart makes another one.
@@ -127,11 +169,6 @@ struct EngineLost : std::runtime_error {
 // A command took longer than the timeout, and the engine was killed.
 struct CommandTimeout : EngineLost {
     CommandTimeout() : EngineLost("a command took longer than the timeout") {}
-};
-
-// A place in the scripts of a build: sections count from 0, lines and columns from 1.
-struct Place {
-    unsigned section = 0, line = 0, column = 0;
 };
 
 // An error of a build. The name is `-` where there is none.
@@ -642,6 +679,106 @@ inline Place place(const std::string& text) {
     return place;
 }
 
+// What a line `at MODULE NAME PLACE PLACE` says. The name of a global's initializer has a space in it.
+inline Frame frame(const std::string& line) {
+    auto words = split(line, ' ');
+    auto count = words.size();
+    auto name = words.at(2);
+    for (std::size_t at = 3; at + 2 < count; at++) name += " " + words[at];
+    Frame frame{words[1], name, place(words.at(count - 2)), std::nullopt, std::nullopt};
+    if (words.back() != "-") frame.place = place(words.back());
+    return frame;
+}
+
+constexpr std::size_t most_source = 200;  // characters of a line
+
+// Of a long line the characters from this column on, or the last ones. Columns count bytes. No more than four bytes are
+// one character, also where they are no UTF-8.
+inline std::string_view cut(std::string_view line, unsigned column) {
+    std::vector<std::size_t> starts;
+    for (std::size_t at = 0; at < line.size(); at++) {
+        bool goes_on = (static_cast<unsigned char>(line[at]) & 0xC0) == 0x80;
+        if (!goes_on || starts.empty() || at - starts.back() == 4) starts.push_back(at);
+    }
+    auto at = [&](std::size_t number) { return number < starts.size() ? starts[number] : line.size(); };
+    auto before = std::lower_bound(starts.begin(), starts.end(), column - std::size_t{1}) - starts.begin();
+    auto last = starts.size() > most_source ? starts.size() - most_source : 0;
+    auto first = std::min(static_cast<std::size_t>(before), last);
+    return line.substr(at(first), at(first + most_source) - at(first));
+}
+
+// The texts of a module's sections: those that wait, and those of its last build. One that a line added has none.
+struct Sections {
+    std::vector<std::optional<std::string>> waiting, built;
+};
+
+// Those of each module, by its name.
+class Sources {
+  public:
+    // Follows a command that ended so. What has errors is not kept, since no fault comes to it.
+    void follow(const std::string& command, const std::string& outcome) {
+        auto space = command.find(' ');
+        auto word = command.substr(0, space);
+        if (word != "section" && word != "build" && word != "check" && word != "discard") return;
+        auto name = command.substr(space + 1, command.find_first_of(" \r\n", space + 1) - space - 1);
+        if (word == "section" && outcome == "ok") by_module_[name].waiting.emplace_back();
+        auto found = by_module_.find(name);
+        if (found == by_module_.end()) return;
+        auto& [waiting, built] = found->second;
+        if (word == "build" && (outcome == "ok" || outcome.rfind("refused InitFailed ", 0) == 0)) {
+            built = std::exchange(waiting, {});
+        } else if (word == "build" && (outcome == "refused BuildErrors" || outcome == "refused BuildMemory")) {
+            found->second = {};
+        } else if (word == "check" && outcome == "refused BuildErrors") {
+            waiting.clear();
+        } else if (word == "discard" && outcome == "ok") {
+            by_module_.erase(found);
+        }
+    }
+
+    // Keeps the text of the section that a module was given last.
+    void keep(const std::string& module, std::string text) { by_module_.at(module).waiting.back() = std::move(text); }
+
+    // The line of a place of a module's last build, if its text is known.
+    std::optional<std::string> line(const std::string& module, const Place& place) const {
+        auto found = by_module_.find(module);
+        if (found == by_module_.end()) return std::nullopt;
+        auto& built = found->second.built;
+        if (place.section >= built.size() || !built[place.section]) return std::nullopt;
+        std::string_view text = *built[place.section];
+        for (unsigned number = 1; number < place.line; number++) {
+            auto end = text.find('\n');
+            if (end == std::string_view::npos) return std::nullopt;
+            text.remove_prefix(end + 1);
+        }
+        text = text.substr(0, text.find('\n'));
+        if (!text.empty() && text.back() == '\r') text.remove_suffix(1);
+        return std::string(cut(text, place.column));
+    }
+
+  private:
+    std::map<std::string, Sections> by_module_;
+};
+
+// The words and signs of a declaration, without the names of its parameters.
+inline Texts plain_words(const std::string& declaration) {
+    auto is_word = [](char it) { return it == '_' || std::isalnum(static_cast<unsigned char>(it)); };
+    Texts plain;
+    bool is_parameters = false;
+    int types = 0;  // that the parameter has so far: a second word is its name
+    for (std::size_t at = 0, end; at < declaration.size(); at = end) {
+        end = at + 1;
+        if (std::isspace(static_cast<unsigned char>(declaration[at]))) continue;
+        while (is_word(declaration[at]) && end < declaration.size() && is_word(declaration[end])) end++;
+        auto it = declaration.substr(at, end - at);
+        if (it == "(" || it == ",") types = 0;
+        else if (is_word(it[0]) && it != "const" && it != "in" && it != "out" && it != "inout") types++;
+        if (!is_parameters || types < 2 || !is_word(it[0])) plain.push_back(it);
+        is_parameters = is_parameters || it == "(";
+    }
+    return plain;
+}
+
 inline std::string mask(std::uint32_t mask) {
     char text[9];
     std::snprintf(text, sizeof text, "%08x", static_cast<unsigned>(mask));
@@ -795,6 +932,7 @@ class Profile {
 class Engine {
   public:
     class Module;
+    class Prepared;
 
     // Starts an engine. It is a process of `program`, the path of asremote; or, where `library` is the path of a
     // libbustlebrick.so that is there, it is in this process. `memory` is the most bytes of memory that it may have, 0
@@ -837,17 +975,35 @@ class Engine {
         limits_ = limits;
     }
 
-    // What scripts hold.
+    // What scripts hold, and the ticks that the last build or call took.
     Used used() {
         std::map<std::string, std::string> told;
-        Reply reply;
-        say("used\n", [&](const std::string& line) {
+        for (auto& line : this->told("used")) {
             auto words = detail::split(line, ' ');
-            if (words.size() == 2) told[words[0]] = words[1];
-            reply.outcome = line;
-        });
+            told[words.at(0)] = words.at(1);
+        }
+        return {std::stoull(told.at("slots")), std::stoull(told.at("objects")), std::stoull(told.at("ticks"))};
+    }
+
+    // What was running when the last build or call ended with a fault, innermost first. None after any other end.
+    std::vector<Frame> trace() {
+        std::vector<Frame> frames;
+        for (auto& line : told("trace")) frames.push_back(detail::frame(line));
+        for (auto& frame : frames) frame.source = sources_.line(frame.module, frame.place.value_or(frame.declared));
+        return frames;
+    }
+
+    // The lines that answer a question of one line, as `used`, without `ok`. It is no command: the last one stays that
+    // before it.
+    std::vector<std::string> told(const std::string& question) {
+        if (question.find('\n') != std::string::npos) throw std::invalid_argument("a line with a line's end: " + question);
+        std::vector<std::string> lines;
+        say(question + "\n", [&](const std::string& line) { lines.push_back(line); });
+        Reply reply;
+        reply.outcome = lines.empty() ? "" : lines.back();
         value(reply);
-        return {std::stoull(told.at("slots")), std::stoull(told.at("objects"))};
+        lines.pop_back();
+        return lines;
     }
 
     // Makes a module, without scripts.
@@ -888,9 +1044,12 @@ class Engine {
         if (line.find('\n') != std::string::npos) throw std::invalid_argument("a line with a line's end: " + line);
         auto reply = command(line);
         events_ = std::move(reply.events);
-        if (reply.outcome != "fault Memory") return value(reply);
+        if (reply.outcome.rfind("fault ", 0) != 0) return value(reply);
+        auto frames = trace();
+        if (reply.outcome != "fault Memory") throw ScriptFault(reply.outcome.substr(6), reply.cause, std::move(frames));
         auto used = this->used();
-        throw ScriptFault("Memory", reply.cause, Held{events_.size() + used.objects, used, limits_});
+        Held held{events_.size() + used.objects, used, limits_};
+        throw ScriptFault("Memory", reply.cause, held, std::move(frames));
     }
 
     static std::string value(const Reply& reply) {
@@ -934,9 +1093,11 @@ class Engine {
         }
     }
 
-    // Ends the engine, if there is one, and gives all objects up.
+    // Ends the engine, if there is one, and gives all objects and texts up.
     void end() {
         talk_ = nullptr;
+        starts_++;
+        sources_ = {};
         auto given_up = std::exchange(objects_, {});
     }
 
@@ -961,6 +1122,7 @@ class Engine {
             throw;
         }
         is_busy_ = false;
+        sources_.follow(text, last);
     }
 
     // Throws how an engine ended, and what it said last: at its start, why its profile is refused.
@@ -991,8 +1153,10 @@ class Engine {
     std::size_t memory_;
     std::unique_ptr<detail::Talk> talk_;
     bool is_busy_ = false;  // a command is done
+    std::uint64_t starts_ = 0;  // numbers of prepared calls are those of one start
     std::vector<std::string> events_;
     detail::Objects objects_;
+    detail::Sources sources_;
     std::optional<std::uint32_t> ticks_;
     std::exception_ptr cause_;
 };
@@ -1003,19 +1167,48 @@ class Engine::Module {
     // Gives it another mask, which acts from the next build on.
     void set_mask(std::uint32_t mask) { engine_->done("mask " + name_ + " " + detail::mask(mask)); }
 
-    // Adds a section of script for the next build.
+    // Adds a section of script for the next build. The text is kept for the traces of faults.
     void section(std::string text) {
-        if (text.empty() || text.back() != '\n') text += '\n';
-        auto lines = std::to_string(std::count(text.begin(), text.end(), '\n'));
-        value(engine_->command("section " + name_ + " " + lines + "\n" + text));
+        bool ends = !text.empty() && text.back() == '\n';
+        auto lines = std::to_string(std::count(text.begin(), text.end(), '\n') + !ends);
+        value(engine_->command("section " + name_ + " " + lines + "\n" + text + (ends ? "" : "\n")));
+        engine_->sources_.keep(name_, std::move(text));
     }
 
     // Builds the sections that wait. The reply says whether that was done, and the errors and denials if not.
     Reply build() { return engine_->command("build " + name_); }
 
+    // Says what a build of the sections that wait would say, and builds nothing. Sections with errors wait no more, as
+    // after a build; others wait still, and a build can follow.
+    Reply check() { return engine_->command("check " + name_); }
+
+    // The declarations of the functions that it was built with, in the order of its text.
+    std::vector<std::string> functions() { return listed("function "); }
+
+    // The declarations of its global variables.
+    std::vector<std::string> globals() { return listed("global "); }
+
+    // The declarations of its imports: the place of one is its number.
+    std::vector<std::string> imports() {
+        auto imports = listed("import ");
+        for (auto& it : imports) it.erase(0, it.find(' ') + 1);
+        return imports;
+    }
+
     // Binds the import of that number to a function of another module.
     void bind(unsigned number, const Module& exporter, const std::string& declaration) {
         engine_->done("bind " + name_ + " " + std::to_string(number) + " " + exporter.name_ + " " + declaration);
+    }
+
+    // Binds the import of this declaration to the function of the same one of another module.
+    void bind(const std::string& declaration, const Module& exporter) {
+        auto wanted = detail::plain_words(declaration);
+        auto number = 0u;
+        for (auto& it : imports()) {
+            if (detail::plain_words(it) == wanted) return bind(number, exporter, declaration);
+            number++;
+        }
+        throw Refused("NoImport");
     }
 
     // Unbinds the import of that number.
@@ -1029,16 +1222,57 @@ class Engine::Module {
         if constexpr (!std::is_void_v<R>) return detail::plain<R>(detail::value(result));
     }
 
+    // Looks a function up, to be called again and again without its text.
+    Prepared prepare(const std::string& declaration);
+
     // Ends the module.
     void discard() { engine_->done("discard " + name_); }
 
   private:
     friend class Engine;
+
+    std::vector<std::string> listed(const std::string& word) {
+        std::vector<std::string> lines;
+        for (auto& line : engine_->told("list " + name_)) {
+            if (line.rfind(word, 0) == 0) lines.push_back(line.substr(word.size()));
+        }
+        return lines;
+    }
+
     Module(Engine* engine, std::string name) : engine_(engine), name_(std::move(name)) {}
 
     Engine* engine_;
     std::string name_;
 };
+
+// A function of a module's scripts that was looked up (Module::prepare). It is refused as `NoFunction` once its module was
+// built again or discarded, or the engine restarted: then it is to be prepared anew.
+class Engine::Prepared {
+  public:
+    // Calls it with these values, as Module::call does: `prepared.call<int>(21)`.
+    template <class R = void, class... A> R call(const A&... values) {
+        if (start_ != engine_->starts_) throw Refused("NoFunction");
+        std::string texts;
+        ((texts += (texts.empty() ? "" : ",") + detail::text(detail::plain_value(values))), ...);
+        auto result = engine_->done("run " + number_ + " (" + texts + ")");
+        if constexpr (!std::is_void_v<R>) return detail::plain<R>(detail::value(result));
+    }
+
+  private:
+    friend class Engine::Module;
+    Prepared(Engine* engine, std::uint64_t start, std::string number)
+        : engine_(engine), start_(start), number_(std::move(number)) {}
+
+    Engine* engine_;
+    std::uint64_t start_;
+    std::string number_;
+};
+
+inline Engine::Prepared Engine::Module::prepare(const std::string& declaration) {
+    auto lines = engine_->told("prepare " + name_ + " " + declaration);
+    auto& line = lines.at(0);
+    return Prepared(engine_, engine_->starts_, line.substr(line.find(' ') + 1));
+}
 
 inline Engine::Module Engine::module(const std::string& name, std::uint32_t mask) {
     if (name.empty() || name.find_first_of(" \n") != std::string::npos) throw Refused("BadName");  // no line could say it
@@ -1047,5 +1281,6 @@ inline Engine::Module Engine::module(const std::string& name, std::uint32_t mask
 }
 
 using Module = Engine::Module;
+using Prepared = Engine::Prepared;
 
 }  // namespace bustlebrick

@@ -13,6 +13,7 @@
 
 using bustlebrick::Engine;
 using bustlebrick::Module;
+using bustlebrick::Prepared;
 using bustlebrick::Profile;
 using bustlebrick::Reply;
 
@@ -126,22 +127,32 @@ void tell_build(const std::string& name, const Reply& reply) {
 // A type that is printed as a number, or as a truth value.
 template <class R> using Shown = std::conditional_t<std::is_same_v<R, bool>, bool, std::int64_t>;
 
-// Prints what a call gave, or how it ended.
-template <class R, class... A>
-void tell(const std::string& what, Module& module, const std::string& declaration, A... values) {
+// Prints what a call gave, or how it ended, and where.
+template <class R, class F> void tell_call(const std::string& what, F call) {
     try {
         if constexpr (std::is_void_v<R>) {
-            module.call(declaration, values...);
+            call();
             std::cout << what << ": done\n";
         } else {
-            const Shown<R> result = module.call<R>(declaration, values...);
+            const Shown<R> result = call();
             std::cout << what << ": " << std::boolalpha << result << '\n';
         }
     } catch (const bustlebrick::ScriptFault& fault) {
         std::cout << what << ": fault " << fault.what() << '\n';
+        for (auto& line : fault.stack()) std::cout << "  in " << line << '\n';
     } catch (const bustlebrick::Refused& refusal) {
         std::cout << what << ": refused " << refusal.what() << '\n';
     }
+}
+
+template <class R, class... A>
+void tell(const std::string& what, Module& module, const std::string& declaration, A... values) {
+    tell_call<R>(what, [&] { return module.call<R>(declaration, values...); });
+}
+
+// The same of what was looked up.
+template <class R, class... A> void tell(const std::string& what, Prepared& prepared, A... values) {
+    tell_call<R>(what, [&] { return prepared.call<R>(values...); });
 }
 
 Module built(Engine& engine, const std::string& name, std::uint32_t mask, const std::string& script) {
@@ -162,13 +173,15 @@ void play(Engine& engine, World& world) {
     auto admin = built(engine, "admin", players | staff, admin_script);
     auto player = built(engine, "player", players, player_script("n"));
 
-    // Calls, with values of all kinds. A player's script reaches the staff's by an import that the host binds.
+    // Calls, with values of all kinds. A player's script reaches the staff's by an import that the host binds. What is
+    // called often is looked up once.
     tell<bool>("may enter", player, "bool may_enter()");
     tell<std::uint8_t>("luck of 6", player, "uint8 luck(uint8)", std::uint8_t{6});
     tell<int>("attack with 4, unbound", player, "int attack(int)", 4);
-    player.bind(0, admin, "int wound(int)");
-    tell<int>("attack with 4", player, "int attack(int)", 4);
-    tell<int>("attack with -1", player, "int attack(int)", -1);
+    player.bind("int wound(int)", admin);
+    auto attack = player.prepare("int attack(int)");
+    tell<int>("attack with 4", attack, 4);
+    tell<int>("attack with -1", attack, -1);
     tell<std::int64_t>("gold", player, "int64 gold()");
     tell<std::int64_t>("reward", admin, "int64 reward(int64, int64)", 1, 50);
     tell<std::int64_t>("gold", player, "int64 gold()");
@@ -178,13 +191,15 @@ void play(Engine& engine, World& world) {
     built(engine, "cheater", players, cheat).discard();
     tell<void>("spin", player, "void spin()");
 
-    // A new script for the player, while the admin's goes on with its troll. The import is to be bound anew.
+    // A new script for the player, while the admin's goes on with its troll. The import is to be bound anew, and what was
+    // looked up is to be prepared anew.
     player.section(player_script("n * 2"));
     tell_build("player", player.build());
-    player.bind(0, admin, "int wound(int)");
-    tell<int>("attack with 4", player, "int attack(int)", 4);
+    player.bind("int wound(int)", admin);
+    attack = player.prepare("int attack(int)");
+    tell<int>("attack with 4", attack, 4);
     tell<int>("armor", admin, "int armored(int)", 3);
-    tell<int>("attack with 4", player, "int attack(int)", 4);
+    tell<int>("attack with 4", attack, 4);
 
     // The host keeps an object as long as scripts hold it.
     tell<bool>("wins over 10", admin, "bool wins(int)", 10);

@@ -34,12 +34,15 @@ __version__ = "0.1.0"
 Asked = Callable[..., Any]
 LINE, FIELD, MASK, NUMBER = "[^\n]+", "[^ \n]+", "[0-9a-f]{8}", "[0-9]{1,10}"
 HEAD = re.compile("section [^ ]+ ([0-9]{1,10})")
+OF_SECTIONS = re.compile("(section|build|check|discard) ([^ \r\n]+)")
 LIKE_HEAD = re.compile("[^a-z]*section", re.ASCII | re.IGNORECASE)  # what follows such a line could be a script's text
 MOST_COMMAND = 16_777_216  # bytes
 MOST_WAIT = 2**31 - 1  # milliseconds, of one `poll`
 UNEXPECTED = 1  # the number of a script's fault where a callable raised something else than `Fault`
 KEPT = 4_294_967_280  # from here on, numbers of faults are the engine's own
 MOST = 2**63 - 1  # as a limit: none
+MOST_SOURCE = 200  # characters of a line
+CONTROL = re.compile("[\x00-\x1f\x7f]")
 UNCHANGED: Any = object()
 MADE_KEY = " made #"  # before the key, in an event
 
@@ -65,9 +68,11 @@ class Limits(NamedTuple):
 
 
 class Used(NamedTuple):
-    """What scripts hold: the slots of objects of their classes, and how many objects of the host."""
+    """What scripts hold: the slots of objects of their classes, and how many objects of the host; and the ticks that the
+    last build or call took."""
     slots: int
     objects: int
+    ticks: int = 0
 
 
 class Held(NamedTuple):
@@ -81,19 +86,49 @@ class Held(NamedTuple):
     limits: Limits
 
     def __str__(self) -> str:
-        parts = zip((self.events, *self.used), self.limits, Limits._fields)
+        parts = zip((self.events, self.used.slots, self.used.objects), self.limits, Limits._fields)
         return ", ".join(f"{it} {name}" if most is None else f"{it} of {most} {name}" for it, most, name in parts)
+
+
+# A place in the scripts of a build: sections count from 0, lines and columns from 1.
+Place = NamedTuple("Place", [("section", int), ("line", int), ("column", int)])
+
+
+class Frame(NamedTuple):
+    """A function of a script that was running when a call ended with a fault.
+
+    The name is ``f``, ``C::f`` of a method or constructor, or ``global g`` of the global whose initializer it is.
+    `declared` is the place of the name, and `place` that of the statement, where it is known. `source` is the line of
+    this place as it was when the call ended, or None where no `Module.section` added it. It has at most 200 characters:
+    of a longer line those from the place on, or the last.
+    """
+    module: str
+    name: str
+    declared: Place
+    place: Optional[Place]
+    source: Optional[str] = None
+
+    def __str__(self) -> str:
+        """As ``player attack 0:3:5: return 10 / n;``. Control characters of the source are spaces in it."""
+        at = "{} {} {}:{}:{}".format(self.module, self.name, *(self.place or self.declared))
+        shown = CONTROL.sub(" ", self.source or "").strip(" ")
+        return f"{at}: {shown}" if shown else at
 
 
 class ScriptFault(Exception):
     """A call ended with a fault, as ``Host 7``. The cause is what a callable raised, if one did.
 
-    The text is the fault. That of ``Memory``, which comes of a limit too, goes on with what there was and the limits.
+    The text is the fault. That of ``Memory``, which comes of a limit too, goes on with what there was and the limits. The
+    trace is what was running, innermost first, and empty where there was no memory to keep it.
     """
 
-    def __init__(self, fault: str, held: Optional[Held] = None) -> None:
+    def __init__(self, fault: str, held: Optional[Held] = None, trace: Sequence[Frame] = ()) -> None:
         super().__init__(f"{fault}: {held}" if held else fault)
-        self.fault, self.held = fault, held
+        self.fault, self.held, self.trace = fault, held, list(trace)
+
+    def stack(self) -> List[str]:
+        """A line for each frame of the trace, as ``player attack 0:3:5: return 10 / n;``."""
+        return list(map(str, self.trace))
 
 
 class EngineLost(Exception):
@@ -106,10 +141,6 @@ class EngineLost(Exception):
 
 class CommandTimeout(EngineLost):
     """A command took longer than the timeout, and the engine was killed."""
-
-
-# A place in the scripts of a build: sections count from 0, lines and columns from 1.
-Place = NamedTuple("Place", [("section", int), ("line", int), ("column", int)])
 
 
 class BuildError(NamedTuple):
@@ -510,6 +541,30 @@ class Type(NamedTuple):
         self.profile.add(f"posted {self.driver}", declaration, call=call)
 
 
+class Sections:
+    """The texts of a module's sections: those that wait, and those of its last build. One that a line added is None."""
+
+    def __init__(self) -> None:
+        self.waiting: List[Optional[str]] = []
+        self.built: List[Optional[str]] = []
+
+    def follow(self, word: str, outcome: str) -> None:
+        """Follows a command of that word. What has errors is not kept, since no fault comes to it."""
+        if word == "section" and outcome == "ok":
+            self.waiting.append(None)
+        elif word == "build" and outcome.startswith(("ok", "refused InitFailed ")):
+            self.built, self.waiting = self.waiting, []
+        elif word == "build" and outcome in ("refused BuildErrors", "refused BuildMemory"):
+            self.built, self.waiting = [], []
+        elif word == "check" and outcome == "refused BuildErrors":
+            self.waiting = []
+
+    def lines(self, number: int) -> List[str]:
+        """The lines of a section of the last build, and none of one whose text is unknown."""
+        text = self.built[number] if number < len(self.built) else None
+        return [] if text is None else text.split("\n")
+
+
 class Engine(AbstractContextManager["Engine"]):
     """An engine with a profile. It is a process of `program`, the path of ``asremote``; or, where `library` is the path of
     a libbustlebrick.so that is there, it is in this process.
@@ -540,7 +595,9 @@ class Engine(AbstractContextManager["Engine"]):
         self.objects: Dict[int, Any] = {}  # what scripts hold, by key
         self.events: List[str] = []  # of the last command: what scripts asked, and which objects ended
         self._keys: Dict[int, Dict[int, None]] = {}  # of each object that scripts hold, by its id
+        self._sections: Dict[str, Sections] = {}  # of each module, by its name
         self._made = 0
+        self._starts = getattr(self, "_starts", 0) + 1  # numbers of prepared calls are those of one start
         self._cause: Optional[Exception] = None
         limits = [_limit(name, most) for name, most in self._limits._asdict().items()]
         lines = [line for entry in self.profile.entries for line in (f"mask {entry.mask:08x}", entry.line)] + limits
@@ -618,13 +675,29 @@ class Engine(AbstractContextManager["Engine"]):
         return limits
 
     def used(self) -> Used:
-        """What scripts hold."""
+        """What scripts hold, and the ticks that the last build or call took."""
+        told = dict(line.split(" ", 1) for line in self.told("used"))
+        return Used(*(int(told[name]) for name in Used._fields))
+
+    def trace(self) -> List[Frame]:
+        """What was running when the last build or call ended with a fault, innermost first. None after any other end."""
+        lines = self.told("trace")
+
+        @lru_cache(None)  # so that each section is split once
+        def lines_of(module: str, section: int) -> List[str]:
+            return self._sections[module].lines(section) if module in self._sections else []
+
+        return [it._replace(source=_source(it, lines_of)) for it in map(_frame, lines)]
+
+    def told(self, text: str) -> List[str]:
+        """The lines that answer a question of one line, as ``used``, without ``ok``. It is no command: the last one stays
+        that before it. Raises `Refused` where there is no answer."""
         lines: List[str] = []
-        self._tell("used\n", lines.append)
+        self._tell(f"{_checked(text)}\n", lines.append)
+        self._note(text, lines[-1])
         if lines[-1] != "ok":
             raise Refused(lines[-1].partition(" ")[2])
-        told = dict(line.split(" ", 1) for line in lines[:-1])
-        return Used(int(told["slots"]), int(told["objects"]))
+        return lines[:-1]
 
     def module(self, name: str, mask: int) -> Module:
         """Makes a module, without scripts."""
@@ -636,7 +709,8 @@ class Engine(AbstractContextManager["Engine"]):
         reply = self.command(text)
         word, _, rest = reply.outcome.partition(" ")
         if word == "fault":
-            raise ScriptFault(rest, self._held(reply) if rest == "Memory" else None) from reply.cause
+            trace, held = self.trace(), self._held(reply) if rest == "Memory" else None
+            raise ScriptFault(rest, held, trace) from reply.cause
         if word != "ok":
             raise Refused(rest)
         return rest
@@ -666,6 +740,7 @@ class Engine(AbstractContextManager["Engine"]):
                 denials.append(Denial(_place(at), self.profile.entries[int(entry)], int(mask, 16)))
 
         self._tell(text, hear)
+        self._note(text, outcome)
         if self._made > made:
             self._end_unlisted(made + 1)
         return Reply(outcome, self.events, errors, denials, self._cause)
@@ -677,9 +752,22 @@ class Engine(AbstractContextManager["Engine"]):
             if self._talk.is_closed:
                 self._give_up()
 
+    def _note(self, text: str, outcome: str) -> None:
+        """Notes what a command made of the sections of its module."""
+        found = OF_SECTIONS.match(text)
+        if not found:
+            return
+        word, name = found.groups()
+        if word == "discard" and outcome == "ok":
+            self._sections.pop(name, None)
+        elif word == "section" and outcome == "ok":
+            self._sections.setdefault(name, Sections()).follow(word, outcome)
+        elif name in self._sections:
+            self._sections[name].follow(word, outcome)
+
     def _give_up(self) -> None:
-        """Gives up all objects, of an engine that has ended."""
-        self.objects, self._keys = {}, {}
+        """Gives up all objects and texts, of an engine that has ended."""
+        self.objects, self._keys, self._sections = {}, {}, {}
 
     def _held(self, reply: Reply) -> Held:
         used = self.used()
@@ -808,16 +896,45 @@ class Module(NamedTuple):
         self.engine.done(f"mask {self.name} {_checked(f'{mask:08x}', MASK)}")
 
     def section(self, text: str) -> None:
-        """Adds a section of script for the next build."""
-        text = text if text.endswith("\n") else f"{text}\n"
-        self.engine.done(f"section {self.name} {text.count(chr(10))}\n{text}")
+        """Adds a section of script for the next build. The text is kept for the traces of faults."""
+        whole = text if text.endswith("\n") else f"{text}\n"
+        self.engine.done(f"section {self.name} {whole.count(chr(10))}\n{whole}")
+        self.engine._sections[self.name].waiting[-1] = text
 
     def build(self) -> Reply:
         """Builds the sections that wait. The reply says whether that was done, and the errors and denials if not."""
         return self.engine.command(f"build {self.name}")
 
-    def bind(self, number: int, exporter: Module, declaration: str) -> None:
-        """Binds the import of that number to a function of another module."""
+    def check(self) -> Reply:
+        """Says what a build of the sections that wait would say, and builds nothing. Sections with errors wait no more, as
+        after a build; others wait still, and a build can follow."""
+        return self.engine.command(f"check {self.name}")
+
+    def functions(self) -> List[str]:
+        """The declarations of the functions that it was built with, in the order of its text."""
+        return self._listed("function ")
+
+    def globals(self) -> List[str]:
+        """The declarations of its global variables."""
+        return self._listed("global ")
+
+    def imports(self) -> List[str]:
+        """The declarations of its imports: the place of one is its number."""
+        return [line.partition(" ")[2] for line in self._listed("import ")]
+
+    def bind(self, imported: Union[int, str], exporter: Module, declaration: Optional[str] = None) -> None:
+        """Binds an import, of this number or this declaration, to a function of another module: to that of the same
+        declaration, if no other is named."""
+        if isinstance(imported, str):
+            wanted = _plain(imported)
+            number = next((at for at, it in enumerate(self.imports()) if _plain(it) == wanted), None)
+            if number is None:
+                raise Refused("NoImport")
+            declaration = imported if declaration is None else declaration
+        else:
+            number = imported
+            if declaration is None:
+                raise ValueError("an import that is named by its number wants the declaration of a function")
         self.engine.done(f"bind {self.name} {_checked(str(number), NUMBER)} {exporter.name} {_checked(declaration)}")
 
     def unbind(self, number: int) -> None:
@@ -829,9 +946,35 @@ class Module(NamedTuple):
         given = map(_written, values, _types(declaration)[1:] + ("",) * len(values))
         return _value(self.engine.done(f"call {self.name} ({','.join(given)}) {_checked(declaration)}"))
 
+    def prepare(self, declaration: str) -> Prepared:
+        """Looks a function up, to be called again and again without its text."""
+        lines = self.engine.told(f"prepare {self.name} {_checked(declaration)}")
+        number = int(lines[0].partition(" ")[2])
+        return Prepared(self.engine, self.engine._starts, number, _types(declaration)[1:])
+
+    def _listed(self, word: str) -> List[str]:
+        lines = self.engine.told(f"list {self.name}")
+        return [line[len(word) :] for line in lines if line.startswith(word)]
+
     def discard(self) -> None:
         """Ends the module."""
         self.engine.done(f"discard {self.name}")
+
+
+class Prepared(NamedTuple):
+    """A function of a module's script that was looked up (`Module.prepare`). It is called with its values. `Refused` as
+    ``NoFunction`` once its module was built again or discarded, or the engine restarted: then it is to be prepared anew."""
+    engine: Engine
+    start: int
+    number: int
+    types: Tuple[str, ...]
+
+    def __call__(self, *values: int) -> Any:
+        """Calls it, as `Module.call` does."""
+        if self.start != self.engine._starts:
+            raise Refused("NoFunction")
+        given = map(_written, values, self.types + ("",) * len(values))
+        return _value(self.engine.done(f"run {self.number} ({','.join(given)})"))
 
 
 def _fit(limits: Limits, alive: int) -> Limits:
@@ -874,6 +1017,38 @@ def _command(text: str) -> str:
 @lru_cache(1024)
 def _place(text: str) -> Place:
     return Place(*map(int, text.split(":")))
+
+
+def _frame(line: str) -> Frame:
+    """What a line ``at MODULE NAME PLACE PLACE`` says. The name of a global's initializer has a space in it."""
+    _, module, rest = line.split(" ", 2)
+    name, declared, place = rest.rsplit(" ", 2)
+    return Frame(module, name, _place(declared), None if place == "-" else _place(place))
+
+
+def _source(frame: Frame, lines_of: Callable[[str, int], List[str]]) -> Optional[str]:
+    """The line of a frame's place. Columns count bytes."""
+    section, line, column = frame.place or frame.declared
+    lines = lines_of(frame.module, section)
+    if not 1 <= line <= len(lines):
+        return None
+    text = lines[line - 1]
+    text = text[:-1] if text.endswith("\r") else text
+    before = len(text.encode()[: column - 1].decode(errors="ignore"))
+    first = min(before, max(len(text) - MOST_SOURCE, 0))
+    return text[first : first + MOST_SOURCE]
+
+
+def _plain(declaration: str) -> List[str]:
+    """The words and signs of a declaration without names of its parameters."""
+    tokens = re.findall(r"\w+|[^\w\s]", re.sub(r"/\*.*?\*/|//.*", " ", declaration))
+    plain: List[str] = []
+    types = 0  # that the parameter has so far: a second word is its name
+    for it in tokens:
+        types = 0 if it in "(," else types + (it.isidentifier() and it not in ("const", "in", "out", "inout"))
+        if "(" not in plain or types < 2 or not it.isidentifier():
+            plain.append(it)
+    return plain
 
 
 @lru_cache(1024)

@@ -128,12 +128,14 @@ def tell_build(name: str, reply: Reply) -> None:
 
 
 def tell(what: str, call: Callable[[], Any]) -> None:
-    """Prints what a call gave, or how it ended."""
+    """Prints what a call gave, or how it ended, and where."""
     try:
         value = call()
         print(f"{what}: {str(value).lower() if isinstance(value, bool) else value}")
     except ScriptFault as fault:
         print(f"{what}: fault {fault}")
+        for line in fault.stack():
+            print(f"  in {line}")
     except Refused as refusal:
         print(f"{what}: refused {refusal}")
 
@@ -157,13 +159,15 @@ def main() -> None:
         player.section(PLAYER)
         tell_build("player", player.build())
 
-        # Calls, with values of all kinds. A player's script reaches the staff's by an import that the host binds.
+        # Calls, with values of all kinds. A player's script reaches the staff's by an import that the host binds. What is
+        # called often is looked up once.
         tell("may enter", lambda: player.call("bool may_enter()"))
         tell("luck of 6", lambda: player.call("uint8 luck(uint8)", 6))
         tell("attack with 4, unbound", lambda: player.call("int attack(int)", 4))
-        player.bind(0, admin, "int wound(int)")
-        tell("attack with 4", lambda: player.call("int attack(int)", 4))
-        tell("attack with -1", lambda: player.call("int attack(int)", -1))
+        player.bind("int wound(int)", admin)
+        attack = player.prepare("int attack(int)")
+        tell("attack with 4", lambda: attack(4))
+        tell("attack with -1", lambda: attack(-1))
         tell("gold", lambda: player.call("int64 gold()"))
         tell("reward", lambda: admin.call("int64 reward(int64, int64)", 1, 50))
         tell("gold", lambda: player.call("int64 gold()"))
@@ -176,13 +180,15 @@ def main() -> None:
         cheater.discard()
         tell("spin", lambda: player.call("void spin()"))
 
-        # A new script for the player, while the admin's goes on with its troll. The import is to be bound anew.
+        # A new script for the player, while the admin's goes on with its troll. The import is to be bound anew, and what
+        # was looked up is to be prepared anew.
         player.section(STRONGER_PLAYER)
         tell_build("player", player.build())
-        player.bind(0, admin, "int wound(int)")
-        tell("attack with 4", lambda: player.call("int attack(int)", 4))
+        player.bind("int wound(int)", admin)
+        stronger_attack = player.prepare("int attack(int)")
+        tell("attack with 4", lambda: stronger_attack(4))
         tell("armor", lambda: admin.call("int armored(int)", 3))
-        tell("attack with 4", lambda: player.call("int attack(int)", 4))
+        tell("attack with 4", lambda: stronger_attack(4))
 
         # The host keeps an object as long as scripts hold it.
         tell("wins over 10", lambda: admin.call("bool wins(int)", 10))

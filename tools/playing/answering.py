@@ -4,7 +4,6 @@ import re
 from typing import Any, Dict, List
 
 from bustlebrick import UNSIGNED
-from playing.answers import Replay
 from playing.profiles import ASKED, FORMS, plain, result_of
 from playing.sample_drivers import Drivers
 
@@ -57,20 +56,6 @@ class Plain:
 
     def replied(self, lines: List[str]) -> None:
         """A command has ended. There is nothing to let go of."""
-
-
-class Again:
-    """Answers as was answered before."""
-
-    def __init__(self, replay: Replay) -> None:
-        self._replay = replay
-
-    def answer(self, line: str) -> str:
-        """The answer to a host call. What is posted has none."""
-        return "" if line.startswith("post ") else next(self._replay.left, "fault 1")
-
-    def replied(self, lines: List[str]) -> None:
-        """A command has ended."""
 
 
 def _plain(result: str) -> str:

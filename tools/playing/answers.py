@@ -2,7 +2,7 @@
 
 import os
 import traceback
-from typing import Any, Callable, Dict, Iterator, List, NamedTuple, Optional, Tuple
+from typing import Any, Callable, Dict, List, NamedTuple, Optional, Tuple
 
 from bustlebrick import Fault
 from playing.profiles import Registered
@@ -155,13 +155,3 @@ def _default(kind: str, result: str) -> Any:
 
 def _fault(error: BaseException) -> str:
     return f"fault {error.number}" if isinstance(error, Fault) else type(error).__name__
-
-
-class Replay:
-    """Answers as was answered before."""
-
-    def __init__(self) -> None:
-        self.left: Iterator[Any] = iter(())
-
-    def answering(self, kind: str, registered: Registered) -> Callable[..., Any]:
-        return lambda *values: next(self.left, Answered(None, Fault(1))).again()

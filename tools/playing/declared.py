@@ -16,6 +16,11 @@ class Declared(NamedTuple):
     declaration: str
     parameters: List[str]
 
+    @property
+    def is_callable(self) -> bool:
+        """Whether it can be called from outside."""
+        return not re.search("[@&]", self.declaration)
+
 
 class Imported(NamedTuple):
     """A function that a script imports, and the text after `from`."""
@@ -52,6 +57,13 @@ def _declared(result: str, name: str, listed: str) -> Declared:
     parameters = [" ".join(it.split()) for it in listed.split(",") if it.strip() not in ("", "void")]
     result = re.sub(r"\s+(?=@)", "", " ".join(result.split()))
     return Declared(name, f"{result} {name}({', '.join(parameters)})", parameters)
+
+
+def listed(declaration: str) -> Declared:
+    """A function of which the engine gave the declaration."""
+    front, _, inside = declaration.partition("(")
+    parameters = [it.strip() for it in inside.rpartition(")")[0].split(",") if it.strip() not in ("", "void")]
+    return Declared(re.findall(r"\w+", front)[-1], declaration, parameters)
 
 
 def imports(texts: Iterable[str]) -> List[Imported]:

@@ -30,6 +30,15 @@ class Section:
         found = MARKED.match(line[place.column - 1 :].decode("utf-8", "replace"))
         return start, start + (_units(found[0].encode()) if found else 0)
 
+    def within(self, place: Place) -> Tuple[int, int]:
+        """How much of its line stands in front of the word at a place, and the word's length."""
+        start, end = self.marked(place)
+        return start - self._starts[min(place.line, len(self._lines)) - 1], end - start
+
+    def line(self, number: int) -> str:
+        """A line without its end. One that isn't there is empty."""
+        return self._lines[number - 1].decode().rstrip("\r") if 0 < number <= len(self._lines) else ""
+
 
 def _units(data: bytes) -> int:
     return len(data.decode("utf-8", "ignore").encode("utf-16-le")) // 2
@@ -38,6 +47,8 @@ def _units(data: bytes) -> int:
 def explained(profile: Profile, mask: int, texts: Sequence[str], lines: Sequence[str]) -> List[Dict[str, Any]]:
     """What the lines of a build's reply say of its sections."""
     errors = [_error(it) for it in lines if it.startswith("error ")]
+    if not errors:
+        return []  # what the module sees is much work to find in a long profile
     denials = [_denial(profile, it) for it in lines if it.startswith("denied ")]
     sources = [Source(f"section {number}", it.encode()) for number, it in enumerate(texts)]
     known, sections = Known(profiles.seen(profile, mask), sources, denials), [Section(it) for it in texts]

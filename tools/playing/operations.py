@@ -50,7 +50,7 @@ class Operations:
             "begin": self._begin, "sample": self._sample, "open": self._open, "close": self._close, "alive": self._alive,
             "module": self._module, "mask": self._mask, "discard": self._discard, "budget": self._budget,
             "build": self._build, "bind": self._bind, "unbind": self._unbind, "call": self._call,
-            "check": self._check, "ticks": self._ticks, "share": self._share,
+            "check": self._check, "share": self._share,
         }
 
     def do(self, name: str, given: Fields) -> Fields:
@@ -105,7 +105,7 @@ class Operations:
             while len(self._pages) > MOST_PAGES:
                 oldest = min(self._pages, key=lambda it: self._pages[it].heard)
                 self._pages.pop(oldest).close()
-        steps = [{"text": it.text, "lines": it.lines} for it in page.log]
+        steps = [_step(page, number) for number in range(len(page.log))]
         return {"page": number, "note": note, **_opened(page, written.drafts), **_shown(page), "steps": steps}
 
     def _page(self, given: Fields) -> Page:
@@ -135,7 +135,8 @@ class Operations:
         with page.lock:
             try:
                 for text in texts:
-                    steps.append({"text": text, "lines": page.tell(text)})
+                    page.tell(text)
+                    steps.append(_step(page, len(page.log) - 1))
             except EngineLost as lost:
                 problem = {"problem": f"{lost}. It was ended, and another one did all again that came before"}
             return {"steps": steps, **_shown(page), **problem}
@@ -161,12 +162,7 @@ class Operations:
 
     def _call(self, given: Fields) -> Fields:
         values = ",".join(values_in(given))
-        said = self._told(given, f"call {name_in(given)} ({values}) {declaration_in(given)}")
-        if "problem" in said:
-            return said
-        word, _, rest = said["steps"][-1]["lines"][-1].partition(" ")
-        sentences = {"fault": fault_sentence, "refused": refusal_sentence}
-        return {**said, "means": sentences[word](rest) if word in sentences else ""}
+        return self._told(given, f"call {name_in(given)} ({values}) {declaration_in(given)}")
 
     def _build(self, given: Fields) -> Fields:
         name, texts, page = name_in(given), sections_in(given), self._page(given)
@@ -175,37 +171,20 @@ class Operations:
         said = self._told(given, *anew, *(commands.section(name, it) for it in texts), f"build {name}")
         if "problem" in said:
             return said
-        return {**said, "problems": _problems(page, name), "means": _meaning(said["steps"][-1]["lines"][-1])}
+        return {**said, "problems": _problems(page, name)}
 
-    # ---- what engines of their own find out
+    # ---- what is no command
 
     def _check(self, given: Fields) -> Fields:
-        """Builds sections in an engine that is thrown away."""
-        name, mask, texts, page = name_in(given), mask_in(given), sections_in(given), self._page(given)
-        told = [f"budget {page.budget}", f"module {name} {mask}", *(commands.section(name, it) for it in texts)]
-        with page.checking:
-            process = page.process()
-            try:
-                for text in told:
-                    process.command(text)
-                lines = process.command(f"build {name}").lines
-            except EngineLost as lost:
-                return {"problem": f"{lost}. The check was ended, and the page's engine runs on"}
-            finally:
-                page.end(process)
-        shown = explained(page.read.profile, int(mask, 16), texts, lines)
-        return {"problems": shown, "errors": _count(lines), "outcome": lines[-1], "means": _meaning(lines[-1])}
-
-    def _ticks(self, given: Fields) -> Fields:
-        """The ticks of the last command, as far as they can be found in some seconds."""
-        page = self._page(given)
+        """Has sections checked as they are, while the program runs on that the module was built with."""
+        name, texts, page = name_in(given), sections_in(given), self._page(given)
         with page.lock:
-            log, modules, budget = list(page.log), list(page.modules), page.budget
-        if log[-1].lines[-1] == "fault Budget":
-            return {"ticks": budget, "exact": True}
-        with page.counting:
-            low, high = page.ticks(log, modules, budget)
-        return {"ticks": high, "exact": True} if low + 1 == high else {"ticks": low, "exact": False}
+            try:
+                lines = page.check(name, texts)
+            except EngineLost as lost:
+                return {"problem": f"{lost}. It was ended, and another one did all again that was done before"}
+            problems = explained(page.read.profile, page.modules[name].mask, texts, lines)
+        return {"problems": problems, "outcome": lines[-1], "means": _meaning(lines[-1])}
 
     def _share(self, given: Fields) -> Fields:
         page, drafts = self._page(given), given.get("drafts", {})
@@ -233,6 +212,13 @@ def _redone(page: Page, texts: List[str]) -> str:
     except (EngineLost, NotTaken) as lost:
         return f"The session ends before '{text[:60]}': {lost}"
     return ""
+
+
+def _step(page: Page, number: int) -> Fields:
+    """A command that was done, with the trace of its fault."""
+    told = page.log[number]
+    means = _meaning(told.lines[-1])
+    return {"text": told.text, "lines": told.lines, "means": means, "ticks": told.ticks, "trace": page.traces.get(number, [])}
 
 
 def _opened(page: Page, drafts: Dict[str, List[str]]) -> Fields:
@@ -266,13 +252,10 @@ def _problems(page: Page, name: str) -> List[Fields]:
     return explained(page.read.profile, module.tried_mask, module.tried, module.said) if module else []
 
 
-def _count(lines: List[str]) -> int:
-    return sum(it.startswith("error ") for it in lines)
-
-
 def _meaning(outcome: str) -> str:
     word, _, rest = outcome.partition(" ")
-    return refusal_sentence(rest) if word == "refused" else ""
+    sentences = {"fault": fault_sentence, "refused": refusal_sentence}
+    return sentences[word](rest) if word in sentences else ""
 
 
 def _file(name: str) -> str:

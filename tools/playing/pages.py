@@ -7,16 +7,19 @@ from typing import Any, Dict, List, NamedTuple, Optional, Sequence, Tuple
 
 from bustlebrick import EngineLost
 from playing import commands, profiles
-from playing.answering import ANSWERING, DRIVERS_OF_ASRUN, LIKE_ASRUN, PLAIN, Again
-from playing.declared import Declared, Imported, functions, imports
+from playing.answering import ANSWERING, DRIVERS_OF_ASRUN, LIKE_ASRUN, PLAIN
+from playing.declared import Declared, Imported, imports, listed
 from playing.process import Process, with_limits
 from playing.sentences import refusal_sentence
-from playing.ticks import Counter
+from playing.traces import frames, shown
 
 BUDGET = 1_000_000  # ticks of a command, as asrun begins
 MOST_SESSION = 1 << 24  # bytes, of which asrun takes no more
 SECONDS_TO_REDO = 30.0
 MOST_DRIVERS = 64
+MOST_WAITING = 64  # sections of a module
+MOST_TRACES = 30  # that are kept
+NO_SCRIPT = ")"  # a section with an error
 HOST = re.compile(r"host ([^ ]+) (\d+) (\d+) ([^ ]+) (\([^ ]*\)) (.+)")
 END = re.compile(r"end (\d+) #(\d+)")
 
@@ -34,10 +37,10 @@ class NotTaken(Exception):
 
 
 class Told(NamedTuple):
-    """A command that was done, how its host calls were answered, and the lines of its reply."""
+    """A command that was done, the lines of its reply, and the ticks that it took."""
     text: str
-    answers: List[str]
     lines: List[str]
+    ticks: int
 
 
 class Module:
@@ -54,17 +57,21 @@ class Module:
         self.imports: List[Imported] = []
         self.bound: Dict[int, Tuple[str, str]] = {}
 
-    def build(self, lines: Sequence[str]) -> None:
-        """A build has had this reply."""
+    def build(self, lines: Sequence[str], has: Sequence[str]) -> None:
+        """A build has had this reply, and left a program that has what these lines list."""
         self.tried, self.waiting, self.tried_mask, self.said = self.waiting, [], self.mask, lines
         done = lines[-1] == "ok"
         self.built_mask = self.mask if done else None
-        self.functions, self.imports = (functions(self.tried), imports(self.tried)) if done else ([], [])
+        self.functions = [listed(it.partition(" ")[2]) for it in has if it.startswith("function ")]
+        taken = [it.split(" ", 2)[2] for it in has if it.startswith("import ")]
+        found = imports(self.tried) if taken else []
+        exporters = [it.exporter for it in found] if len(found) == len(taken) else [""] * len(taken)
+        self.imports = list(map(Imported, taken, exporters))
 
     def shown(self, name: str) -> Dict[str, Any]:
         """What a page shows of it, but for the texts of its sections."""
         taken = [{**it._asdict(), "bound": self.bound.get(number)} for number, it in enumerate(self.imports)]
-        declared = [it._asdict() for it in self.functions]
+        declared = [{**it._asdict(), "isCallable": it.is_callable} for it in self.functions]
         return {"name": name, "mask": self.mask, "builtMask": self.built_mask, "imports": taken, "functions": declared}
 
 
@@ -80,15 +87,15 @@ class Page:
 
     def __init__(self, program: str, profile: str, answers: str, timeout: float) -> None:
         self.program, self.timeout, self.profile = program, timeout, with_limits(profile)
-        self.lock, self.checking, self.counting = threading.Lock(), threading.Lock(), threading.Lock()
+        self.lock = threading.Lock()
         self.is_closed = False
         self.heard = time.monotonic()
         self.answers = answers or LIKE_ASRUN
         self.log: List[Told] = []
+        self.traces: Dict[int, List[Dict[str, object]]] = {}  # of the last commands with faults, by their places in the log
         self.modules: Dict[str, Module] = {}
         self.objects: Dict[Tuple[int, int], Thing] = {}
         self.budget = BUDGET
-        self._counter: Optional[Counter] = None
         self._bytes = 0
         self._processes: List[Process] = []
         if self.answers not in ANSWERING:
@@ -119,23 +126,15 @@ class Page:
         except EngineLost as lost:
             raise refused_start(list(lost.said)) from lost
 
-    def _answering(self) -> Any:
-        return ANSWERING[self.answers](self.profile)
-
-    def process(self, answering: Any = None) -> Process:
-        """Another engine with the same profile. Where nothing is given that answers its host calls, that begins anew."""
-        fresh = self._answering()
+    def process(self) -> Process:
+        """Another engine with the same profile. What answers its host calls begins anew."""
+        answering = ANSWERING[self.answers](self.profile)
         drivers = DRIVERS_OF_ASRUN if self.answers == LIKE_ASRUN else MOST_DRIVERS
-        process = Process(self.program, fresh.profile, drivers, answering or fresh, self.timeout)
+        process = Process(self.program, answering.profile, drivers, answering, self.timeout)
         self._processes.append(process)
         if self.is_closed:
             self.close()
         return process
-
-    def end(self, process: Process) -> None:
-        """Ends another engine."""
-        process.kill()
-        self._processes.remove(process)
 
     def tell(self, text: str) -> List[str]:
         """Does a command, and gives the lines of its reply."""
@@ -145,20 +144,71 @@ class Page:
             raise NotTaken("the session has as many bytes as asrun takes: begin anew")
         try:
             lines = self._process.command(text).lines
+            ticks, trace, has = self._asked(text, lines[-1] if lines else "")
         except EngineLost:
             self._revive()
             raise
         if lines[-1:] == ["refused BadLine"]:
             raise NotTaken(f"no engine takes this line: {text[:80]}")
-        self.log.append(Told(text, self._process.given, lines))
+        self.log.append(Told(text, lines, ticks))
         self._bytes += len(text.encode()) + 1
-        self._heed(text, lines)
+        self._heed(text, lines, has)
+        if trace:
+            self._keep(shown(frames(trace), lambda name: self.modules[name].tried if name in self.modules else []))
         return lines
+
+    def _asked(self, text: str, outcome: str) -> Tuple[int, List[str], List[str]]:
+        """The ticks of the last command, the trace of its fault, and what the module has that it built."""
+        word, fields = commands.fields_of(text)
+        if word not in ("build", "call"):
+            return 0, [], []
+        is_fault = outcome.startswith(("fault ", "refused InitFailed"))
+        ticks = int(dict(it.split(" ") for it in self._process.told("used"))["ticks"])
+        trace = self._process.told("trace") if is_fault else []
+        return ticks, trace, self._process.told(f"list {fields[0]}") if word == "build" and outcome == "ok" else []
+
+    def _keep(self, trace: List[Dict[str, object]]) -> None:
+        self.traces[len(self.log) - 1] = trace
+        if len(self.traces) > MOST_TRACES:
+            del self.traces[min(self.traces)]
+
+    def check(self, name: str, texts: Sequence[str]) -> List[str]:
+        """What a build of these sections would say. None of them wait afterwards."""
+        if name not in self.modules:
+            raise NotTaken("there is no module of this name")
+        if max(len(texts), len(self.modules[name].waiting)) >= MOST_WAITING:
+            raise NotTaken(f"a module with {MOST_WAITING} sections can be built, and not be checked")
+        try:
+            if self.modules[name].waiting:
+                self._drop_waiting(name)
+            lines = self._checked([*(commands.section(name, it) for it in texts), f"check {name}"])
+            if lines[-1] != "refused BuildErrors":
+                self._drop_waiting(name)
+        except EngineLost:
+            self._revive()
+            raise
+        return lines
+
+    def _checked(self, told: Sequence[str]) -> List[str]:
+        """What the last of some commands says, or the first that is refused."""
+        lines: List[str] = []
+        for text in told:
+            lines = self._process.command(text).lines
+            if lines[-1] != "ok":
+                break
+        return lines
+
+    def _drop_waiting(self, name: str) -> None:
+        """Has no section of a module wait: they go together with one that has an error."""
+        self._process.command(commands.section(name, NO_SCRIPT))
+        if self._process.command(f"check {name}").outcome != "refused BuildErrors":
+            raise EngineLost("the engine did not let go of what was checked")
 
     def _revive(self) -> None:
         """Has another engine do again what was done."""
         if self.is_closed:
             return
+        self._process.kill()
         self._processes.remove(self._process)
         until = time.monotonic() + SECONDS_TO_REDO
         try:
@@ -171,16 +221,10 @@ class Page:
             self.close()
             raise NotTaken(f"the engine ended, and could not be begun anew: {lost}") from lost
 
-    def ticks(self, log: List[Told], modules: List[str], budget: int) -> Tuple[int, int]:
-        """Ticks that don't suffice for the last command of a log, and ticks that do."""
-        if self._counter is None:
-            self._counter = Counter(lambda replay: self.process(Again(replay)))
-        return self._counter.ticks(log, modules, budget)
-
     def used(self) -> Dict[str, int]:
         """How many slots and objects scripts hold."""
-        lines = self._process.command("used").lines
-        return {name: int(number) for name, number in (it.split(" ") for it in lines[:-1])}
+        told = dict(it.split(" ") for it in self._process.told("used"))
+        return {name: int(told[name]) for name in ("slots", "objects")}
 
     def close(self) -> None:
         """Ends its engines, also while other threads wait for replies."""
@@ -190,13 +234,13 @@ class Page:
 
     # ---- what replies say of modules and objects
 
-    def _heed(self, text: str, lines: Sequence[str]) -> None:
+    def _heed(self, text: str, lines: Sequence[str], has: Sequence[str]) -> None:
         word, fields = commands.fields_of(text)
         done = lines[-1].partition(" ")[0] == "ok"
         if word == "budget":
             self.budget = int(fields[0])
         elif word == "build":
-            self._heed_build(fields[0], lines)
+            self._heed_build(fields[0], lines, has)
         elif word == "module" and done:
             self.modules[fields[0]] = Module(int(fields[1], 16))
         elif fields[0] in self.modules and done:
@@ -204,12 +248,12 @@ class Page:
         for line in lines:
             self._heed_event(line)
 
-    def _heed_build(self, name: str, lines: Sequence[str]) -> None:
+    def _heed_build(self, name: str, lines: Sequence[str], has: Sequence[str]) -> None:
         module = self.modules.get(name)
         if not module or lines[-1] in ("refused NoModule", "refused BadBudget", "refused Memory"):
             return
         self._forget_bindings(name)
-        module.build(lines)
+        module.build(lines, has)
 
     def _heed_done(self, word: str, fields: Tuple[str, ...], text: str) -> None:
         module = self.modules[fields[0]]

@@ -8,6 +8,7 @@ from typing import Any, Dict, Iterator
 from playing.sources import printable
 
 RED, GREEN, YELLOW, BLUE, BOLD, GREY = "31", "32", "33", "34", "1", "90"
+MOST_LEVELS = 20  # of a stack
 Fields = Dict[str, Any]
 
 
@@ -64,15 +65,27 @@ class Text:
 
     def _fault(self, it: Fields) -> Iterator[str]:
         yield f"{it['call']}: {self._in(RED, 'fault ' + it['fault'])}: {it['message']}{_ticks(it)}"
+        yield from self._besides(it)
+
+    def _refused(self, it: Fields) -> Iterator[str]:
+        yield f"{it['what']}: {self._in(RED, 'refused')}: {it['message']} [{it['refusal']}]"
+        yield from self._besides(it)
+
+    def _besides(self, it: Fields) -> Iterator[str]:
+        """Where a fault stood, and why it came."""
+        for level in it["trace"][:MOST_LEVELS]:
+            yield from self._level(level)
+        if len(it["trace"]) > MOST_LEVELS:
+            yield f"      and {len(it['trace']) - MOST_LEVELS} more"
         for key in ("cause", "held"):
             if it.get(key):
                 yield f"      {self._in(BLUE, key)}: {it[key]}"
 
-    def _refused(self, it: Fields) -> Iterator[str]:
-        yield f"{it['what']}: {self._in(RED, 'refused')}: {it['message']} [{it['refusal']}]"
-        for key in ("cause", "held"):
-            if it.get(key):
-                yield f"      {self._in(BLUE, key)}: {it[key]}"
+    def _level(self, it: Fields) -> Iterator[str]:
+        place = f"{printable(it['file'])}:{it['line']}:{it['column']}"
+        times = f", {it['times']} times" if it["times"] > 1 else ""
+        where = "" if it["known"] else ", declared"
+        yield f"      {self._in(BLUE, 'at')} {it['module']} {it['name']}{times}{where} {self._in(BOLD, place)}: {it['source']}"
 
     def _wrong(self, it: Fields) -> Iterator[str]:
         yield f"{self._in(BOLD, it['where'])}: {self._in(RED, 'error')}: {it['message']}"
@@ -90,7 +103,7 @@ def _ticks(it: Fields) -> str:
     ticks = it.get("ticks")
     if ticks is None:
         return ""
-    return f", {it.get('bound', '')}{ticks} tick{'' if ticks == 1 else 's'}"
+    return f", {ticks} tick{'' if ticks == 1 else 's'}"
 
 
 def printer(as_json: bool) -> Any:

@@ -27,24 +27,23 @@ class Process:
 
     def __init__(self, program: str, profile: str, drivers: int, answering: Any, timeout: float) -> None:
         self.timeout, self._answering = timeout, answering
-        self.given: List[str] = []  # answers of the last command
         with NamedTemporaryFile("w", encoding="utf-8", newline="") as file:
             file.write(profile)
             file.flush()
             words = ["/bin/sh", "-c", STARTED, str(MEMORY >> 10), program, "--profile", file.name, "--drivers", str(drivers)]
-            self._talk = Conversation(words, self._answer, answering.answer)
+            self._talk = Conversation(words, answering.answer)
             self._said("")
 
     def command(self, text: str) -> Said:
         """Does a command of a session."""
-        self.given = []
         said = Said(self._said(f"{text}\n"))
         self._answering.replied(said.lines)
         return said
 
-    def _answer(self, line: str) -> str:
-        self.given.append(self._answering.answer(line))
-        return self.given[-1]
+    def told(self, text: str) -> List[str]:
+        """The lines that answer a question between commands, without the last one. Where it is refused there are none."""
+        lines = self._said(f"{text}\n")
+        return lines[:-1] if lines[-1:] == ["ok"] else []
 
     def _said(self, text: str) -> List[str]:
         lines: List[str] = []

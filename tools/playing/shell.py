@@ -9,7 +9,7 @@ from typing import Any, Callable, Dict, Iterable, List, Optional, Tuple
 from bustlebrick import EngineLost, Refused
 from playing import profiles
 from playing.answers import BadHost
-from playing.declared import NotCalled, call_of, is_whole
+from playing.declared import Declared, NotCalled, call_of, is_whole
 from playing.sources import Source, printable
 from playing.stage import CantStart, Part, Stage
 
@@ -81,6 +81,9 @@ class Shell:
         if self.name not in self.stage.parts:
             raise ValueError(f"there is no module '{self.name}': make it by :module")
         return self.stage.parts[self.name]
+
+    def functions(self) -> List[Declared]:
+        return self.stage.functions(self.name) if self.part else []
 
     def run(self, watch: bool) -> None:
         """Takes lines until they end, or `:quit` does it."""
@@ -154,7 +157,7 @@ class Shell:
             self.tell("note", message=f"there is no command ':{word}'; :help has them")
 
     def _call(self, text: str) -> None:
-        self.stage.call(self.name, call_of(text, self.part.functions()))
+        self.stage.call(self.name, call_of(text, self.functions()))
 
     def _mask(self, text: str) -> None:
         if self.stage.mask(self.name, mask_of(text)):
@@ -202,7 +205,7 @@ class Shell:
         self._lines(self.stage.events or ["there were none"])
 
     def _functions(self, _: str) -> None:
-        self._lines([it.declaration for it in self.part.functions()] or ["there are none"])
+        self._lines([it.declaration for it in self.functions()] or ["there are none"])
 
     def _profile(self, _: str) -> None:
         profile = self.stage.engine.profile

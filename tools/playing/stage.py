@@ -8,12 +8,12 @@ from typing import Any, Callable, Dict, Iterator, List, NamedTuple, Optional, Tu
 
 from bustlebrick import BuildError, Conversation, Engine, EngineLost, Held, Refused, Reply
 from playing import profiles
-from playing.answers import Answered, Host, Replay, host_file
-from playing.declared import Called, Declared, functions
+from playing.answers import Host, host_file
+from playing.declared import Called, Declared, functions, listed
 from playing.hints import Known, hidden, hints
 from playing.sentences import error_sentence, fault_sentence, refusal_sentence
 from playing.sources import Source, printable
-from playing.ticks import Counter
+from playing.traces import Level, told
 
 PROGRAM = inspect.signature(Engine).parameters["program"].default
 
@@ -29,13 +29,6 @@ class Options(NamedTuple):
     host: Optional[str]
     budget: int
     timeout: float
-    count: bool
-
-
-class Told(NamedTuple):
-    """A command that the engine did, and how its host calls were answered."""
-    text: str
-    answers: List[Answered]
 
 
 class Part:
@@ -44,10 +37,8 @@ class Part:
     def __init__(self, mask: int) -> None:
         self.mask, self.built_mask = mask, mask
         self.sources: List[Source] = []
+        self.built: List[Source] = []  # by the last build, whether that was refused or not
         self.bound: Dict[int, Tuple[str, str]] = {}
-
-    def functions(self) -> List[Declared]:
-        return functions(it.text for it in self.sources)
 
 
 class Stage:
@@ -59,7 +50,6 @@ class Stage:
         self.events: List[str] = []  # of the last command
         self.budget = options.budget
         self._keys: Dict[str, str] = {}
-        self._counter: Optional[Counter] = None
         names = host_file(options.host) if options.host else {}
         self._host = Host(names, options.host or "", tell)
         self._text = read_profile_text(options.profile) if options.profile else ""
@@ -111,20 +101,14 @@ class Stage:
         self._tell_line(line, f"{refusal_sentence(word)} [{word}]")
 
     def _begin(self) -> None:
-        self.history: List[Told] = []
         self._keys = {}
-        self._end_counter()
         self._host.restart()
-        limits = self.engine.limits()
         self.told(f"budget {self.budget}")
-        for name, most in limits._asdict().items():
-            self.told(f"limit {name} {2**63 - 1 if most is None else most}")
 
     def told(self, text: str) -> Reply:
-        """Does a command, and keeps what was told."""
+        """Does a command, and tells which objects ended."""
         self._host.begin()
         reply = self.engine.command(text)
-        self.history.append(Told(text, self._host.log))
         self.events = reply.events
         self._tell_ends(reply.events)
         return reply
@@ -149,7 +133,19 @@ class Stage:
         refusal = reply.outcome.partition(" ")[2]
         held = self._held(reply) if refusal.endswith("Memory") else None
         message = refusal_sentence(refusal)
-        self.tell("refused", what=what, refusal=refusal, message=message, cause=self._cause(reply), held=held)
+        trace = self._trace() if refusal.startswith("InitFailed") else []
+        self.tell("refused", what=what, refusal=refusal, message=message, trace=trace, cause=self._cause(reply), held=held)
+
+    def _trace(self) -> List[Dict[str, Any]]:
+        """What was running when the last command ended with a fault."""
+        return list(told(self.engine.trace(), self._source_of))
+
+    def _source_of(self, level: Level) -> Tuple[str, str]:
+        """The name of the section of a level, and its line as it is shown."""
+        built, place = self.parts[level.frame.module].built, level.place
+        if place.section >= len(built):
+            return f"section {place.section}", ""
+        return built[place.section].name, built[place.section].shown(place.line, place.column).text.strip()
 
     def _held(self, reply: Reply) -> str:
         used = self.engine.used()
@@ -182,14 +178,22 @@ class Stage:
                 self._drop_waiting(name)
                 return False
         self._forget_bindings(name)
-        part.built_mask = part.mask
+        part.built_mask, part.built = part.mask, part.sources
         reply = self.told(f"build {name}")
         if reply.ok:
-            self.tell("built", module=name, mask=f"{part.mask:08x}", functions=[it.declaration for it in part.functions()])
+            self.tell("built", module=name, mask=f"{part.mask:08x}", functions=[it.declaration for it in self.functions(name)])
         else:
             self._tell_errors(part, reply)
             self._tell_refused(name, reply)
         return reply.ok
+
+    def functions(self, name: str) -> List[Declared]:
+        """The functions of a module: those that it was built with, or else those that its sections seem to have."""
+        try:
+            lines = self.engine.told(f"list {_field(name)}")
+        except Refused:
+            return functions(it.text for it in self.parts[name].sources)
+        return [listed(it.partition(" ")[2]) for it in lines if it.startswith("function ")]
 
     def _drop_waiting(self, name: str) -> None:
         """Makes a module anew, so that none of its sections wait."""
@@ -247,11 +251,11 @@ class Stage:
         what = called.declaration + (f" with {values}" if called.values else "")
         word, _, rest = reply.outcome.partition(" ")
         if word == "ok":
-            self.tell("result", call=what, value=rest, **self._ticks(reply.outcome))
+            self.tell("result", call=what, value=rest, ticks=self.engine.used().ticks)
         elif word == "fault":
             held = self._held(reply) if rest == "Memory" else None
             self.tell(
-                "fault", call=what, fault=rest, message=fault_sentence(rest), **self._ticks(reply.outcome),
+                "fault", call=what, fault=rest, message=fault_sentence(rest), ticks=self.engine.used().ticks, trace=self._trace(),
                 cause=self._cause(reply), held=held,
             )
         else:
@@ -261,27 +265,9 @@ class Stage:
 
     def _tell_functions(self, name: str, refusal: str) -> None:
         """What could have been called, where there is no such function."""
-        known = self.parts[name].functions() if name in self.parts and refusal == "NoFunction" else []
+        known = self.functions(name) if name in self.parts and refusal == "NoFunction" else []
         if known:
             self.tell("note", message=f"the script has {printable('; '.join(it.declaration for it in known))}")
-
-    def _ticks(self, outcome: str) -> Dict[str, Any]:
-        """How many ticks the last call took."""
-        if not self.options.count:
-            return {}
-        if outcome == "fault Budget":
-            return {"ticks": self.budget}
-        if self._counter is None:
-            self._counter = Counter(self._counting_engine)
-        low, high = self._counter.ticks(self.history, list(self.parts), self.budget)
-        if low + 1 == high:
-            return {"ticks": high}
-        return {"ticks": low, "bound": "more than "} if low else {}
-
-    def _counting_engine(self, replay: Replay) -> Engine:
-        profile, program = self._profile(replay.answering).profile, self.options.program or PROGRAM
-        with _deaf_to_interrupts():
-            return Engine(profile, program, events=None, slots=None, objects=None)
 
     # ---- the engine
 
@@ -291,10 +277,7 @@ class Stage:
 
     def set_limits(self, given: Dict[str, Optional[int]]) -> Dict[str, Optional[int]]:
         """Sets limits that are named, and gives all. What no engine should have is a ValueError."""
-        limits = self.engine.limits(**given)._asdict()
-        for name, most in limits.items():
-            self.told(f"limit {name} {2**63 - 1 if most is None else most}")
-        return dict(limits)
+        return dict(self.engine.limits(**given)._asdict())
 
     def revive(self) -> None:
         """Starts another engine, with the same modules, built and bound anew."""
@@ -316,12 +299,6 @@ class Stage:
 
     def close(self) -> None:
         self.engine.close()
-        self._end_counter()
-
-    def _end_counter(self) -> None:
-        if self._counter:
-            self._counter.close()
-        self._counter = None
 
 
 def section_text(name: str, text: str) -> str:

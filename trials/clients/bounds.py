@@ -10,6 +10,7 @@ tells; after the modules are discarded nothing is held. Prints the first lines t
 """
 
 import random
+import re
 import subprocess
 import sys
 import tempfile
@@ -263,9 +264,13 @@ class Talk:
         for line in [*reply, "done"]:
             self.wants(command, line)
 
+    def used(self, slots, objects):
+        """Asks what is used. Of the ticks the model knows nothing."""
+        self.say("used", ["ticks *", f"slots {slots}", f"objects {objects}", "ok"])
+
     def wants(self, command, wanted):
         said = self.line()
-        if said != wanted:
+        if said != wanted and not (wanted == "ticks *" and re.fullmatch(r"ticks \d+", said)):
             raise Differs(f"{command[:2000]}\n  says   {said}\n  wanted {wanted}")
 
 
@@ -281,8 +286,7 @@ class Trial:
         """Says a command of which the model knows the events."""
         self.ends[outcome] += 1
         self.talk.say(command, [*self.model.events, outcome], self.model.asks)
-        used = [f"slots {self.model.slots}", f"objects {self.model.objects}", "ok"]
-        self.talk.say("used", used)
+        self.talk.used(self.model.slots, self.model.objects)
 
     def build(self, name, initializers, functions, imported=""):
         model, outcome = self.model, "ok"
@@ -342,7 +346,7 @@ class Trial:
             self.model.begin(name)
             self.model.give_up_globals(name)
             self.told(f"discard {name}", "ok")
-        self.talk.say("used", ["slots 0", "objects 0", "ok"])
+        self.talk.used(0, 0)
 
 
 def main():

@@ -16,7 +16,8 @@ import generated
 
 ROOT = os.path.join(os.path.dirname(os.path.abspath(__file__)), "..", "..")
 SECONDS = 600  # that a run may take
-OWN = re.compile(r"^(limit|used)\b", re.MULTILINE)  # a line that conversations have, and sessions have not
+# a line that conversations have, and sessions have not
+OWN = re.compile(r"^((limit|used)\b|(trace|(check|list) \S+|prepare \S+ .+|run \d+ \(\S*\))\r?$)", re.MULTILINE)
 POSTED = re.compile(r"^posted ", re.MULTILINE)
 
 

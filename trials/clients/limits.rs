@@ -57,7 +57,7 @@ fn tell_limits(what: &str, limits: Limits) {
 }
 
 fn tell_used(engine: &mut Engine) {
-    let text = |Used { slots, objects }| format!("{slots} slots, {objects} objects");
+    let text = |Used { slots, objects, .. }| format!("{slots} slots, {objects} objects");
     tell("used", engine.used().map(text));
 }
 

@@ -43,7 +43,7 @@ def main() -> None:
         if words[0] == "call":
             call(entry, factory.split()[2])
         else:
-            say(*(["slots 0", f"objects {held}"] if words[0] == "used" else []), "ok")
+            say(*(["ticks 0", "slots 0", f"objects {held}"] if words[0] == "used" else []), "ok")
         say("done")
 
 

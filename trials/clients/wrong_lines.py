@@ -4,8 +4,8 @@
     trials/clients/wrong_lines.py ASREMOTE
 
 After a line that may be the head of a section asremote ends, and none of the lines behind it runs: each of them is a
-command here. After any other wrong line it goes on. Lines `limit` and `used` of the right form are said too, and both kinds
-stand in profiles. Prints each line with which it does otherwise, and how many there were.
+command here. After any other wrong line it goes on. Lines that conversations alone have are said in the right form too, and
+`limit` and `used` stand in profiles. Prints each line with which it does otherwise, and how many there were.
 """
 
 import subprocess
@@ -84,6 +84,29 @@ OTHERS = [
     b" used\n",
     b"Used\n",
     b"used\r\r\n",
+    b"trace 1\n",
+    b"trace \n",
+    b"Trace\n",
+    b"check\n",
+    b"check \n",
+    b"check a b\n",
+    b"list\n",
+    b"list a \n",
+    b"list  a\n",
+    b"prepare\n",
+    b"prepare a\n",
+    b"prepare a \n",
+    b"prepare  a void f()\n",
+    b"run\n",
+    b"run 0\n",
+    b"run 0 \n",
+    b"run 0 1\n",
+    b"run 0 (1,)\n",
+    b"run x ()\n",
+    b"run -1 ()\n",
+    b"run 4294967296 ()\n",
+    b"run 00000000000 ()\n",
+    b"run 0 () void f()\n",
     b"sect a 3\n",
     b"a section\n",
     b"\xff\xfe\n",
@@ -141,6 +164,20 @@ RIGHT_LIMITS = [
     b"limit objects 0000000000000000003\n",
 ]
 
+# Questions of the right form that are refused, and why.
+QUESTIONS = [
+    (b"check c\n", b"NoModule"),
+    (b"list c\n", b"NoModule"),
+    (b"list a\n", b"NotBuilt"),
+    (b"list a\r\n", b"NotBuilt"),
+    (b"prepare c void f()\n", b"NoModule"),
+    (b"prepare a void f()\n", b"NotBuilt"),
+    (b"prepare a no declaration\n", b"NotBuilt"),
+    (b"run 0 ()\n", b"NoFunction"),
+    (b"run 0000000000 (1,2u,true)\n", b"NoFunction"),
+    (b"run 4294967295 ()\n", b"NoFunction"),
+]
+
 
 def said(program, text, registered=b""):
     """What asremote prints to a text, after a profile, and its status."""
@@ -156,10 +193,13 @@ def conversations():
     ended = (b"done\nok\ndone\nline 2 BadLine\n", 2)
     on = (b"done\nok\ndone\nrefused BadLine\ndone\nok\ndone\nok\ndone\nok\ndone\n", 1)
     done = (b"done\nok\ndone\nok\ndone\nok\ndone\nok\ndone\nok\ndone\n", 0)
-    told = (b"done\nok\ndone\nslots 0\nobjects 0\nok\ndone\nok\ndone\nok\ndone\nok\ndone\n", 0)
+    told = (b"done\nok\ndone\nticks 0\nslots 0\nobjects 0\nok\ndone\nok\ndone\nok\ndone\nok\ndone\n", 0)
+    refused = lambda why: (b"done\nok\ndone\nrefused %s\ndone\nok\ndone\nok\ndone\nok\ndone\n" % why, 1)  # noqa: E731
     long = (b"done\nok\ndone\nline 0 TooLong\n", 2)
     rows = [(line, ended) for line in HEADERS + SHORT] + [(line, on) for line in OTHERS + WRONG_LIMITS]
     rows += [(line, done) for line in RIGHT_LIMITS] + [(line, told) for line in (b"used\n", b"used\r\n")]
+    rows += [(line, done) for line in (b"trace\n", b"trace\r\n", b"check a\n", b"check a\r\n")]
+    rows += [(line, refused(why)) for line, why in QUESTIONS]
     return rows + [(b"x" * 16_777_216 + b"\n", long), (b"section a 1\n" + b"x" * 16_777_216 + b"\n", long)]
 
 

@@ -30,7 +30,7 @@ USES_OF_TYPES = [
     "void f(Ship@ s) { pick(s); }", "void f() { paint(RED); }", "void f() { only(1); }",
 ]
 CHECKED = """(async () => {{ const {{ ask }} = await import('./server.js');
-    const found = await ask('check', {{ name: 'm', mask: {mask}, sections: [{text}] }}); return found.outcome; }})()"""
+    const found = await ask('check', {{ name: '{module}', sections: [{text}] }}); return found.outcome; }})()"""
 
 
 def try_registrations(trial):
@@ -122,8 +122,7 @@ def try_uses(trial, tab, views, uses):
     for module, seen in views.items():
         found = [number for number, look in enumerate(column(tab, module)) if look != HIDDEN]
         trial.same(f"what {module} sees", found, seen)
-        mask = int(tab.text(f"[data-mask-of={module}]"), 16)
-        built = [it for it, use in enumerate(uses) if tab.value(CHECKED.format(mask=mask, text=json.dumps(use))) == "ok"]
+        built = [it for it, use in enumerate(uses) if tab.value(CHECKED.format(module=module, text=json.dumps(use))) == "ok"]
         trial.same(f"what a script of {module} can use", built, seen)
 
 
@@ -186,7 +185,7 @@ def try_denial(trial, tab):
     )
     trial.same("the mask has the bit", tab.text("#mask-hex"), "00000003")
     trial.same("the module was only checked", tab.text("#module-state"), "not built, edited since")
-    trial.same("checks leave the engine as it is", texts(tab)[2], before + "ok\n")
+    trial.same("checks are no commands", texts(tab)[2], before + "ok\n")
     tab.click("#build")
     trial.that("it is built", tab.wait("document.querySelector('#module-state').innerText === 'built under 00000003'"))
 

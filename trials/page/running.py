@@ -2,6 +2,7 @@
 
 import json
 import os
+import signal
 import subprocess
 import tempfile
 
@@ -15,6 +16,21 @@ ROWS = """[...document.querySelectorAll('#timeline .run[open] tbody tr')].map(ro
     row.children[row.children.length - 2].lastChild.textContent, row.children[row.children.length - 1].innerText])"""
 
 
+STACK = """[...document.querySelectorAll('#result .stack li')].map(it =>
+    [it.querySelector('b').innerText, it.querySelector('.name code').innerText, Number(it.querySelector('button').innerText.split(':')[1])])"""
+LIT_LINE = """(() => { for (const it of document.querySelectorAll('.section')) { const lit = it.querySelector('.lit');
+    if (lit.hidden) continue; const area = it.querySelector('textarea'), style = getComputedStyle(area);
+    const top = lit.getBoundingClientRect().top - area.getBoundingClientRect().top + area.scrollTop - parseFloat(style.paddingTop);
+    return area.value.split('\\n')[Math.round(top / parseFloat(style.lineHeight))]; } return ''; })()"""
+IN_VIEW = "(() => { const it = document.querySelector('.lit:not([hidden])').getBoundingClientRect(); return it.top > 0 && it.bottom < innerHeight; })()"
+OFFERED = "[...document.querySelectorAll('#function option')].map(it => [it.text.replace(' (for scripts alone)', ''), !it.disabled])"
+PLUGINS_STACK = [["editor", "note"], ["counter", "wrong"]]
+LINES_OF_NAMES = ["int64 note(int64 what) {", "int64 wrong() {"]
+LINES_OF_STATEMENTS = ["        stop(7);", "    return note(-1);"]
+INITIALIZER = "int by(int n) {\n    return 10 / n;\n}\n\nint first = by(0);\n"
+KEEPS = "int count;\nint next() { count++; return count; }\nint div(int n) { return 1 / n; }\nvoid gives(int &out n) { n = 1; }\n"
+
+
 def try_runs(trial):
     with trial.served("--timeout", "2") as served:
         tab = opened(trial, served)
@@ -25,11 +41,7 @@ def try_runs(trial):
             ["from to", "quota", "42"], ["from to", "print(42)", "void"], ["from to", "quota", "42"],
         ]
         trial.same("its host calls are listed in order", tab.value(ROWS), wanted)
-        trial.that(
-            "its ticks are told",
-            tab.wait("document.querySelector('#ticks').innerText.startsWith('2 ticks of 1,000,000')"),
-            tab.text("#ticks"),
-        )
+        trial.that("its ticks are told", tab.text("#ticks").startswith("2 ticks of 1,000,000"), tab.text("#ticks"))
         call(tab, "grant", "many")
         trial.that("what is no value is told", "'many' is no value" in tab.text("#result"), tab.text("#result"))
         try_bounds(trial, tab)
@@ -45,17 +57,11 @@ def try_bounds(trial, tab):
     tab.wait("document.querySelector('#module-state').innerText.startsWith('built')")
     trial.same("values go in", call(tab, "back", "7", "false"), "ok -7")
     call(tab, "short")
-    trial.that(
-        "the ticks of a loop",
-        tab.wait("document.querySelector('#ticks').innerText.startsWith('5 ticks')"),
-        tab.text("#ticks"),
-    )
+    trial.that("the ticks of a loop", tab.text("#ticks").startswith("5 ticks of"), tab.text("#ticks"))
     trial.same("a loop without an end", call(tab, "spin"), "fault Budget")
-    trial.that(
-        "took all its ticks",
-        tab.wait("document.querySelector('#ticks').innerText.startsWith('1,000,000 ticks of 1,000,000')"),
-        tab.text("#ticks"),
-    )
+    found = tab.text("#ticks")
+    trial.that("took all its ticks", found.startswith("1,000,000 ticks of 1,000,000"), found)
+    trial.same("and its line is lit", lit(tab), "void spin() { while (true) {} }")
     tab.write("#budget", "2147483647")
     tab.click("#budget-form button")
     late = call(tab, "spin")
@@ -75,6 +81,108 @@ def try_bounds(trial, tab):
     trial.same("it has no call that did not end", told, 1)
 
 
+def stack(tab):
+    """The stack that is shown of the last run: modules, functions, and lines. An engine may tell the places of names alone."""
+    return tab.value(STACK)
+
+
+def lit(tab):
+    """The text of the line that is lit in an editor, or nothing."""
+    return tab.value(LIT_LINE)
+
+
+def is_declared(tab):
+    """Whether the engine tells the places of functions' names alone, and not those of statements."""
+    return "declared there" in tab.text("#result .stack")
+
+
+def try_traces(trial):
+    """The stack of a fault in a call, and in an initializer; its lines are come to, and are lit."""
+    with trial.served("--timeout", "5") as served:
+        tab = opened(trial, served, "plugins")
+        trial.same("a fault of what was opened has its stack", [it[:2] for it in stack(tab)], PLUGINS_STACK)
+        choose(tab, "counter")
+        trial.same("a fault two calls deep through an import", call(tab, "wrong"), "fault Host 7")
+        trial.same("has the stack of both modules", [it[:2] for it in stack(tab)], PLUGINS_STACK)
+        inner, outer = LINES_OF_NAMES if is_declared(tab) else LINES_OF_STATEMENTS
+        trial.same("no line of this module is lit before one is chosen", lit(tab), "")
+        tab.click("#result .stack li:first-child button")
+        trial.same("a click leads to the module", tab.text("#module-name"), "editor")
+        trial.same("whose line is lit", lit(tab), inner)
+        trial.that("and in view", tab.value(IN_VIEW), tab.value(IN_VIEW))
+        trial.picture(tab, "stack")
+        tab.value("document.querySelector('#result .stack li:last-child button').focus()")
+        tab.press("Enter")
+        trial.same("Enter leads to the other one", tab.text("#module-name"), "counter")
+        trial.same("whose line is lit then", lit(tab), outer)
+        tab.write("#section-0", "// one more line\n" + tab.value("document.querySelector('#section-0').value"))
+        trial.same("a line that moved stays lit", lit(tab), outer)
+        tab.write("#section-0", "int64 other() { return 1; }")
+        trial.same("one that is gone does not", lit(tab), "")
+        tab.click("#result .stack li:last-child button")
+        trial.that("which is said", "has been edited" in tab.text("#message"), tab.text("#message"))
+        tab.close()
+        try_initializer(trial, served)
+
+
+def try_initializer(trial, served):
+    tab = opened(trial, served)
+    choose(tab, "guest")
+    tab.write("#section-0", INITIALIZER)
+    tab.click("#build")
+    trial.that("a fault of an initializer", tab.wait("document.querySelector('#result').innerText.includes('InitFailed DivideByZero')"), tab.text("#result"))
+    lines = [["guest", "by"], ["guest", "global first"]]
+    trial.same("has a stack", [it[:2] for it in stack(tab)], lines)
+    trial.that("where that is is told beside the editor", "at Runs" in tab.text("#problems"), tab.text("#problems"))
+    trial.same("the line of the innermost function is lit", lit(tab), "int by(int n) {" if is_declared(tab) else "    return 10 / n;")
+    tab.click("#result .stack li:last-child button")
+    trial.same("that of the initializer is come to", lit(tab), "int first = by(0);")
+    trial.picture(tab, "initializer")
+    profile, session, lines = texts(tab)
+    trial.same("asrun prints of it what the page shows", lines_of_asrun(trial, profile, session), lines)
+    tab.click("#copy-link")
+    tab.wait("document.querySelector('#link').value !== ''")
+    link = tab.value("document.querySelector('#link').value")
+    shown = stack(tab)
+    tab.close()
+    tab = trial.browser.tab()
+    tab.open(link)
+    trial.same("a link has the stack", stack(tab), shown)
+    trial.same("and the same texts", texts(tab), [profile, session, lines])
+    try_killed(trial, served, tab)
+    tab.close()
+
+
+def try_killed(trial, served, tab):
+    """An engine that is killed: another one does all again."""
+    choose(tab, "guest")
+    tab.write("#section-0", KEEPS)
+    tab.click("#build")
+    tab.wait("document.querySelector('#module-state').innerText.startsWith('built')")
+    trial.same("a call counts", [call(tab, "next"), call(tab, "next")], ["ok 1", "ok 2"])
+    trial.same("functions of handles and references are not offered", tab.value(OFFERED), [["int next()", True], ["int div(int n)", True], ["void gives(int &out n)", False]])
+    for engine in served.engines():
+        os.kill(engine, signal.SIGKILL)
+    tab.click("#check")
+    trial.that("a check that ends with its engine is told", tab.wait("document.querySelector('#problems').innerText.includes('another one')"), tab.text("#problems"))
+    trial.same("what was counted is there again", call(tab, "next"), "ok 3")
+    trial.same("a fault", call(tab, "div", "0"), "fault DivideByZero")
+    trial.same("has its stack", [it[:2] for it in stack(tab)], [["guest", "div"]])
+    tab.write("#section-0", "int wrong( { }")
+    trial.that("a check with errors", tab.wait("document.querySelectorAll('#problems li.wrong').length === 1"), tab.text("#problems"))
+    tab.write("#section-0", "void grab() { quota = 1; }")
+    trial.that("a check with a denial", tab.wait("document.querySelectorAll('#problems li.denied').length === 1"), tab.text("#problems"))
+    tab.write("#section-0", "int fine() { return 1; }")
+    trial.that("a check without", tab.wait("document.querySelector('#problems').innerText.startsWith('None: it can be built')"), tab.text("#problems"))
+    trial.same("meanwhile the program runs on", call(tab, "next"), "ok 4")
+    tab.click("#build")
+    tab.wait("document.querySelector('#module-state').innerText === 'built under 00000001'")
+    trial.same("what was checked does not wait", call(tab, "fine"), "ok 1")
+    profile, session, lines = texts(tab)
+    trial.same("asrun prints of all this what the page shows", lines_of_asrun(trial, profile, session), lines)
+    trial.same("the console was told no error", tab.complaints(), [])
+
+
 def try_objects(trial, served):
     tab = opened(trial, served, "plugins")
     choose(tab, "counter")
@@ -84,7 +192,7 @@ def try_objects(trial, served):
     trial.same("its event is the last", tab.value(ROWS)[-1], ["from to", "stop(7)", "fault 7"])
     lit = "document.querySelector('#timeline .run[open] td.fault').innerText"
     trial.same("which is lit", tab.value(lit), "fault 7")
-    trial.same("no stack is shown, since no engine tells one", tab.value("document.querySelectorAll('.stack').length"), 0)
+    trial.same("its stack goes through the import", [it[:2] for it in stack(tab)], PLUGINS_STACK)
     call(tab, "count")
     trial.same("its host calls are counted", tab.value(rows), [["Document#0", "editor", "2"]])
     heads = tab.value("[...document.querySelectorAll('#timeline .run[open] th.lane')].map(it => it.innerText)")

@@ -11,13 +11,14 @@ import traceback
 from browser import Browser
 from controls import try_controls, try_overflow
 from masks import try_modules, try_registrations, try_views
-from running import try_profiles, try_runs, try_share
+from running import try_profiles, try_runs, try_share, try_traces
 from safety import try_safety
 from served import Served
 from speed import try_newcomer, try_speed
 
 PARTS = {
-    "registrations": try_registrations, "views": try_views, "modules": try_modules, "runs": try_runs, "share": try_share,
+    "registrations": try_registrations, "views": try_views, "modules": try_modules, "runs": try_runs, "traces": try_traces,
+    "share": try_share,
     "profiles": try_profiles, "controls": try_controls, "overflow": try_overflow, "speed": try_speed,
     "newcomer": try_newcomer, "safety": try_safety,
 }

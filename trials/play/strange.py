@@ -165,7 +165,7 @@ def engines(trials):
     late = file("late", LATE)
     os.chmod(late, 0o755)
     spin = file("spin.as", SPIN)
-    run("an engine that ends in a call", [spin, "--call", "spin()"], ["built", "engine: error: the engine ended with the status 7"], 3, engine=late)
+    run("an engine that ends in a call", [spin, "--call", "void spin()"], ["built", "engine: error: the engine ended with the status 7"], 3, engine=late)
     run("one that never ends", [spin, "--call", "spin()"], ["fault Budget", "1000000 ticks"], 1)
     words = [spin, "--call", "spin()", "--budget", "2147483647", "--timeout", "0.5"]
     run("a timeout", words, ["engine: error: a command took longer than the timeout, 0.5 seconds"], 3)

@@ -144,11 +144,16 @@ fn tell_build(name: &str, reply: &Reply) {
     }
 }
 
-/// Prints what a call gave, or how it ended.
+/// Prints what a call gave, or how it ended, and where.
 fn tell<T: Display>(what: &str, called: Result<T, Error>) -> Result<(), Error> {
     match called {
         Ok(value) => println!("{what}: {value}"),
-        Err(error @ (Error::Refused(_) | Error::Fault(_))) => println!("{what}: {error}"),
+        Err(error @ (Error::Refused(_) | Error::Fault { .. })) => {
+            println!("{what}: {error}");
+            for line in error.stack() {
+                println!("  in {line}");
+            }
+        }
         Err(error) => return Err(error),
     }
     Ok(())
@@ -179,13 +184,15 @@ fn main() -> Result<(), Error> {
     let admin = built(&mut engine, "admin", PLAYERS | STAFF, ADMIN)?;
     let player = built(&mut engine, "player", PLAYERS, PLAYER)?;
 
-    // Calls, with values of all kinds. A player's script reaches the staff's by an import that the host binds.
+    // Calls, with values of all kinds. A player's script reaches the staff's by an import that the host binds. What is
+    // called often is looked up once.
     tell("may enter", engine.call::<bool>(&player, "bool may_enter()", &[]))?;
     tell("luck of 6", engine.call::<u8>(&player, "uint8 luck(uint8)", &[&6_u8]))?;
     tell("attack with 4, unbound", engine.call::<i32>(&player, "int attack(int)", &[&4]))?;
-    engine.bind(&player, 0, &admin, "int wound(int)")?;
-    tell("attack with 4", engine.call::<i32>(&player, "int attack(int)", &[&4]))?;
-    tell("attack with -1", engine.call::<i32>(&player, "int attack(int)", &[&-1]))?;
+    engine.bind_import(&player, "int wound(int)", &admin)?;
+    let attack = engine.prepare(&player, "int attack(int)")?;
+    tell("attack with 4", engine.run::<i32>(attack, &[&4]))?;
+    tell("attack with -1", engine.run::<i32>(attack, &[&-1]))?;
     tell("gold", engine.call::<i64>(&player, "int64 gold()", &[]))?;
     tell("reward", engine.call::<i64>(&admin, "int64 reward(int64, int64)", &[&1, &50]))?;
     tell("gold", engine.call::<i64>(&player, "int64 gold()", &[]))?;
@@ -196,13 +203,15 @@ fn main() -> Result<(), Error> {
     engine.discard(cheater)?;
     tell("spin", engine.call::<()>(&player, "void spin()", &[]).map(|()| "ended"))?;
 
-    // A new script for the player, while the admin's goes on with its troll. The import is to be bound anew.
-    engine.section(&player, &PLAYER.replace("wound(n)", "wound(n * 2)"))?;
+    // A new script for the player, while the admin's goes on with its troll. The import is to be bound anew, and what was
+    // looked up is to be prepared anew.
+    engine.section(&player, PLAYER.replace("wound(n)", "wound(n * 2)"))?;
     tell_build("player", &engine.build(&player)?);
-    engine.bind(&player, 0, &admin, "int wound(int)")?;
-    tell("attack with 4", engine.call::<i32>(&player, "int attack(int)", &[&4]))?;
+    engine.bind_import(&player, "int wound(int)", &admin)?;
+    let attack = engine.prepare(&player, "int attack(int)")?;
+    tell("attack with 4", engine.run::<i32>(attack, &[&4]))?;
     tell("armor", engine.call::<i32>(&admin, "int armored(int)", &[&3]))?;
-    tell("attack with 4", engine.call::<i32>(&player, "int attack(int)", &[&4]))?;
+    tell("attack with 4", engine.run::<i32>(attack, &[&4]))?;
 
     // The host keeps an object as long as scripts hold it.
     tell("wins over 10", engine.call::<bool>(&admin, "bool wins(int)", &[&10]))?;

@@ -7,15 +7,19 @@ mod library;
 mod limits;
 mod link;
 mod profile;
+mod sources;
 mod talk;
+mod told;
 mod values;
 
 pub use limits::{Held, Limits, Used};
 pub use profile::Profile;
+pub use told::Frame;
 pub use values::{Answer, Asked, Fault, Function, Objects, Plain, Typed, Value};
 
 use library::{InProcess, Library};
 use link::Link;
+use sources::Sources;
 use std::fs::{remove_file, File};
 use std::io::{self, ErrorKind, Write};
 use std::path::{Path, PathBuf};
@@ -31,10 +35,11 @@ pub const VERSION: &str = env!("CARGO_PKG_VERSION");
 pub enum Error {
     /// It was not done, or the profile not taken. The text is the refusal, as `NoFunction`.
     Refused(String),
-    /// A call ended with this fault, as `Budget` or `Host 7`.
-    Fault(String),
+    /// A call ended with this fault, as `Budget` or `Host 7`. The trace is what was running, innermost first, and empty
+    /// where there was no memory to keep it.
+    Fault { fault: String, trace: Vec<Frame> },
     /// A call ended with the fault `Memory`, which comes of a limit too.
-    Memory(Held),
+    Memory { held: Held, trace: Vec<Frame> },
     /// The engine ended or was killed, or none could be started. [`Engine::restart`] makes another one.
     Lost(String),
     /// It took longer than the timeout, and the engine was killed, as for `Lost`.
@@ -45,12 +50,27 @@ pub enum Error {
     Limits(String),
 }
 
+impl Error {
+    /// What was running when a call ended with a fault, innermost first; none where this is no fault.
+    pub fn trace(&self) -> &[Frame] {
+        match self {
+            Error::Fault { trace, .. } | Error::Memory { trace, .. } => trace,
+            _ => &[],
+        }
+    }
+
+    /// A line for each frame of the trace, as `player attack 0:3:5: return 10 / n;`.
+    pub fn stack(&self) -> Vec<String> {
+        self.trace().iter().map(Frame::to_string).collect()
+    }
+}
+
 impl fmt::Display for Error {
     fn fmt(&self, f: &mut fmt::Formatter<'_>) -> fmt::Result {
         match self {
             Error::Refused(why) => write!(f, "refused {why}"),
-            Error::Fault(fault) => write!(f, "fault {fault}"),
-            Error::Memory(held) => write!(f, "fault Memory: {held}"),
+            Error::Fault { fault, .. } => write!(f, "fault {fault}"),
+            Error::Memory { held, .. } => write!(f, "fault Memory: {held}"),
             Error::Lost(why) => write!(f, "{why}"),
             Error::TimedOut => write!(f, "a command took longer than the timeout"),
             Error::Unfit(text) => write!(f, "{text:?} does not fit"),
@@ -111,7 +131,7 @@ impl Reply {
         let (word, rest) = self.outcome.split_once(' ').unwrap_or((&self.outcome, ""));
         match word {
             "ok" => Ok(rest),
-            "fault" => Err(Error::Fault(rest.to_owned())),
+            "fault" => Err(Error::Fault { fault: rest.to_owned(), trace: Vec::new() }),
             _ => Err(Error::Refused(rest.to_owned())),
         }
     }
@@ -120,6 +140,13 @@ impl Reply {
 /// A module of an engine.
 #[derive(Clone, Debug)]
 pub struct Module(String);
+
+/// A function of a module's scripts that was looked up by [`Engine::prepare`].
+#[derive(Clone, Copy, Debug)]
+pub struct Prepared {
+    start: u64,
+    number: u32,
+}
 
 /// How an engine is run.
 #[derive(Clone, Debug)]
@@ -149,9 +176,12 @@ pub struct Engine {
     profile: Profile,
     talk: Option<Box<dyn Talk>>,
     objects: Objects,
+    sources: Sources,
     events: Vec<String>,
     ticks: Option<u32>,
     limits: Limits,
+    /// How often it was started: numbers of prepared calls are those of one start.
+    starts: u64,
     /// What a command may take, with what closures take meanwhile. It doesn't end a closure.
     pub timeout: Duration,
 }
@@ -173,16 +203,28 @@ impl Engine {
         let Options { program, library, memory, limits } = options;
         limits.check(0)?;
         let library = library.map_or(Ok(None), |path| Library::at(&path))?;
-        let (objects, events, timeout) = (Objects::default(), Vec::new(), Duration::from_secs(10));
-        let (talk, ticks) = (None, None);
-        let mut engine = Engine { program, library, memory, profile, talk, objects, events, ticks, limits, timeout };
+        let mut engine = Engine {
+            program,
+            library,
+            memory,
+            profile,
+            talk: None,
+            objects: Objects::default(),
+            sources: Sources::default(),
+            events: Vec::new(),
+            ticks: None,
+            limits,
+            starts: 0,
+            timeout: Duration::from_secs(10),
+        };
         engine.restart().map(|()| engine)
     }
 
     /// Ends the engine, if there is one, and starts another one with the same profile, budget and limits. The modules are
     /// gone: they have to be made, built and bound anew. All objects are given up.
     pub fn restart(&mut self) -> Result<(), Error> {
-        (self.talk, self.objects) = (None, Objects::default());
+        (self.talk, self.objects, self.sources) = (None, Objects::default(), Sources::default());
+        self.starts += 1;
         self.events.clear();
         let text = format!("{}{}\n", self.profile.text(), self.limits.lines().join("\n"));
         let drivers = 1 + self.profile.types.len();
@@ -242,13 +284,29 @@ impl Engine {
         Ok(())
     }
 
-    /// What scripts hold.
+    /// What scripts hold, and the ticks that the last build or call took.
     pub fn used(&mut self) -> Result<Used, Error> {
-        let mut lines = Vec::new();
-        self.say("used\n", &mut |line, _, _| lines.push(line))?;
-        let reply = Reply { outcome: lines.pop().unwrap_or_default(), ..Reply::default() };
-        reply.value()?;
+        let lines = self.told("used")?;
         Used::told(&lines).ok_or(Error::Unfit(lines.join("\n")))
+    }
+
+    /// What was running when the last build or call ended with a fault, innermost first. None after any other end, and
+    /// where there was no memory to keep it.
+    pub fn trace(&mut self) -> Result<Vec<Frame>, Error> {
+        let lines = self.told("trace")?;
+        let frames: Option<Vec<Frame>> = lines.iter().map(|line| Frame::told(line, &self.sources)).collect();
+        frames.ok_or(Error::Unfit(lines.join("\n")))
+    }
+
+    /// The lines that answer a question of one line, as `used`, without `ok`. It is no command: the last one stays that
+    /// before it.
+    pub fn told(&mut self, question: &str) -> Result<Vec<String>, Error> {
+        let text = whole(question).filter(|text| text.lines().count() == 1);
+        let text = text.ok_or_else(|| Error::Unfit(question.to_owned()))?;
+        let mut lines = Vec::new();
+        self.say(&text, &mut |line, _, _| lines.push(line))?;
+        let reply = Reply { outcome: lines.pop().unwrap_or_default(), ..Reply::default() };
+        reply.value().map(|_| lines)
     }
 
     /// Makes a module, without scripts.
@@ -263,16 +321,55 @@ impl Engine {
         self.done(&format!("mask {} {mask:08x}", module.0)).map(drop)
     }
 
-    /// Adds a section of script for the module's next build.
-    pub fn section(&mut self, module: &Module, text: &str) -> Result<(), Error> {
-        let text = text.strip_suffix('\n').unwrap_or(text);
-        let lines = text.split('\n').count();
-        self.command(&format!("section {} {lines}\n{text}\n", module.0))?.value().map(drop)
+    /// Adds a section of script for the module's next build. The text is kept for the traces of faults, and not copied
+    /// where it is a `String`.
+    pub fn section(&mut self, module: &Module, text: impl Into<String>) -> Result<(), Error> {
+        let text = text.into();
+        let whole = text.strip_suffix('\n').unwrap_or(&text);
+        let lines = whole.split('\n').count();
+        self.command(&format!("section {} {lines}\n{whole}\n", module.0))?.value()?;
+        self.sources.keep(&module.0, text);
+        Ok(())
     }
 
     /// Builds the sections that wait. The reply says whether that was done, and the errors and denials if not.
     pub fn build(&mut self, module: &Module) -> Result<Reply, Error> {
         self.command(&format!("build {}", module.0))
+    }
+
+    /// Says what a build of the sections that wait would say, and builds nothing. Sections with errors wait no more, as
+    /// after a build; others wait still, and a build can follow.
+    pub fn check(&mut self, module: &Module) -> Result<Reply, Error> {
+        self.command(&format!("check {}", module.0))
+    }
+
+    /// The declarations of the functions that a module was built with, in the order of its text.
+    pub fn functions(&mut self, module: &Module) -> Result<Vec<String>, Error> {
+        self.listed(module, "function ")
+    }
+
+    /// The declarations of its global variables.
+    pub fn globals(&mut self, module: &Module) -> Result<Vec<String>, Error> {
+        self.listed(module, "global ")
+    }
+
+    /// The declarations of its imports: the place of one is its number.
+    pub fn imports(&mut self, module: &Module) -> Result<Vec<String>, Error> {
+        let numbered = self.listed(module, "import ")?;
+        Ok(numbered.iter().map(|it| it.split_once(' ').unwrap_or_default().1.to_owned()).collect())
+    }
+
+    fn listed(&mut self, module: &Module, word: &str) -> Result<Vec<String>, Error> {
+        let lines = self.told(&format!("list {}", module.0))?;
+        Ok(lines.iter().filter_map(|line| line.strip_prefix(word)).map(str::to_owned).collect())
+    }
+
+    /// Binds the module's import of this declaration to the function of the same one of another module.
+    pub fn bind_import(&mut self, module: &Module, declaration: &str, exporter: &Module) -> Result<(), Error> {
+        let wanted = told::plain_words(declaration);
+        let number = self.imports(module)?.iter().position(|it| told::plain_words(it) == wanted);
+        let number = number.ok_or(Error::Refused("NoImport".to_owned()))?;
+        self.bind(module, number as u32, exporter, declaration)
     }
 
     /// Binds the module's import of that number to a function of another module.
@@ -287,8 +384,29 @@ impl Engine {
 
     /// Calls a function of the module's scripts by its declaration, with integers and `bool`s, and gives its result.
     pub fn call<R: Typed>(&mut self, module: &Module, declaration: &str, values: &[&dyn Plain]) -> Result<R, Error> {
-        let values: Vec<String> = values.iter().map(|value| value.text()).collect();
-        let text = self.done(&format!("call {} ({}) {declaration}", module.0, values.join(",")))?;
+        self.result(&format!("call {} ({}) {declaration}", module.0, written(values)))
+    }
+
+    /// Looks a function of the module's scripts up, to be called again and again without its text.
+    pub fn prepare(&mut self, module: &Module, declaration: &str) -> Result<Prepared, Error> {
+        let lines = self.told(&format!("prepare {} {declaration}", module.0))?;
+        let number = lines.first().and_then(|line| line.strip_prefix("prepared ")?.parse().ok());
+        let number = number.ok_or(Error::Unfit(lines.join("\n")))?;
+        Ok(Prepared { start: self.starts, number })
+    }
+
+    /// Calls a function that was looked up, as `call` does. It is refused as `NoFunction` once its module was built again
+    /// or discarded, or the engine restarted: then it is to be prepared anew.
+    pub fn run<R: Typed>(&mut self, prepared: Prepared, values: &[&dyn Plain]) -> Result<R, Error> {
+        if prepared.start != self.starts {
+            return Err(Error::Refused("NoFunction".to_owned()));
+        }
+        self.result(&format!("run {} ({})", prepared.number, written(values)))
+    }
+
+    /// Does a call, and gives its result.
+    fn result<R: Typed>(&mut self, line: &str) -> Result<R, Error> {
+        let text = self.done(line)?;
         let value = if text.is_empty() { Some(None) } else { Value::of(&text).map(Some) };
         value.and_then(|value| R::read(value, &self.objects)).ok_or(Error::Unfit(text))
     }
@@ -336,17 +454,20 @@ impl Engine {
         let reply = self.command(line)?;
         let told = reply.value().map(str::to_owned);
         self.events = reply.events;
-        if reply.outcome == "fault Memory" {
-            let used = self.used()?;
-            let events = self.events.len() as u64 + used.objects;
-            return Err(Error::Memory(Held { events, used, limits: self.limits }));
+        let Some(fault) = reply.outcome.strip_prefix("fault ") else { return told };
+        let (fault, trace) = (fault.to_owned(), self.trace()?);
+        if fault != "Memory" {
+            return Err(Error::Fault { fault, trace });
         }
-        told
+        let used = self.used()?;
+        let events = self.events.len() as u64 + used.objects;
+        Err(Error::Memory { held: Held { events, used, limits: self.limits }, trace })
     }
 
-    /// Does a command, and answers what is asked meanwhile. Where that fails there is no engine any more, and no object.
+    /// Does a command, and answers what is asked meanwhile. Where that fails there is no engine any more, no object and
+    /// no text.
     fn say(&mut self, text: &str, hear: &mut dyn FnMut(String, &Profile, &mut Objects)) -> Result<(), Error> {
-        let mut objects = mem::take(&mut self.objects);
+        let (mut objects, mut sources) = (mem::take(&mut self.objects), mem::take(&mut self.sources));
         let mut talk = self.talk.take().ok_or_else(|| Error::Lost("there is no engine any more".to_owned()))?;
         let far = Instant::now() + Duration::from_secs(1 << 32);
         let deadline = Instant::now().checked_add(self.timeout).map_or(far, |deadline| deadline.min(far));
@@ -357,12 +478,21 @@ impl Engine {
         };
         let mut host = Host { profile: &mut self.profile, objects: &mut objects, heard: &mut heard };
         match talk.tell(text, deadline, &mut host)? {
-            Said::Done => (self.talk, self.objects) = (Some(talk), objects),
+            Said::Done => {
+                sources.follow(text, &last);
+                (self.talk, self.objects, self.sources) = (Some(talk), objects, sources);
+            }
             Said::Ended(_) if text.is_empty() && !last.is_empty() => return Err(Error::Refused(last)),
             Said::Ended(status) => return Err(Error::Lost(ending(status, &last))),
         }
         Ok(())
     }
+}
+
+/// The values of a call, as its line has them.
+fn written(values: &[&dyn Plain]) -> String {
+    let values: Vec<String> = values.iter().map(|value| value.text()).collect();
+    values.join(",")
 }
 
 /// How an engine ended, and what it said last.

@@ -54,18 +54,20 @@ impl Limits {
     }
 }
 
-/// What scripts hold: the slots of objects of their classes, and how many objects of the host.
+/// What scripts hold: the slots of objects of their classes, and how many objects of the host; and the ticks that the last
+/// build or call took.
 #[derive(Clone, Copy, Debug, PartialEq, Eq)]
 pub struct Used {
     pub slots: u64,
     pub objects: u64,
+    pub ticks: u64,
 }
 
 impl Used {
     /// What the lines of a reply to `used` tell.
     pub(crate) fn told(lines: &[String]) -> Option<Used> {
         let told = |key: &str| lines.iter().find_map(|line| line.strip_prefix(key)?.parse().ok());
-        Some(Used { slots: told("slots ")?, objects: told("objects ")? })
+        Some(Used { slots: told("slots ")?, objects: told("objects ")?, ticks: told("ticks ")? })
     }
 }
 

@@ -15,17 +15,18 @@ use std::alloc::{AllocError, Global};
 /// Keys rise from 0 and are not used again: the next key is the number of objects made so far. Each
 /// object that is made takes a host call, so keys never run out before `asked`.
 ///
-/// Objects lie in pages, each for 64 keys that follow one another, so that a look-up takes as long among
-/// many objects as among few. The last release of an object moves those behind it in its page, 63 at
-/// most.
+/// Objects lie in pages, each for 64 keys that follow one another. A look-up goes to the page and to the object in
+/// it at once where none before them is gone, or where they are the last; else it goes by halves among the pages, and
+/// in the page. The last release of an object moves those behind it in its page, 63 at most.
 ///
 /// An object is 16 bytes and its value. A page of which not all keys are used has room for at most 64
 /// objects. Once all are, it has room for fewer than four times those that live, and none where none
-/// lives; if no smaller place can be had, it keeps the larger one. So where one object of each page
-/// lives, it takes the room of three at most, and 48 bytes for its page.
+/// lives; if no smaller place can be had, it keeps the larger one.
 ///
-/// The list of the pages is never made smaller. It takes 24 bytes a page, and has room for twice as many
-/// at most: for each object that was ever made less than a byte stays until the whole is dropped.
+/// A page is 32 bytes in the list of pages. Of pages in which no object lives it keeps as many as of others, and two, at
+/// most, and room for twice as many pages when it grows, for fewer than four times as many when pages leave it. So where
+/// one object of each page lives, it takes the room of three at most, and 256 bytes for its page. Nothing stays of
+/// objects that are gone.
 #[derive(Drop)]
 pub struct Objects<T> {
     live: Pages<T>,

@@ -1,13 +1,13 @@
 //! Live objects by key, in pages of keys that follow one another.
-ghost use Rattle.std.specs.Prelude.{ℕ, ◌+◌, ◌*◌, ◌≡◌, ◌<◌, ◌≤◌, ◌^◌, ◌++◌, ◌∷◌, [], true, None, Some, IsSome, IfErr, IfOk, OnErr, OnOk, nat_lt, vec_len};
-ghost use Rattle.std.specs.List.{remove};
+ghost use Rattle.std.specs.Prelude.{ℕ, ◌+◌, ◌-◌, ◌*◌, ◌/◌, ◌≡◌, ◌<◌, ◌≤◌, ◌^◌, ◌++◌, ◌∷◌, [], Bool, true, false, cond, not, None, Some, IsSome, nat_eq, IfErr, IfOk, OnErr, OnOk, nat_lt, length, vec_len, count_by};
+ghost use Rattle.std.specs.List.{filter, remove};
 ghost use Rattle.std.specs.Ordering.{nat_cmp};
 ghost use Rattle.std.specs.FinMap as map;
 ghost use Rattle.std.specs.Map.{lookup};
 ghost use Rattle.std.specs.BTreeMap.{is_at};
 ghost use Rattle.ang_host.specs.State.{count_at};
 ghost use Rattle.ang_drivers.specs.Objects.{by_key, one_more, one_less_if};
-ghost use Rattle.ang_drivers.specs.Pages.{objects_in, IsPage, ArePages, ArePages-prop, IsObjectAt};
+ghost use Rattle.ang_drivers.specs.Pages.{objects_in, is_blank, IsRising, IsEntryAt, IsThinned, ArePages, ArePages-prop};
 
 use std::alloc::{AllocError, Global};
 use std::mem;
@@ -22,23 +22,31 @@ pub(crate) struct Counted<T> {
     pub(crate) value: T,
 }
 
+/// The objects of a page, each with its key.
+type Page<T> = Vec<(u64, Counted<T>)>;
+
 /// Live objects by key. Keys rise from 0 and are not used again.
 ///
 /// Page `n` has the objects of the keys from `64 * n` up to `64 * n + 63` that live, in the order of their keys. While
 /// it gets new ones its room grows as that of any `Vec`, to 64 objects at most. From its last key on it has room for
 /// fewer than four times the objects that live there, and none where none lives; only where no smaller place can be had
-/// it keeps the larger one. The list of pages is never made smaller: 24 bytes for each page that was begun, and room for
-/// as many again at most.
+/// it keeps the larger one.
 ///
-/// A look-up finds the page at once, and the object at once where all before it in the page live, else among at most 63
-/// others by halves. Taking an object out moves those behind it in its page. A new object may move the list of pages to
-/// a larger place, as a `Vec` does.
+/// The pages stand in the order of their numbers. Of those without objects half of all and one are kept at most: once
+/// there are more, all of them are taken out, so that a page leaves in a time that does not grow with the others, taken
+/// over all. The list of pages grows and gives back as a page does.
+///
+/// A look-up finds the page at once where none before it was taken out, or where it is the last, else by halves; and
+/// so the object in its page. Taking an object out moves those behind it in its page. A new object may move the list
+/// of pages to a larger place, as a `Vec` does.
 #[derive(Drop)]
 pub(crate) struct Pages<T> {
-    pages: Vec<Vec<(u64, Counted<T>)>>,
+    pages: Vec<(u64, Page<T>)>,
+    blank: usize,
     next: u64,
     ghost paged: { ArePages objects_in 0 next pages.items } by { ArePages-prop objects_in 0 next pages.items },
-    ghost spanned: { next ≤ 64 * vec_len pages },
+    ghost counted: { count_by is_blank pages.items ≡ blank },
+    ghost few: { blank ≤ vec_len pages / 2 + 1 },
 }
 
 /// Where a live object is.
@@ -58,6 +66,7 @@ impl<T> Pages<T> {
     {
         Pages {
             pages: Vec::new(alloc),
+            blank: 0,
             next: 0,
         }
     }
@@ -75,10 +84,11 @@ impl<T> Pages<T> {
         requires held { IsSome (lookup (is_at (nat_cmp key)) (entries_of self.now)) }
         ensures there { IsPlace self.now key result }
     {
-        let page = (key / KEYS) as usize;
+        let number = key / KEYS;
+        let page = index_of(&self.pages, number, number as usize);
         Place {
             page,
-            index: index_of(&self.pages[page], key),
+            index: index_of(&self.pages[page].1, key, (key % KEYS) as usize),
         }
     }
 
@@ -89,7 +99,7 @@ impl<T> Pages<T> {
         ensures exact { lookup (is_at (nat_cmp key)) (entries_of self.now) ≡ Some result.now }
     {
         let place = self.place(key);
-        &self.pages[place.page][place.index].1
+        &self.pages[place.page].1[place.index].1
     }
 
     /// Gives the object of a live key another value, and answers the one that it had.
@@ -104,7 +114,7 @@ impl<T> Pages<T> {
             ≡ map.insert (by_key (λ c. c.value) (entries_of self.old)) key value }
     {
         let place = self.place(key);
-        mem::replace(&mut self.pages[place.page][place.index].1.value, value)
+        mem::replace(&mut self.pages[place.page].1[place.index].1.value, value)
     }
 
     /// Adds a reference to the object of a live key.
@@ -119,7 +129,7 @@ impl<T> Pages<T> {
             ≡ by_key (λ c. c.value) (entries_of self.old) }
     {
         let place = self.place(key);
-        self.pages[place.page][place.index].1.count += 1;
+        self.pages[place.page].1[place.index].1.count += 1;
     }
 
     /// Releases a reference to the object of a live key. False, with nothing done, where it is the last.
@@ -135,7 +145,7 @@ impl<T> Pages<T> {
             ≡ by_key (λ c. c.value) (entries_of self.old) }
     {
         let place = self.place(key);
-        let object = &mut self.pages[place.page][place.index].1;
+        let object = &mut self.pages[place.page].1[place.index].1;
         if object.count > 1 {
             object.count -= 1;
             return true;
@@ -145,18 +155,61 @@ impl<T> Pages<T> {
 }
 
 impl<T: Drop> Pages<T> {
-    ghost use Rattle.ang_drivers.specs.PagesHeld.{entries_of};
+    ghost use Rattle.ang_drivers.specs.PagesHeld.{entries_of, IsPushed};
 
-    // Sees to it that the next object has a page.
-    fn open(&mut self, alloc: Global) -> Result<(), AllocError>
-        ensures open { OnOk result (self.new.next < 64 * vec_len self.new.pages) }
-        ensures next { self.new.next ≡ self.old.next }
-        ensures same { entries_of self.new ≡ entries_of self.old }
+    // Whether the next key's page is there, and then it is the last.
+    fn is_begun(&self) -> bool
+        ensures begun { result ≡ true
+            → IsEntryAt self.now.pages.items (self.now.next / 64) (length self.now.pages.items - 1) }
+        ensures ahead { result ≡ false → IsRising 0 (self.now.next / 64) self.now.pages.items }
     {
-        if (self.next / KEYS) as usize == self.pages.len() {
-            self.pages.push(Vec::new(alloc))?;
-        }
+        is_last(&self.pages, self.next / KEYS)
+    }
+
+    // Adds an object to the last page.
+    fn add(&mut self, object: Counted<T>) -> Result<(), AllocError>
+        requires room { self.old.next + 1 < 2 ^ 64 }
+        requires begun { IsEntryAt self.old.pages.items (self.old.next / 64)
+            (length self.old.pages.items - 1) }
+        ensures pushed { OnOk result (IsPushed self.old object self.new) }
+        ensures kept { OnErr result (self.new.next ≡ self.old.next) }
+        ensures unchanged { OnErr result (entries_of self.new ≡ entries_of self.old) }
+    {
+        let key = self.next;
+        let last = self.pages.len() - 1;
+        let was_blank = add_to(&mut self.pages[last].1, key, object)?;
+        self.blank = fewer_if(self.blank, was_blank);
+        self.next = key + 1;
         Ok(())
+    }
+
+    // Adds a page with an object.
+    fn begin(&mut self, alloc: Global, object: Counted<T>) -> Result<(), AllocError>
+        requires room { self.old.next + 1 < 2 ^ 64 }
+        requires ahead { IsRising 0 (self.old.next / 64) self.old.pages.items }
+        ensures pushed { OnOk result (IsPushed self.old object self.new) }
+        ensures kept { OnErr result (self.new.next ≡ self.old.next) }
+        ensures unchanged { OnErr result (entries_of self.new ≡ entries_of self.old) }
+    {
+        let key = self.next;
+        let mut page = Vec::new(alloc);
+        add_to(&mut page, key, object)?;
+        self.pages.push((key / KEYS, page))?;
+        self.next = key + 1;
+        Ok(())
+    }
+
+    // Adds an object under the next key.
+    fn add_next(&mut self, alloc: Global, object: Counted<T>) -> Result<(), AllocError>
+        requires room { self.old.next + 1 < 2 ^ 64 }
+        ensures pushed { OnOk result (IsPushed self.old object self.new) }
+        ensures kept { OnErr result (self.new.next ≡ self.old.next) }
+        ensures unchanged { OnErr result (entries_of self.new ≡ entries_of self.old) }
+    {
+        if self.is_begun() {
+            return self.add(object);
+        }
+        self.begin(alloc, object)
     }
 
     /// Adds an object under the next key, and answers it.
@@ -176,10 +229,8 @@ impl<T: Drop> Pages<T> {
         ensures kept { OnErr result (self.new.next ≡ self.old.next) }
         ensures unchanged { OnErr result (entries_of self.new ≡ entries_of self.old) }
     {
-        self.open(alloc)?;
         let key = self.next;
-        add_to(&mut self.pages[(key / KEYS) as usize], key, object)?;
-        self.next += 1;
+        self.add_next(alloc, object)?;
         Ok(key)
     }
 
@@ -196,81 +247,150 @@ impl<T: Drop> Pages<T> {
     {
         let place = self.place(key);
         let is_open = key / KEYS == self.next / KEYS;
-        remove_from(&mut self.pages[place.page], place.index, is_open);
+        let is_gone = remove_from(&mut self.pages[place.page].1, place.index, is_open);
+        let blank = more_if(self.blank, is_gone);
+        self.blank = thinned(&mut self.pages, blank);
     }
 }
 
-// Whether the object of a key stands at a place of a page.
-#[inline(always)]
-fn stands_at<T>(page: &[(u64, Counted<T>)], index: usize, key: u64) -> bool
-    ensures there { result ≡ true → IsObjectAt page.now key index }
+// One more where it is so.
+fn more_if(count: usize, is_so: bool) -> usize
+    requires room { count + 1 < 2 ^ 64 }
+    ensures exact { result ≡ count + cond is_so 1 0 }
 {
-    if index >= page.len() {
+    if is_so { count + 1 } else { count }
+}
+
+// One fewer where it is so.
+fn fewer_if(count: usize, is_so: bool) -> usize
+    requires some { cond is_so 1 0 ≤ count }
+    ensures exact { result + cond is_so 1 0 ≡ count }
+{
+    if is_so { count - 1 } else { count }
+}
+
+// Takes the pages without objects out, so many are given, where they are more than half of all and one. Answers how
+// many are left.
+fn thinned<T: Drop>(pages: &mut Vec<(u64, Page<T>)>, blank: usize) -> usize
+    requires counted { count_by is_blank pages.old.items ≡ blank }
+    ensures counted { count_by is_blank pages.new.items ≡ result }
+    ensures few { result ≤ vec_len pages.new / 2 + 1 }
+    ensures thinned { IsThinned pages.old.items pages.new.items }
+{
+    if blank <= pages.len() / 2 + 1 {
+        return blank;
+    }
+    take_blank_out(pages);
+    0
+}
+
+// Takes the pages without objects out.
+#[inline(never)]
+fn take_blank_out<T: Drop>(pages: &mut Vec<(u64, Page<T>)>)
+    ensures exact { pages.new.items ≡ filter (λ p. not (is_blank p)) pages.old.items }
+{
+    pages.retain(|page| !page.1.is_empty());
+    give_back(pages);
+}
+
+// Whether the entry of a key stands at a place.
+#[inline(always)]
+fn stands_at<E>(entries: &[(u64, E)], index: usize, key: u64) -> bool
+    ensures there { result ≡ true → IsEntryAt entries.now key index }
+{
+    if index >= entries.len() {
         return false;
     }
-    page[index].0 == key
+    entries[index].0 == key
 }
 
-// Where the object of a live key stands in its page: in its own place where all before it live.
-#[inline(always)]
-fn index_of<T>(page: &[(u64, Counted<T>)], key: u64) -> usize
-    requires held { IsSome (lookup (is_at (nat_cmp key)) page.now) }
-    requires rises { (low : ℕ) × (high : ℕ) × IsPage low high page.now }
-    ensures there { IsObjectAt page.now key result }
+// Whether the last entry is that of a key, which is none below those that are there.
+fn is_last<E>(entries: &[(u64, E)], key: u64) -> bool
+    requires rises { IsRising 0 (key + 1) entries.now }
+    ensures there { result ≡ true → IsEntryAt entries.now key (length entries.now - 1) }
+    ensures ahead { result ≡ false → IsRising 0 key entries.now }
 {
-    let own = (key % KEYS) as usize;
-    if stands_at(page, own, key) {
+    if entries.is_empty() {
+        return false;
+    }
+    entries[entries.len() - 1].0 == key
+}
+
+// Where the entry of a key stands: in its own place where none before it is missing.
+#[inline(always)]
+fn index_of<E>(entries: &[(u64, E)], key: u64, own: usize) -> usize
+    requires held { IsSome (lookup (is_at (nat_cmp key)) entries.now) }
+    requires rises { (low : ℕ) × (high : ℕ) × IsRising low high entries.now }
+    ensures there { IsEntryAt entries.now key result }
+{
+    if stands_at(entries, own, key) {
         return own;
     }
-    match search(page, key) {
+    index_apart(entries, key)
+}
+
+// The same elsewhere: most often it is the last.
+#[inline(never)]
+fn index_apart<E>(entries: &[(u64, E)], key: u64) -> usize
+    requires held { IsSome (lookup (is_at (nat_cmp key)) entries.now) }
+    requires rises { (low : ℕ) × (high : ℕ) × IsRising low high entries.now }
+    ensures there { IsEntryAt entries.now key result }
+{
+    let last = entries.len() - 1;
+    if stands_at(entries, last, key) {
+        return last;
+    }
+    match search(entries, key) {
         Ok(index) => index,
         Err(_) => unreachable!(),
     }
 }
 
 // The same by halves, of any key.
-#[inline(never)]
-fn search<T>(page: &[(u64, Counted<T>)], key: u64) -> Result<usize, usize>
-    requires rises { (low : ℕ) × (high : ℕ) × IsPage low high page.now }
-    ensures found { IfOk result (IsObjectAt page.now key) }
-    ensures absent { IfErr result (λ i. lookup (is_at (nat_cmp key)) page.now ≡ None) }
+fn search<E>(entries: &[(u64, E)], key: u64) -> Result<usize, usize>
+    requires rises { (low : ℕ) × (high : ℕ) × IsRising low high entries.now }
+    ensures found { IfOk result (IsEntryAt entries.now key) }
+    ensures absent { IfErr result (λ i. lookup (is_at (nat_cmp key)) entries.now ≡ None) }
 {
-    page.binary_search_by_key(&key, |pair| pair.0)
+    entries.binary_search_by_key(&key, |entry| entry.0)
 }
 
-// Adds an object to its page. A page that gets no more objects gives memory back.
-fn add_to<T: Drop>(
-    page: &mut Vec<(u64, Counted<T>)>,
-    key: u64,
-    object: Counted<T>,
-) -> Result<(), AllocError>
+// Adds an object to its page, and tells whether it is the first there. A page that gets no more objects gives memory
+// back.
+fn add_to<T: Drop>(page: &mut Page<T>, key: u64, object: Counted<T>) -> Result<bool, AllocError>
     ensures added { OnOk result (page.new.items ≡ page.old.items ++ (key, object) ∷ []) }
+    ensures was { IfOk result (λ was_blank. was_blank ≡ nat_eq (vec_len page.old) 0) }
     ensures unchanged { OnErr result (page.new.items ≡ page.old.items) }
 {
+    let was_blank = page.is_empty();
     page.push((key, object))?;
     if key % KEYS == KEYS - 1 {
         give_back(page);
     }
-    Ok(())
+    Ok(was_blank)
 }
 
-// Takes an object out of its page. A page that gets no more objects gives memory back.
-fn remove_from<T: Drop>(page: &mut Vec<(u64, Counted<T>)>, index: usize, is_open: bool)
+// Takes an object out of its page, and tells whether none is left there. A page that gets no more objects gives memory
+// back.
+fn remove_from<T: Drop>(page: &mut Page<T>, index: usize, is_open: bool) -> bool
     requires within { index < vec_len page.old }
     ensures removed { page.new.items ≡ remove page.old.items index }
+    ensures gone { result ≡ nat_eq (vec_len page.new) 0 }
 {
     page.remove(index);
     if !is_open {
         give_back(page);
     }
+    page.is_empty()
 }
 
-// Gives the memory of a page back where it has room for at least four times as many objects as it has.
-fn give_back<T>(page: &mut Vec<(u64, Counted<T>)>)
-    ensures same { page.new.items ≡ page.old.items }
+// Gives the memory of a list back where it has room for at least four times as many entries as it has.
+fn give_back<E>(list: &mut Vec<E>)
+    ensures same { list.new.items ≡ list.old.items }
+    ensures len { vec_len list.new ≡ vec_len list.old }
 {
-    let live = page.len();
-    if live <= page.capacity() / 4 {
-        page.shrink_to(live);
+    let live = list.len();
+    if live <= list.capacity() / 4 {
+        list.shrink_to(live);
     }
 }

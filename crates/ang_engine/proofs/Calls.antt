@@ -29,7 +29,6 @@ use Rattle.ang_meaning.proofs.Counting.{many_append, bits_name_none}
 use Rattle.ang_source.specs.Meaning as source
 use Rattle.ang_code.specs.Values.{answer_of}
 use Rattle.ang_engine_call.specs.Calls.{is_callable, primitive_of, result_of, plain_slot, arguments_of, arguments_for, argument_of, in_front}
-use Rattle.ang_engine_call.specs.Named.{function_named_by}
 use Rattle.ang_engine_modules.specs.Modules.{Module, module_at, result_in, TakesSoMany}
 use Rattle.ang_engine_modules.specs.Executed.{call_of}
 use Rattle.ang_engine_modules.specs.Ends.{end_of}
@@ -38,8 +37,8 @@ use Rattle.ang_engine_modules.proofs.PlaceLists.{get-map, map-get, get-front}
 use Rattle.ang_engine_modules.specs.declared.reply.Outcome.{Outcome}
 use Rattle.ang_engine_modules.specs.declared.reply.Refusal.TheVariants.{NotCallable}
 use Rattle.ang_engine_modules.specs.World.{Program, ModuleStates, World, built_in, running, left_to}
-use Rattle.ang_engine.specs.Step.{Chosen, Not}
-use Rattle.ang_engine.specs.Step.{choice_of, of_number, of_function, with_arguments, Leads, call_chosen, call_ended, called}
+use Rattle.ang_engine.specs.Step.{Choice, Chosen, Not}
+use Rattle.ang_engine.specs.Step.{of_function, with_arguments, Leads, call_chosen, call_ended, called}
 use Rattle.ang_engine_modules.specs.Commands.{reply_of}
 use Rattle.ang_engine.specs.Outcomes.{NameNothing, HasCalled, IsTyped, outcome_as, outcome_by}
 use Rattle.ang_engine.proofs.Leading.{told_by}
@@ -105,14 +104,10 @@ of_function-one fs m None vs n f slots at e = cc
 of_function-one fs m (Some g) vs n f slots at e =
     callable-one (is_callable g) fs m g (arguments_of g vs) n f slots at (λ xs h. arguments_of-length g vs xs h) e
 
-of_number-one : (o : Option ℕ) (fs : List ScriptFunction) (vs : List Value) (n : ℕ) (f : ScriptFunction) (slots : List Slot)
-    → of_number o fs vs ≡ Chosen n f slots → IsOneOf fs n f slots
-of_number-one None fs vs n f slots e = cc
-of_number-one (Some m) fs vs n f slots e = of_function-one fs m (slice_get fs m) vs n f slots refl e
-
-pub choice-one : (p : Program) (decl : List ℕ) (vs : List Value) (n : ℕ) (f : ScriptFunction) (slots : List Slot)
-    → choice_of p decl vs ≡ Chosen n f slots → IsOneOf p.names.functions n f slots
-choice-one p decl vs n f slots e = of_number-one (function_named_by p.view p.names decl) p.names.functions vs n f slots e
+-- so is one by a number of the list
+pub number-one : (fs : List ScriptFunction) (m : ℕ) (vs : List Value) (n : ℕ) (f : ScriptFunction) (slots : List Slot)
+    → of_function m (slice_get fs m) vs ≡ Chosen n f slots → IsOneOf fs n f slots
+number-one fs m vs n f slots e = of_function-one fs m (slice_get fs m) vs n f slots refl e
 
 -- ---- its arguments, which name no object
 
@@ -233,18 +228,18 @@ called-so f (Err fault) x w rest = refl
 same_function : (o : Option ScriptFunction) (f g : ScriptFunction) → o ≡ Some f → o ≡ Some g → f ≡ g
 same_function o f g e h = cc
 
-pub call-run : (p : Program) (ms : List Module) (decl : List ℕ) (vs : List Value) (home budget : ℕ) (c : ChosenCall) (f : ScriptFunction) (outcome : Outcome) (ss : ModuleStates) (u x : RunWorld)
-    → built_in ss ≡ ms → u.events ≡ [] → choice_of p decl vs ≡ Chosen c.number f c.args.items → HasCalled ms p.names home budget c u outcome x
-    → Leads (call_chosen (choice_of p decl vs) (left_to ss u) home budget) (reply_of outcome x.events []) (left_to ss x)
-call-run p ms decl vs home budget c f outcome ss u x built first choice h =
+pub call-run : (p : Program) (ms : List Module) (q : Choice) (home budget : ℕ) (c : ChosenCall) (f : ScriptFunction) (outcome : Outcome) (ss : ModuleStates) (u x : RunWorld)
+    → built_in ss ≡ ms → u.events ≡ [] → q ≡ Chosen c.number f c.args.items → slice_get p.names.functions c.number ≡ Some f → HasCalled ms p.names home budget c u outcome x
+    → Leads (call_chosen q (left_to ss u) home budget) (reply_of outcome x.events []) (left_to ss x)
+call-run p ms q home budget c f outcome ss u x built first choice at h =
     let w = left_to ss u in
-    let same : h.function ≡ f = same_function (slice_get p.names.functions c.number) h.function f h.at (choice-one p decl vs c.number f c.args.items choice).at in
+    let same : h.function ≡ f = same_function (slice_get p.names.functions c.number) h.function f h.at at in
     let ended : outcome_by f h.value ≡ outcome = ap (λ g. outcome_by g h.value) (sym same) ∙ sym h.ended in
     record {
       used = h.ends.used;
       tells = λ rest.
-          ap (λ q. call_chosen q w home budget (h.ends.used ++ rest)) choice
-          ∙ ap (λ q. Some (call_ended (end_of (call_of q budget home c.number c.args.items (running w (h.ends.used ++ rest)))) w f)) built
+          ap (λ y. call_chosen y w home budget (h.ends.used ++ rest)) choice
+          ∙ ap (λ y. Some (call_ended (end_of (call_of y budget home c.number c.args.items (running w (h.ends.used ++ rest)))) w f)) built
           ∙ ap (λ es. Some (call_ended (end_of (call_of ms budget home c.number c.args.items (record (running w (h.ends.used ++ rest)) { events = es }))) w f)) (sym first)
           ∙ ap (λ e. Some (call_ended e w f)) (h.ends.ends rest)
           ∙ ap Some (called-so f h.value x w rest)

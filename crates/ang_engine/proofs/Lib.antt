@@ -22,3 +22,6 @@ pub mod Removing
 pub mod Discarding
 pub mod Backwards
 pub mod Limiting
+pub mod Preparing
+pub mod Checks
+pub mod Tracing

@@ -1,7 +1,8 @@
 -- A call on the module of a name.
-use Rattle.std.proofs.Common.{◌≡◌, ◌≤◌, refl, ap, sym, ◌∙◌, subst, inl, inr, ℕ, zero, suc, Bool, true, false, List, [], ◌∷◌, length, Option, Some, None, option_map}
-use Rattle.std.specs.Prelude.{Result, Ok, Err, IsSome, if◌then◌else◌, slice_index_or}
+use Rattle.std.proofs.Common.{◌≡◌, ◌≤◌, refl, ap, sym, ◌∙◌, subst, inl, inr, ◌⊎◌, ℕ, zero, suc, Bool, true, false, List, [], ◌∷◌, length, Option, Some, None, option_map}
+use Rattle.std.specs.Prelude.{Result, Ok, Err, IsSome, if◌then◌else◌, slice_get, slice_index_or}
 use Rattle.std.specs.List.{AllZip}
+use Rattle.std.proofs.lemmas.Option.{none-some, same_Some}
 use Rattle.ang_kinds.specs.declared.value.Value.{Value}
 use Rattle.ang_host.specs.declared.event.HostEvent.{HostEvent}
 use Rattle.ang_view.specs.Registration.{RegistrationList}
@@ -18,17 +19,19 @@ use Rattle.ang_engine.specs.declared.calling.ChosenCall.{ChosenCall}
 use Rattle.ang_engine_modules.specs.declared.module.Module.{Module}
 use Rattle.ang_engine_modules.specs.declared.reply.Outcome.{Outcome}
 use Rattle.ang_engine_modules.specs.declared.reply.Refusal.{Refusal}
-use Rattle.ang_engine_modules.specs.declared.reply.Refusal.TheVariants.{NotBuilt, BadBudget}
+use Rattle.ang_engine_modules.specs.declared.reply.Refusal.TheVariants.{NotBuilt, BadBudget, NoFunction, Memory}
 use Rattle.ang_engine_modules.specs.World.{Program, World, module_named, module_in, module_at}
 use Rattle.ang_engine_modules.specs.States.{program_in, place_of, places_of}
 use Rattle.ang_engine_modules.proofs.Worlds.{places_at}
 use Rattle.ang_engine.specs.Engines.{resolved_in}
 use Rattle.ang_engine.specs.Sound.{IsBuiltBy, IsSoundPlace}
-use Rattle.ang_engine.specs.Step.{Choice, choice_of, call, call_chosen, call_program, is_budget}
-use Rattle.ang_engine_modules.specs.Commands.{refused}
+use Rattle.ang_engine.specs.Step.{Choice, choice_of, of_function, of_number, call, call_chosen, call_program, is_budget}
+use Rattle.ang_engine.specs.Prepared.{call_by_number, calling_number}
+use Rattle.ang_engine_call.specs.Named.{function_named_by}
+use Rattle.ang_engine_modules.specs.Commands.{Stepped, refused}
 use Rattle.ang_engine_modules.specs.Outcomes.{IsRefused}
 use Rattle.ang_engine.specs.Outcomes.{IsChosen, IsTyped, IsCalled, calling}
-use Rattle.ang_engine.proofs.Calls.{choice-one, takes-named, typed-named}
+use Rattle.ang_engine.proofs.Calls.{number-one, takes-named, typed-named}
 use Rattle.ang_engine_modules.proofs.Finding.{on_module-found}
 use Rattle.ang_engine.proofs.Leading.{leads-same}
 
@@ -47,17 +50,17 @@ abbrev AreNamed : LoadedModule → t.Program → Type 0
 AreNamed l p = (ss : List Source) × HasNames l.view l.names ss p
 
 loaded_named : (R : RegistrationList) (m : Option Module) (o : Option LoadedModule) (l : LoadedModule) → IsSoundPlace R m o → Some l ≡ o → AreNamed l (module_of o).tree
-loaded_named R None None l h e = cc
+loaded_named R None None l h e = absurd (none-some l (sym e))
 loaded_named R None (Some k) l h e = absurd h
-loaded_named R (Some m) None l h e = cc
+loaded_named R (Some m) None l h e = absurd (none-some l (sym e))
 loaded_named R (Some m) (Some k) l h e =
-    let same : k ≡ l = cc in
+    let same : k ≡ l = same_Some k l (sym e) in
     let named = program-named k.view h.sections (resolved_in k) h.built in
     subst (λ x. AreNamed x (view_typed k.tree)) same (named.sources, named.names)
 
 there_named : (R : RegistrationList) (ms : List (Option Module)) (ls : List (Option LoadedModule)) (i : ℕ) (l : LoadedModule) → AllZip (IsSoundPlace R) ms ls → Some l ≡ slice_index_or ls i None
     → AreNamed l (run_module_at (modules_of ls) i).tree
-there_named R [] [] i l h e = cc
+there_named R [] [] i l h e = absurd (none-some l (sym e))
 there_named R [] (k ∷ ls) i l h e = absurd h
 there_named R (m ∷ ms) [] i l h e = absurd h
 there_named R (m ∷ ms) (k ∷ ls) zero l h e = loaded_named R m k l h.0 e
@@ -70,16 +73,16 @@ pub record IsBuiltAt (R : RegistrationList) (l : LoadedModule) : Type 0 where
   pub built : IsBuiltBy R own mask l
 
 built_one : (R : RegistrationList) (m : Option Module) (o : Option LoadedModule) (l : LoadedModule) → IsSoundPlace R m o → Some l ≡ o → IsBuiltAt R l
-built_one R None None l h e = cc
+built_one R None None l h e = absurd (none-some l (sym e))
 built_one R None (Some k) l h e = absurd h
-built_one R (Some m) None l h e = cc
+built_one R (Some m) None l h e = absurd (none-some l (sym e))
 built_one R (Some m) (Some k) l h e =
-    let same : k ≡ l = cc in
+    let same : k ≡ l = same_Some k l (sym e) in
     record { own = m.name; mask = m.built_mask.0; built = subst (λ x. IsBuiltBy R m.name m.built_mask.0 x) same h }
 
 pub built_there : (R : RegistrationList) (ms : List (Option Module)) (ls : List (Option LoadedModule)) (i : ℕ) (l : LoadedModule) → AllZip (IsSoundPlace R) ms ls → Some l ≡ slice_index_or ls i None
     → IsBuiltAt R l
-built_there R [] [] i l h e = cc
+built_there R [] [] i l h e = absurd (none-some l (sym e))
 built_there R [] (k ∷ ls) i l h e = absurd h
 built_there R (m ∷ ms) [] i l h e = absurd h
 built_there R (m ∷ ms) (k ∷ ls) zero l h e = built_one R m k l h.0 e
@@ -93,20 +96,20 @@ few_families R ms ls i l h e =
     (program-families l.view b.sections (resolved_in l) b.built).few
 
 -- a function that was chosen takes the arguments that were chosen
-pub takes_chosen : (R : RegistrationList) (ms : List (Option Module)) (ls : List (Option LoadedModule)) (i : ℕ) (l : LoadedModule) (decl : List ℕ) (vs : List Value) (c : ChosenCall)
-    → AllZip (IsSoundPlace R) ms ls → Some l ≡ slice_index_or ls i None → IsChosen (Ok c) (choice_of (program_in l) decl vs)
+pub takes_chosen : (R : RegistrationList) (ms : List (Option Module)) (ls : List (Option LoadedModule)) (i : ℕ) (l : LoadedModule) (n : ℕ) (vs : List Value) (c : ChosenCall)
+    → AllZip (IsSoundPlace R) ms ls → Some l ≡ slice_index_or ls i None → IsChosen (Ok c) (of_function n (slice_get l.names.functions n) vs)
     → TakesSoMany (modules_of ls) i c.number (length c.args.items)
-takes_chosen R ms ls i l decl vs c h e chosen =
+takes_chosen R ms ls i l n vs c h e chosen =
     let named = there_named R ms ls i l h e in
-    takes-named l.view l.names named.0 (modules_of ls) i c.number chosen.0 c.args.items named.1 (choice-one (program_in l) decl vs c.number chosen.0 c.args.items chosen.1)
+    takes-named l.view l.names named.0 (modules_of ls) i c.number chosen.0 c.args.items named.1 (number-one l.names.functions n vs c.number chosen.0 c.args.items chosen.1)
 
 -- and its value is of the type that the names say
-pub typed_chosen : (R : RegistrationList) (ms : List (Option Module)) (ls : List (Option LoadedModule)) (i : ℕ) (l : LoadedModule) (decl : List ℕ) (vs : List Value) (c : ChosenCall)
-    → AllZip (IsSoundPlace R) ms ls → Some l ≡ slice_index_or ls i None → IsChosen (Ok c) (choice_of (program_in l) decl vs)
+pub typed_chosen : (R : RegistrationList) (ms : List (Option Module)) (ls : List (Option LoadedModule)) (i : ℕ) (l : LoadedModule) (n : ℕ) (vs : List Value) (c : ChosenCall)
+    → AllZip (IsSoundPlace R) ms ls → Some l ≡ slice_index_or ls i None → IsChosen (Ok c) (of_function n (slice_get l.names.functions n) vs)
     → IsTyped (modules_of ls) l.names i c.number
-typed_chosen R ms ls i l decl vs c h e chosen =
+typed_chosen R ms ls i l n vs c h e chosen =
     let named = there_named R ms ls i l h e in
-    typed-named l.view l.names named.0 (modules_of ls) i c.number chosen.0 named.1 (choice-one (program_in l) decl vs c.number chosen.0 c.args.items chosen.1).at
+    typed-named l.view l.names named.0 (modules_of ls) i c.number chosen.0 named.1 (number-one l.names.functions n vs c.number chosen.0 c.args.items chosen.1).at
 
 -- no function was chosen
 pub chosen_refused : (why : Refusal) (q : Choice) (w : World) (i budget : ℕ) → IsChosen (Err why) q → IsRefused why (call_chosen q w i budget) w w
@@ -129,9 +132,67 @@ module _ (w : World) (name decl : List ℕ) (args : List Value) (budget i : ℕ)
       → calling name decl args budget w rest ≡ refused BadBudget w rest
   calling-unbudgeted p rest built may = calling-program p false rest built may
 
-  -- a call of the program that the module has
-  pub calling-built : (p : Program) (r : Result Outcome Refusal) (es : List HostEvent) (v : World) → (module_at w i).program ≡ Some p → is_budget budget ≡ true
-      → IsCalled r es (call_chosen (choice_of p decl args) w i budget) w v → IsCalled r es (calling name decl args budget w) w v
-  calling-built p (Ok outcome) es v built may h = leads-same _ (calling name decl args budget w) _ v v (λ rest. calling-program p true rest built may) refl h
-  calling-built p (Err why) es v built may (inl memory, same) = (inl memory, same)
-  calling-built p (Err why) es v built may (inr so, same) = (inr (λ rest. calling-program p true rest built may ∙ so rest), same)
+-- the same step by other words
+called-same : (go to : List Input → Option Stepped) (r : Result Outcome Refusal) (es : List HostEvent) (w v : World) → ((rest : List Input) → to rest ≡ go rest) → IsCalled r es go w v → IsCalled r es to w v
+called-same go to (Ok outcome) es w v h l = leads-same go to _ v v h refl l
+called-same go to (Err why) es w v h (inl memory, same) = (inl memory, same)
+called-same go to (Err why) es w v h (inr so, same) = (inr (λ rest. h rest ∙ so rest), same)
+
+-- ---- a call by the function's number
+
+-- nothing is built in a place that has no code
+none_there : (m : Option Module) → (module_in (place_of m None)).program ≡ None
+none_there None = refl
+none_there (Some m) = refl
+
+pub program_none : (ms : List (Option Module)) (ls : List (Option LoadedModule)) (i : ℕ) → None ≡ slice_index_or ls i None → (module_in (slice_index_or (places_of ms ls) i None)).program ≡ None
+program_none ms ls i e =
+    ap (λ p. (module_in p).program) (places_at ms ls i) ∙ ap (λ o. (module_in (place_of (slice_index_or ms i None) o)).program) (sym e) ∙ none_there (slice_index_or ms i None)
+
+-- and what has code has a module
+loaded_one : (R : RegistrationList) (m : Option Module) (o : Option LoadedModule) (l : LoadedModule) → IsSoundPlace R m o → Some l ≡ o → IsSome m
+loaded_one R None None l h e = cc
+loaded_one R None (Some k) l h e = absurd h
+loaded_one R (Some m) o l h e = refl
+
+pub there_loaded : (R : RegistrationList) (ms : List (Option Module)) (ls : List (Option LoadedModule)) (i : ℕ) (l : LoadedModule) → AllZip (IsSoundPlace R) ms ls → Some l ≡ slice_index_or ls i None
+    → IsSome (slice_index_or ms i None)
+there_loaded R [] [] i l h e = cc
+there_loaded R [] (k ∷ ls) i l h e = absurd h
+there_loaded R (m ∷ ms) [] i l h e = absurd h
+there_loaded R (m ∷ ms) (k ∷ ls) zero l h e = loaded_one R m k l h.0 e
+there_loaded R (m ∷ ms) (k ∷ ls) (suc i) l h e = there_loaded R ms ls i l h.1 e
+
+module _ (w : World) (i n : ℕ) (args : List Value) (budget : ℕ) where
+  pub numbered-unbuilt : (rest : List Input) → (module_at w i).program ≡ None → calling_number i n args budget w rest ≡ refused NotBuilt w rest
+  numbered-unbuilt rest none = ap (λ o. call_by_number o n args budget w i rest) none
+
+  pub numbered-built : (p : Program) (r : Result Outcome Refusal) (es : List HostEvent) (v : World) → (module_at w i).program ≡ Some p
+      → IsCalled r es (call_chosen (of_function n (slice_get p.names.functions n) args) w i budget) w v → IsCalled r es (calling_number i n args budget w) w v
+  numbered-built p r es v built h =
+      called-same (call_chosen (of_function n (slice_get p.names.functions n) args) w i budget) (calling_number i n args budget w) r es w v
+      (λ rest. ap (λ o. call_by_number o n args budget w i rest) built) h
+
+module _ (w : World) (name decl : List ℕ) (args : List Value) (budget i : ℕ) (found : Some i ≡ module_named name w) (p : Program) (built : (module_at w i).program ≡ Some p)
+    (may : is_budget budget ≡ true) where
+  -- a call by a text that names the function of this number
+  pub called-number : (n : ℕ) (r : Result Outcome Refusal) (es : List HostEvent) (v : World) → function_named_by p.view p.names decl ≡ Some n
+      → IsCalled r es (calling_number i n args budget w) w v → IsCalled r es (calling name decl args budget w) w v
+  called-number n r es v named h =
+      called-same (calling_number i n args budget w) (calling name decl args budget w) r es w v
+      (λ rest.
+      calling-program w name decl args budget i found p true rest built may
+      ∙ ap (λ o. call_chosen (of_number o p.names.functions args) w i budget rest) named
+      ∙ ap (λ o. call_by_number o n args budget w i rest) (sym built)) h
+
+  -- by one that names none, or for want of memory
+  pub called-none : (why : Refusal) (es : List HostEvent) → (why ≡ Memory) ⊎ ((why ≡ NoFunction) × (function_named_by p.view p.names decl ≡ None))
+      → IsCalled (Err why) es (calling name decl args budget w) w w
+  called-none why es (inl memory) = (inl memory, refl)
+  called-none why es (inr none) = (
+    inr (λ rest.
+        calling-program w name decl args budget i found p true rest built may
+        ∙ ap (λ o. call_chosen (of_number o p.names.functions args) w i budget rest) none.1
+        ∙ ap (λ q. refused q w rest) (sym none.0)),
+    refl,
+  )

@@ -1,5 +1,5 @@
 -- What contracts see of an engine.
-use Rattle.std.specs.Prelude.{List, Vec}
+use Rattle.std.specs.Prelude.{ℕ, List, Vec, Option}
 use Rattle.std.specs.declared.alloc.Global.{Global}
 use Rattle.std.specs.declared.dyn_box.DynBox.{DynBox}
 use Rattle.ang_host.specs.declared.event_buffer.EventBuffer.{EventBuffer}
@@ -18,7 +18,7 @@ use Rattle.ang_engine_modules.specs.declared.modules.LoadedModule.{LoadedModule}
 use Rattle.ang_engine.specs.declared.engine.Engine.{Engine}
 use Rattle.ang_engine_modules.specs.declared.module.ModuleList.{ModuleList}
 use Rattle.ang_engine_modules.specs.World.{World, left_to}
-use Rattle.ang_engine_modules.specs.States.{states_in}
+use Rattle.ang_engine_modules.specs.States.{states_in, build_at}
 use Rattle.ang_engine.specs.Limited.{held_of}
 
 -- what a module is built to
@@ -33,6 +33,10 @@ registrations e = e.registry.entries
 -- drivers themselves.
 abbrev pub world_in : {V : Type 0} {P : V → Type 0} → Meanings P → Engine V P → World
 world_in m e = left_to (states_in e.modules) (world_of m e.machine.store)
+
+-- for each place the number of the last build of its module, where there is one
+abbrev pub builds_in : {V : Type 0} {P : V → Type 0} → Engine V P → ℕ → Option ℕ
+builds_in e i = build_at e.modules.places.items i
 
 -- its boxed drivers, in their order
 abbrev pub drivers_in : {V : Type 0} {P : V → Type 0} → Engine V P → List (DynBox V Global P)

@@ -3,8 +3,12 @@ pub mod Step
 pub mod Outcomes
 pub mod Limited
 pub mod Engines
+pub mod Trace
 pub mod Replies
 pub mod Sound
 pub mod Asked
 pub mod Applied
 pub mod Ending
+pub mod Prepared
+pub mod Checking
+pub mod Declarations

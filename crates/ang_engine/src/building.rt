@@ -16,7 +16,7 @@ ghost use Rattle.ang_engine_modules.specs.Loaded.{loaded_at, modules_of, unbound
 ghost use Rattle.ang_engine_modules.specs.Modules.{module_at as built_module_at, AreDriversThere};
 ghost use Rattle.ang_engine_modules.specs.declared.modules.LoadedModule.{LoadedModule};
 ghost use Rattle.ang_engine.specs.Asked.{HasRunOn, HasAsked};
-ghost use Rattle.ang_engine_modules.specs.States.{states_in, state_of, place_of, program_in};
+ghost use Rattle.ang_engine_modules.specs.States.{states_in, state_of, place_of, program_in, next_build, build_in, build_at};
 ghost use Rattle.ang_engine.specs.Engines.{resolved_in};
 ghost use Rattle.ang_engine.specs.Engines.{world_during};
 ghost use Rattle.ang_engine.specs.Outcomes.{IfRefusedAtOnce, IsBegun, IsCompiled, HasStarted, refused_by, building, reply_to_build};
@@ -29,7 +29,8 @@ use crate::budget::may_run;
 use crate::ending::end_globals;
 use ang_engine_build::{NoProgram, Program, build_sections};
 use ang_engine_modules::{
-    KeptTree, LoadedModule, Module, ModuleList, Modules, Refusal, WholeModule, find, put_globals,
+    KeptTree, LoadedModule, Module, ModuleList, Modules, Refusal, WholeModule, find, next_build,
+    put_globals,
 };
 use ang_host::{Driver, EventBuffer};
 use ang_kinds::{Denial, Error, Fault, List, Mask};
@@ -55,7 +56,7 @@ pub enum BuildRefused {
 }
 
 /// What a build is refused by that comes to no program.
-fn refused_by(why: NoProgram) -> BuildRefused
+pub fn refused_by(why: NoProgram) -> BuildRefused
     ensures exact { result ≡ refused_by why }
     ensures begun { IsBegun result }
 {
@@ -65,16 +66,18 @@ fn refused_by(why: NoProgram) -> BuildRefused
     }
 }
 
-/// Takes the sections that waited, and the mask becomes the mask of the last build.
-fn take_sections(alloc: Global, from: &mut Module) -> Vec<List<u8>>
+/// Takes the sections that waited, and the mask becomes the mask of the last build, which has this number.
+fn take_sections(alloc: Global, from: &mut Module, number: u64) -> Vec<List<u8>>
     ensures sections { result.items ≡ from.old.sections.items }
     ensures few { length result.items ≤ 64 }
     ensures emptied { (l : Option LoadedModule)
         → state_of from.new None ≡ emptied (state_of from.old l) }
     ensures name { from.new.name ≡ from.old.name }
     ensures built_mask { from.new.built_mask ≡ from.old.mask }
+    ensures build { from.new.build ≡ number }
 {
     from.built_mask = from.mask;
+    from.build = number;
     mem::replace(&mut from.sections, Vec::new(alloc))
 }
 
@@ -148,7 +151,7 @@ fn with_view(
 }
 
 /// What the sections build to over what the mask sees.
-fn compile(
+pub fn compile(
     alloc: Global,
     registry: &Registry,
     name: &[u8],
@@ -180,11 +183,13 @@ fn compile(
     }
 }
 
-/// Takes the sections that waited, and builds them over what the module's mask sees now.
+/// Takes the sections that waited, and builds them over what the module's mask sees now: the build of this
+/// number.
 fn compile_waiting(
     alloc: Global,
     registry: &Registry,
     from: &mut Module,
+    number: u64,
 ) -> Result<WholeModule, NoProgram>
     ensures compiled { IsCompiled result
         (build_of (seen registry.now.entries from.old.mask.0) from.old.sections.items) }
@@ -198,8 +203,9 @@ fn compile_waiting(
         → state_of from.new None ≡ emptied (state_of from.old l) }
     ensures name { from.new.name ≡ from.old.name }
     ensures built_mask { from.new.built_mask ≡ from.old.mask }
+    ensures build { from.new.build ≡ number }
 {
-    let sections = take_sections(alloc, from);
+    let sections = take_sections(alloc, from, number);
     compile(
         alloc,
         registry,
@@ -236,7 +242,8 @@ fn load(
 /// globals end.
 ///
 /// # Errors
-/// `Memory` or `Initializer`. Then the module is not built.
+/// `Memory` or `Initializer`. Then the module is not built; after `Initializer` what it was loaded with is kept
+/// for its names.
 fn start(
     alloc: Global,
     code: &mut Modules,
@@ -280,7 +287,7 @@ fn start(
         Ok(()) => Ok(()),
         Err(fault) => {
             end_globals(alloc, machine, events, home as usize);
-            code.unload(alloc, home);
+            code.unload_failed(alloc, home);
             Err(BuildRefused::Initializer(fault))
         }
     }
@@ -291,6 +298,7 @@ fn compile_place(
     alloc: Global,
     registry: &Registry,
     place: &mut Option<Module>,
+    number: u64,
 ) -> Result<WholeModule, NoProgram>
     requires there { IsSome place.old }
     ensures compiled { (l : Option LoadedModule) → IsCompiled result
@@ -306,9 +314,10 @@ fn compile_place(
     ensures emptied { (l : Option LoadedModule)
         → place_of place.new None ≡ Some (emptied (module_in (place_of place.old l))) }
     ensures name { HasSameName place.old place.new }
+    ensures build { build_in place.new ≡ Some number }
 {
     match place {
-        Some(module) => compile_waiting(alloc, registry, module),
+        Some(module) => compile_waiting(alloc, registry, module, number),
         None => unreachable!(),
     }
 }
@@ -346,10 +355,14 @@ fn build_module(
     ensures globals { HaveGlobals list.new (values_in machine.new.store.globals) }
     ensures heard { is_heard events.new ≡ is_heard events.old }
     ensures begun { IfErr result IsBegun }
+    ensures builds { list.new.builds ≡ next_build list.old.builds }
+    ensures build { build_at list.new.places.items home ≡ Some list.new.builds }
 {
     end_globals(alloc, machine, events, home as usize);
     list.code.unload(alloc, home);
-    match compile_place(alloc, registry, &mut list.places[home as usize]) {
+    let number = next_build(list.builds);
+    list.builds = number;
+    match compile_place(alloc, registry, &mut list.places[home as usize], number) {
         Ok(loaded) => start(alloc, &mut list.code, machine, events, home, loaded, budget),
         Err(why) => Err(refused_by(why)),
     }

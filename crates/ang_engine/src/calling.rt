@@ -1,17 +1,20 @@
 //! Calls from outside.
-ghost use Rattle.std.specs.Prelude.{◌≡◌, ◌<◌, ◌≤◌, [], Some, length, IfOk, map as list_map};
+ghost use Rattle.std.specs.Prelude.{◌≡◌, ◌≢◌, ◌⊎◌, ◌<◌, ◌≤◌, [], Some, None, Ok, Err, length, IfOk, IfErr, slice_get, map as list_map};
 ghost use Rattle.ang_host.specs.Boxes.{members};
 ghost use Rattle.ang_meaning.specs.Counting.{IsCounted};
 ghost use Rattle.ang_heap.specs.Globals.{values_in};
 ghost use Rattle.ang_heap.specs.Stores.{world_of, IsReady};
 ghost use Rattle.ang_vm.specs.Machines.{lent};
+ghost use Rattle.ang_engine_call.specs.Named.{function_named_by};
+ghost use Rattle.ang_engine_modules.specs.declared.reply.Refusal.TheVariants.{NoFunction, Memory};
 ghost use Rattle.ang_engine_modules.specs.Loaded.{modules_of};
 ghost use Rattle.ang_engine_modules.specs.Modules.{TakesSoMany, AreDriversThere};
 ghost use Rattle.ang_names_known.specs.declared.names.Names.{Names};
 ghost use Rattle.ang_engine.specs.Asked.{HasRunOn};
 ghost use Rattle.ang_engine_modules.specs.States.{program_in};
 ghost use Rattle.ang_engine.specs.Outcomes.{IsChosen, NameNothing, HasCalled, IsTyped, outcome_as};
-ghost use Rattle.ang_engine.specs.Step.{choice_of, of_function};
+ghost use Rattle.ang_engine.specs.Step.{of_function};
+ghost use Rattle.ang_engine.specs.Prepared.{callable_in};
 
 use ang_engine_call::{arguments, find_function, is_callable};
 use ang_engine_modules::{LoadedModule, Modules, Outcome, Refusal};
@@ -52,24 +55,59 @@ fn choose_arguments(
     }
 }
 
-/// The call that a declaration and values name, of a function of this module.
-pub fn choose(
+/// A call of the function of this number of a module with these values.
+pub fn choose_by_number(
     alloc: Global,
     loaded: &LoadedModule,
-    decl: &[u8],
+    number: usize,
     args: &[Value],
 ) -> Result<ChosenCall, Refusal>
-    requires few { length loaded.now.names.families ≤ 256 }
-    ensures chosen { IsChosen result (choice_of (program_in loaded.now) decl.now args.now) }
-    ensures within { IfOk result (λ c. c.number < length loaded.now.names.functions) }
+    ensures chosen { IsChosen result
+        (of_function number (slice_get loaded.now.names.functions number) args.now) }
     ensures plain { IfOk result (λ c. NameNothing c.args.items) }
 {
-    let number = match find_function(alloc, &loaded.view, &loaded.names, decl) {
-        Ok(Some(number)) => number,
-        Ok(None) => return Err(Refusal::NoFunction),
-        Err(_) => return Err(Refusal::Memory),
-    };
-    choose_arguments(alloc, number, &loaded.names.functions()[number], args)
+    match loaded.names.functions().get(number) {
+        Some(function) => choose_arguments(alloc, number, function, args),
+        None => Err(Refusal::NoFunction),
+    }
+}
+
+/// The number of the function that a declaration names, of this module.
+pub fn number_of(alloc: Global, loaded: &LoadedModule, decl: &[u8]) -> Result<usize, Refusal>
+    requires few { length loaded.now.names.families ≤ 256 }
+    ensures found { IfOk result (λ number.
+        function_named_by loaded.now.view loaded.now.names decl.now ≡ Some number) }
+    ensures none { IfErr result (λ why. (why ≡ Memory) ⊎ ((why ≡ NoFunction)
+        × (function_named_by loaded.now.view loaded.now.names decl.now ≡ None))) }
+    ensures within { IfOk result (λ number. number < length loaded.now.names.functions) }
+{
+    match find_function(alloc, &loaded.view, &loaded.names, decl) {
+        Ok(Some(number)) => Ok(number),
+        Ok(None) => Err(Refusal::NoFunction),
+        Err(_) => Err(Refusal::Memory),
+    }
+}
+
+/// The same of a function that a host can call.
+pub fn callable_number(alloc: Global, loaded: &LoadedModule, decl: &[u8]) -> Result<usize, Refusal>
+    requires few { length loaded.now.names.families ≤ 256 }
+    ensures named { IfOk result (λ number.
+        function_named_by loaded.now.view loaded.now.names decl.now ≡ Some number) }
+    ensures found { IfOk result (λ number.
+        callable_in (Some (program_in loaded.now)) decl.now ≡ Ok number) }
+    ensures refused { IfErr result (λ why. why ≢ Memory
+        → callable_in (Some (program_in loaded.now)) decl.now ≡ Err why) }
+{
+    match number_of(alloc, loaded, decl) {
+        Ok(number) => {
+            if is_callable(&loaded.names.functions()[number]) {
+                Ok(number)
+            } else {
+                Err(Refusal::NotCallable)
+            }
+        }
+        Err(refusal) => Err(refusal),
+    }
 }
 
 /// How a call ended that was answered so.

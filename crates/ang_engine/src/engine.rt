@@ -1,5 +1,5 @@
 //! The engine.
-ghost use Rattle.std.specs.Prelude.{◌≡◌, ◌+◌, ◌≤◌, ◌↔◌, [], true, Bool, List, All, IsTrue, IfOk, IfErr, OnErr, length, max, map as list_map};
+ghost use Rattle.std.specs.Prelude.{◌≡◌, ◌+◌, ◌≤◌, ◌↔◌, [], true, false, Bool, List, All, IsTrue, IfOk, IfErr, OnErr, length, max, map as list_map};
 ghost use Rattle.ang_host.specs.Logs.{listed_in, is_heard};
 ghost use Rattle.ang_host.specs.declared.event.Role.{Role};
 ghost use Rattle.ang_host.specs.Boxes.{members};
@@ -21,13 +21,14 @@ ghost use Rattle.ang_engine.specs.Sound.{IsSound, HaveDrivers, has_driver};
 use crate::binding::bind;
 use crate::budget::may_run;
 use crate::building::build;
-use crate::calling::{choose, run_chosen};
+use crate::calling::number_of;
 use crate::ending::{end_all, end_globals};
 use crate::refused::{NewError, NewRefused};
 use crate::replies::{
     Finished, Unheard, answer, build_reply, call_reply, discard_reply, ended, heard_reply,
     no_events, unheard_reply,
 };
+use crate::trace::{budget_of, end_last};
 use ang_engine_modules::{
     Command, MOST_MODULES, ModuleList, Modules, Outcome, Refusal, Reply, add_module, add_section,
     find, remove_module, set_mask, unbind,
@@ -37,7 +38,7 @@ use ang_host::{Driver, Drivers, EventBuffer};
 use ang_kinds::{EntityNo, List, Mask, Value};
 use ang_registry::Registry;
 use ang_view::EntryKind;
-use ang_vm::Machine;
+use ang_vm::{LastRun, Machine};
 use std::alloc::{AllocError, Global};
 
 /// Modules of scripts over one registration list and the drivers that answer for it
@@ -46,10 +47,12 @@ use std::alloc::{AllocError, Global};
 /// The compiler refuses a program that lets an engine go out of scope: `discard` ends it, and gives the
 /// drivers back.
 pub struct Engine {
-    alloc: Global,
-    registry: Registry,
-    machine: Machine,
-    modules: ModuleList,
+    pub(crate) alloc: Global,
+    pub(crate) registry: Registry,
+    pub(crate) machine: Machine,
+    pub(crate) modules: ModuleList,
+    /// The ticks that the last command used.
+    pub(crate) ticks: u64,
 }
 
 /// Whether entries of this kind are a driver's: an enumeration and a value of one are no driver's.
@@ -93,6 +96,7 @@ fn machine_of(alloc: Global, drivers: Drivers) -> Machine
     let heap = Heap::new(alloc);
     let modules = Vec::new(alloc);
     let ends = EventBuffer::unheard(alloc);
+    let last = LastRun::none(alloc);
     Machine {
         store: Store {
             heap,
@@ -106,6 +110,7 @@ fn machine_of(alloc: Global, drivers: Drivers) -> Machine
             made: 0,
             made_at: 0,
         },
+        last,
     }
 }
 
@@ -113,7 +118,11 @@ fn machine_of(alloc: Global, drivers: Drivers) -> Machine
 ///
 /// # Errors
 /// Want of memory.
-fn room_for_ends(alloc: Global, heard: bool, machine: &Machine) -> Result<EventBuffer, AllocError>
+pub(crate) fn room_for_ends(
+    alloc: Global,
+    heard: bool,
+    machine: &Machine,
+) -> Result<EventBuffer, AllocError>
     requires kept { IsKept ⟦<dyn Driver as Driver>⟧ machine.now.store }
     ensures empty { IfOk result (λ events. listed_in events ≡ []) }
     ensures heard { IfOk result (λ events. is_heard events ≡ heard) }
@@ -131,6 +140,8 @@ impl Engine {
     ghost use Rattle.ang_engine.specs.Outcomes.{IfRefusedAtOnce, IsCalled, IsDiscarded, calling, discarding, reply_to_call, reply_to_discard};
     ghost use Rattle.ang_engine.specs.Engines.{registrations, world_in, drivers_in, limits_in, held_in};
     ghost use Rattle.ang_engine.specs.Replies.{reply_in, WasUnheard};
+    ghost use Rattle.ang_engine_modules.specs.Ended.{is_fault, may_have_run};
+    ghost use Rattle.ang_engine.specs.Trace.{trace_in, ticks_in, budget_of};
 
     /// An engine without modules, and without limits. Each driver has to be idle, as those of
     /// `Drivers::new` are.
@@ -166,7 +177,9 @@ impl Engine {
                     places: Vec::new(alloc),
                     code: Modules::new(alloc),
                     order,
+                    builds: 0,
                 },
+                ticks: 0,
             }),
             Err(_) => Err(NewRefused {
                 why: NewError::Memory,
@@ -190,6 +203,9 @@ impl Engine {
     /// may have ended. No more events are listed, and no more is held after it, than the limits allow
     /// (`set_limits`), or than was held before. Where a driver refused one reference more, which the world
     /// notes as `spent`, the tally of some driver has run out.
+    ///
+    /// After a command that ended with a fault, `trace` says which bodies were running, and after any other
+    /// nothing; `ticks_used` says what the command took of its budget.
     pub fn apply(&mut self, command: Command) -> Reply
         requires sound { IsSound ⟦<dyn Driver as Driver>⟧ self.old }
         ensures takes { Takes (registrations self.old) (world_in ⟦<dyn Driver as Driver>⟧ self.old)
@@ -212,6 +228,9 @@ impl Engine {
             → SomeRanOut (states_of ⟦<dyn Driver as Driver>⟧ (drivers_in self.new)) }
         ensures sound { IsSound ⟦<dyn Driver as Driver>⟧ self.new }
         ensures registrations { registrations self.new ≡ registrations self.old }
+        ensures no_trace { is_fault result.outcome ≡ false → trace_in self.new ≡ [] }
+        ensures ticks { ticks_in self.new ≤ budget_of command }
+        ensures no_ticks { may_have_run result.outcome ≡ false → ticks_in self.new ≡ 0 }
     {
         heard_reply(self.finish(command, true))
     }
@@ -236,6 +255,9 @@ impl Engine {
             → SomeRanOut (states_of ⟦<dyn Driver as Driver>⟧ (drivers_in self.new)) }
         ensures sound { IsSound ⟦<dyn Driver as Driver>⟧ self.new }
         ensures registrations { registrations self.new ≡ registrations self.old }
+        ensures no_trace { is_fault result.outcome ≡ false → trace_in self.new ≡ [] }
+        ensures ticks { ticks_in self.new ≤ budget_of command }
+        ensures no_ticks { may_have_run result.outcome ≡ false → ticks_in self.new ≡ 0 }
     {
         unheard_reply(self.finish(command, false))
     }
@@ -292,9 +314,18 @@ impl Engine {
             (reply_in result).events self.new.machine.store }
         ensures sound { IsSound ⟦<dyn Driver as Driver>⟧ self.new }
         ensures registrations { registrations self.new ≡ registrations self.old }
+        ensures no_trace { is_fault result.outcome ≡ false → trace_in self.new ≡ [] }
+        ensures ticks { ticks_in self.new ≤ budget_of command }
+        ensures no_ticks { may_have_run result.outcome ≡ false → ticks_in self.new ≡ 0 }
     {
+        let budget = budget_of(&command);
         begin_command(&mut self.machine.store);
-        self.dispatch(command, heard)
+        self.machine.last.left = budget;
+        self.modules.code.forget_failed();
+        let finished = self.dispatch(command, heard);
+        let ticks = end_last(&mut self.machine.last, budget, finished.outcome);
+        self.ticks = ticks;
+        finished
     }
 
     /// Does one command that has begun, each by its function.
@@ -478,15 +509,8 @@ impl Engine {
         if !may_run(budget) {
             return Err(Refusal::BadBudget);
         }
-        match choose(self.alloc, loaded, decl, args) {
-            Ok(chosen) => Ok(run_chosen(
-                &self.modules.code,
-                &mut self.machine,
-                events,
-                home,
-                &chosen,
-                budget,
-            )),
+        match number_of(self.alloc, loaded, decl) {
+            Ok(number) => self.call_number(events, home, number, args, budget),
             Err(refusal) => Err(refusal),
         }
     }
@@ -580,21 +604,17 @@ impl Engine {
     {
         let Engine {
             alloc,
-            registry: _,
+            registry,
             machine,
             modules,
+            ticks: _,
         } = self;
-        let ModuleList {
-            places: _,
-            code: _,
-            order,
-        } = modules;
-        let Machine { store } = machine;
+        let Machine { store, last } = machine;
         let Store {
             mut heap,
             mut globals,
             mut drivers,
-            events: _,
+            events,
             mut ends,
             live: _,
             spent: _,
@@ -608,8 +628,15 @@ impl Engine {
             &mut globals,
             &mut drivers,
             &mut ends,
-            &order,
+            &modules.order,
         );
+        drop(registry);
+        drop(modules);
+        drop(heap);
+        drop(globals);
+        drop(events);
+        drop(ends);
+        drop(last);
         drivers.into_boxes()
     }
 }

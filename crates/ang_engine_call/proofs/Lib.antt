@@ -1,4 +1,5 @@
 pub mod Found
+pub mod Joined
 pub mod Lengths
 pub mod OneHeading
 pub mod SameHeading

@@ -2,3 +2,4 @@ pub mod Declaration
 pub mod Headings
 pub mod Named
 pub mod Calls
+pub mod Texts

@@ -17,6 +17,10 @@ number_of (Some f) fs = function_with fs f
 unfoldable pub function_named_by : RegistrationList → Names → List ℕ → Option ℕ
 function_named_by V names decl = number_of (declared_by (space_of_names V names) decl) names.functions
 
+-- the number of the module's import with that heading, likewise
+unfoldable pub import_named_by : RegistrationList → Names → List ℕ → Option ℕ
+import_named_by V names decl = number_of (declared_by (space_of_names V names) decl) names.imports
+
 -- The function of this number has the heading of the function that the text declares.
 pub record IsNamedBy (V : RegistrationList) (names : Names) (decl : List ℕ) (number : ℕ) : Type 0 where
   pub declared : ScriptFunction

@@ -56,12 +56,16 @@ fn function_heading(
 {
     let name = &function.name;
     let params = function.parameters.items.as_slice();
-    let refusal = heading_refusal(alloc, space, text, false, name, &function.result, params)?;
-    if refusal.is_some() {
-        return Ok(None);
+    match heading_refusal(alloc, space, text, false, name, &function.result, params)? {
+        Some(refused) => {
+            drop(refused);
+            Ok(None)
+        }
+        None => {
+            let heading = heading_of(alloc, space, NOWHERE, text, name, &function.result, params)?;
+            Ok(Some(heading))
+        }
     }
-    let heading = heading_of(alloc, space, NOWHERE, text, name, &function.result, params)?;
-    Ok(Some(heading))
 }
 
 /// The heading of a declaration that is a function.

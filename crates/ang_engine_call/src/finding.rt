@@ -1,9 +1,11 @@
 //! The function of a module that a text names.
 ghost use Rattle.std.specs.Prelude.{◌≡◌, ◌<◌, ◌≤◌, length, IfOk, IfSome};
-ghost use Rattle.ang_engine_call.specs.Named.{function_named_by};
+ghost use Rattle.std.specs.List.{position};
+ghost use Rattle.ang_names_known.specs.Lookup.{same_heading};
+ghost use Rattle.ang_engine_call.specs.Named.{function_named_by, import_named_by};
 
 use crate::declaration::declared_function;
-use ang_names_known::{Names, Space};
+use ang_names_known::{Names, ScriptFunction, Space, same_heading};
 use ang_view::View;
 use std::alloc::{AllocError, Global};
 
@@ -35,6 +37,36 @@ pub fn find_function(
     let space = Space::of_names(view, names);
     match declared_function(alloc, &space, decl)? {
         Some(declared) => Ok(names.function_with(&declared)),
+        None => Ok(None),
+    }
+}
+
+/// The place of the first of these with this heading.
+fn place_of(functions: &[ScriptFunction], heading: &ScriptFunction) -> Option<usize>
+    ensures exact { result ≡ position (same_heading heading.now) functions.now }
+{
+    functions
+        .iter()
+        .position(|function| same_heading(heading, function))
+}
+
+/// The number of the module's import that the text declares, as `find_function` has it of a function: its place in
+/// `names.imports`, in the order of sections and text. No two imports of a build have one heading.
+///
+/// The only error is want of memory.
+#[tactic(auto, unfolding(crate::specs::Named::import_named_by, ang_names_known::specs::Lookup::function_with))]
+pub fn find_import(
+    alloc: Global,
+    view: &View,
+    names: &Names,
+    decl: &[u8],
+) -> Result<Option<usize>, AllocError>
+    requires few { length names.now.families ≤ 256 }
+    ensures exact { IfOk result (λ found. found ≡ import_named_by view.now names.now decl.now) }
+{
+    let types = Space::of_names(view, names);
+    match declared_function(alloc, &types, decl)? {
+        Some(declared) => Ok(place_of(names.imports(), &declared)),
         None => Ok(None),
     }
 }

@@ -10,7 +10,9 @@ mod callable;
 mod declaration;
 mod finding;
 pub mod laws;
+mod texts;
 
 pub use argument_slots::arguments;
 pub use callable::is_callable;
-pub use finding::find_function;
+pub use finding::{find_function, find_import};
+pub use texts::{push_function, push_global};

@@ -9,7 +9,9 @@ pub mod Numbers
 pub mod Started
 pub mod World
 pub mod States
+pub mod Traced
 pub mod Commands
 pub mod Outcomes
+pub mod Ended
 pub mod Sound
 pub mod Taken

@@ -5,9 +5,12 @@
 #![tactic(auto)]
 
 mod binding;
+mod builds;
 mod classes;
 mod command;
+mod ended;
 mod entities;
+mod failed;
 mod globals;
 mod kept;
 mod links;
@@ -17,14 +20,18 @@ mod modules;
 mod reply;
 mod runs;
 mod tables;
+mod traced;
 mod tree_record;
 mod whole;
 
 pub use binding::{import_of, unbind};
+pub use builds::{build_at, next_build};
 pub use command::Command;
+pub use ended::{is_fault, may_have_run};
 pub use kept::KeptTree;
 pub use module::{MOST_MODULES, Module, ModuleList};
 pub use module_places::{add_module, add_section, find, put_globals, remove_module, set_mask};
 pub use modules::{LoadedModule, Modules};
 pub use reply::{Outcome, Refusal, Reply};
+pub use traced::TraceFrame;
 pub use whole::WholeModule;

@@ -20,6 +20,9 @@ pub struct Module {
     /// The mask of the last build, a failed one too; before the first it is the mask that the
     /// module was made with.
     pub built_mask: Mask,
+    /// The number of its last build, a failed one too, among all that the engine began: no other build has
+    /// it, of this module or of one that has this place later. 0 before the first.
+    pub build: u64,
     /// The texts of the sections that wait for the next build, in the order in which they were
     /// added.
     pub sections: Vec<List<u8>>,
@@ -37,4 +40,6 @@ pub struct ModuleList {
     pub code: Modules,
     /// The numbers of those that are there, in the order in which they were made.
     pub order: Vec<u32>,
+    /// How many builds were begun, of modules that are gone too: the number of the last one.
+    pub builds: u64,
 }

@@ -189,6 +189,7 @@ pub fn add_module(
         name,
         mask,
         built_mask: mask,
+        build: 0,
         sections: Vec::new(alloc),
     };
     put_module(alloc, list, globals, module)

@@ -1,5 +1,5 @@
 //! The modules of an engine.
-ghost use Rattle.std.specs.Prelude.{◌≡◌, ◌<◌, ◌++◌, ◌∷◌, List as ListOf, [], None, Some, IfOk, OnOk, OnErr, length, reverse, slice_set, map as list_map};
+ghost use Rattle.std.specs.Prelude.{◌≡◌, ◌<◌, ◌++◌, ◌∷◌, List as ListOf, [], None, Some, IfOk, IfSome, OnOk, OnErr, option_map, length, reverse, slice_set, map as list_map};
 ghost use Rattle.std.specs.List.{AllByRecursion};
 ghost use Rattle.std.specs.Option.{option_copied};
 ghost use Rattle.ang_host.specs.Logs.{listed_in};
@@ -13,15 +13,20 @@ ghost use Rattle.ang_typed.specs.View.{view_typed};
 ghost use Rattle.ang_source.specs.Sound.{SoundProgram};
 ghost use Rattle.ang_engine_modules.specs.Executed.{first_globals, call_of, initialization_of};
 ghost use Rattle.ang_engine_modules.specs.Ends.{Ends, Answers, completed};
+ghost use Rattle.ang_engine_modules.specs.declared.modules.LoadedModule.{LoadedModule};
 ghost use Rattle.ang_engine_modules.specs.Loaded.{loaded_at, modules_of, linked_in, unbound_in};
+ghost use Rattle.ang_engine_modules.specs.Traced.{frame_of, frame_in};
 ghost use Rattle.ang_engine_modules.specs.Modules.{module_at, result_at, LinkFits, TakesSoMany, AreDriversThere, AgreesWith, IsAskedIn};
 
+use crate::failed::{FailedModule, failed_frame, failed_module, marks_in, put_failed};
 use crate::globals::defaults;
 use crate::kept::KeptTree;
 use crate::links::{bind_import, unbind_codes, unbind_places};
 use crate::runs::{body_count, run_initializers};
 use crate::tables::{code_of, no_code};
+use crate::traced::{TraceFrame, trace_frame};
 use crate::whole::WholeModule;
+use ang_code::Mark;
 use ang_gen::generate;
 use ang_host::{Driver, EventBuffer};
 use ang_kinds::{Fault, List, Value};
@@ -32,6 +37,7 @@ use ang_vm::{Machine, Table, run};
 use ang_vm_stack::table::ModuleCode;
 use std::alloc::{AllocError, Global};
 use std::marker::Model;
+use std::mem;
 
 /// What a built module is loaded with.
 #[derive(Drop)]
@@ -57,6 +63,8 @@ pub struct LoadedModule {
 pub struct Modules {
     table: Table,
     loaded: Vec<Option<LoadedModule>>,
+    /// The module whose initializer the last command failed at, for its trace. No contract speaks of it.
+    failed: Option<FailedModule>,
 }
 
 impl Model for Modules {
@@ -96,14 +104,23 @@ fn push_place(
     Ok(())
 }
 
-/// Puts code into the place of a module, where there is one.
-fn put_code(codes: &mut Vec<ModuleCode>, home: u32, code: ModuleCode)
+/// Puts code into the place of a module, where there is one, and answers the code that it replaces.
+fn replace_code(codes: &mut Vec<ModuleCode>, home: u32, code: ModuleCode) -> ModuleCode
     ensures put { codes.new.items ≡ slice_set codes.old.items home code }
 {
     let place = home as usize;
     if place < codes.len() {
-        codes[place] = code;
+        mem::replace(&mut codes[place], code)
+    } else {
+        code
     }
+}
+
+/// The same, where that code is given up.
+fn put_code(codes: &mut Vec<ModuleCode>, home: u32, code: ModuleCode)
+    ensures put { codes.new.items ≡ slice_set codes.old.items home code }
+{
+    drop(replace_code(codes, home, code));
 }
 
 /// Puts what a module is loaded with into its place, where there is one.
@@ -112,8 +129,21 @@ fn put_loaded(loaded: &mut Vec<Option<LoadedModule>>, home: u32, item: Option<Lo
 {
     let place = home as usize;
     if place < loaded.len() {
-        loaded[place] = item;
+        drop(mem::replace(&mut loaded[place], item));
+    } else {
+        drop(item);
     }
+}
+
+/// Takes what a module is loaded with out of its place, where there is one.
+fn take_loaded(loaded: &mut Vec<Option<LoadedModule>>, home: u32) -> Option<LoadedModule>
+    ensures taken { loaded.new.items ≡ slice_set loaded.old.items home None }
+{
+    let place = home as usize;
+    if place < loaded.len() {
+        return mem::replace(&mut loaded[place], None);
+    }
+    None
 }
 
 impl Modules {
@@ -126,6 +156,7 @@ impl Modules {
                 modules: Vec::new(alloc),
             },
             loaded: Vec::new(alloc),
+            failed: None,
         }
     }
 
@@ -153,15 +184,24 @@ impl Modules {
         ensures unchanged { OnErr result (self.new ≡ self.old) }
     {
         let (loaded, tree) = loaded.into_parts();
-        let generated = generate(alloc, &tree)?;
-        let code = code_of(
-            alloc,
-            home,
-            loaded.name.as_slice(),
-            &loaded.view,
-            &tree,
-            generated,
-        )?;
+        let generated = match generate(alloc, &tree) {
+            Ok(generated) => generated,
+            Err(error) => {
+                drop(loaded);
+                drop(tree);
+                return Err(error);
+            }
+        };
+        let name = loaded.name.as_slice();
+        let code = match code_of(alloc, home, name, &loaded.view, &tree, generated) {
+            Ok(code) => code,
+            Err(error) => {
+                drop(loaded);
+                drop(tree);
+                return Err(error);
+            }
+        };
+        drop(tree);
         put_code(&mut self.table.modules, home, code);
         put_loaded(&mut self.loaded, home, Some(loaded));
         Ok(())
@@ -176,6 +216,26 @@ impl Modules {
         put_loaded(&mut self.loaded, home, None);
         unbind_codes(home, &mut self.table.modules);
         unbind_places(alloc, home, &mut self.loaded);
+    }
+
+    /// The same where an initializer of the module has failed: what it was loaded with and its code are kept for
+    /// its trace, until `forget_failed` is called. It takes no memory.
+    pub fn unload_failed(&mut self, alloc: Global, home: u32)
+        ensures unloaded { self.new ≡ unbound_in home (slice_set self.old home None) }
+    {
+        let codes = &mut self.table.modules;
+        let code = replace_code(codes, home, no_code(alloc));
+        let loaded = take_loaded(&mut self.loaded, home);
+        put_failed(&mut self.failed, failed_module(home, loaded, code));
+        unbind_codes(home, codes);
+        unbind_places(alloc, home, &mut self.loaded);
+    }
+
+    /// What was kept of a module that failed is given up.
+    pub fn forget_failed(&mut self)
+        ensures same { self.new ≡ self.old }
+    {
+        put_failed(&mut self.failed, None);
     }
 
     /// Binds an import of a module to a function of another one, or of the same. An earlier binding
@@ -209,6 +269,27 @@ impl Modules {
         ensures exact { option_copied result ≡ loaded_at self.now home }
     {
         self.loaded.get(home as usize)?.as_ref()
+    }
+
+    /// The marks of a body of a built module, if there is one of that number.
+    fn marks(&self, body: Routine) -> &[Mark] {
+        match self.table.modules.get(body.home as usize) {
+            Some(code) => marks_in(code.bodies.as_slice(), body.number),
+            None => &[],
+        }
+    }
+
+    /// What a body is declared as whose module is built, or has failed and is kept; with the place of the
+    /// statement of which its instruction before instruction `at` is. `None` where there is no such body.
+    pub fn trace_frame(&self, body: Routine, at: usize) -> Option<TraceFrame<'_>>
+        ensures named { (l : LoadedModule) → loaded_at self.now body.home ≡ Some l
+            → option_map frame_of result ≡ frame_in l body.number }
+        ensures section { IfSome result (λ f. IfSome f.place (λ p. p.sect ≡ f.declared.sect)) }
+    {
+        match self.loaded(body.home) {
+            Some(loaded) => trace_frame(loaded, self.marks(body), body.number, at),
+            None => failed_frame(self.failed.as_ref(), body, at),
+        }
     }
 
     /// The values with which a module's globals begin, each 0, `false` or null.

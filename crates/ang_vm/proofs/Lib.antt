@@ -2,6 +2,7 @@ pub mod Moving
 pub mod BodyCounting
 pub mod Stepping
 pub mod Coming
+pub mod Ticking
 pub mod Weighing
 pub mod BorrowedOperands
 pub mod OperandPaths
@@ -13,4 +14,6 @@ pub mod Going
 pub mod Calling
 pub mod Leaving
 pub mod Running
+pub mod Waiting
+pub mod Tracing
 pub mod Receivers

@@ -5,3 +5,5 @@ pub mod BodyRunning
 pub mod Legs
 pub mod Running
 pub mod Machines
+pub mod Waiting
+pub mod Traces

@@ -3,21 +3,24 @@ ghost use Rattle.std.specs.Prelude.{◌≡◌, ℕ, ◌<◌, ◌≤◌, List, []
 ghost use Rattle.ang_code.specs.declared.instruction.Frame.{Frame};
 ghost use Rattle.ang_code.specs.declared.instruction.Instruction.TheVariants.{Return};
 ghost use Rattle.ang_meaning.specs.declared.routine.Routine.{Routine};
-ghost use Rattle.ang_meaning.specs.World.{World};
+ghost use Rattle.ang_meaning.specs.World.{World, with_inputs};
 ghost use Rattle.ang_meaning.specs.Environment.{Environment, params_of};
 ghost use Rattle.ang_meaning.specs.Counting.{CanGive};
 ghost use Rattle.ang_code.specs.Machine.{Texts, Over, act, back, fault as faulted};
 ghost use Rattle.ang_heap.specs.Stores.{world_of, IsReady, StoreTold, HasMoved};
 ghost use Rattle.ang_vm_stack.specs.Stacks.{values};
-ghost use Rattle.ang_vm_stack.specs.Tables.{body_of};
+ghost use Rattle.ang_vm_stack.specs.Tables.{body_of, setting_of, texts_of};
+ghost use Rattle.ang_vm_stack.specs.declared.place.RunResult.TheVariants as endings;
 ghost use Rattle.ang_vm.specs.Legs.{Fits, begun, handed, outcome, resumed, standing};
-ghost use Rattle.ang_vm.specs.Crossings.{Comes};
+ghost use Rattle.ang_vm.specs.Crossings.{Comes, HasFaulted, IfFault};
 ghost use Rattle.ang_vm.specs.BodyRunning.{MayRun, RunMoves};
 ghost use Rattle.ang_vm.specs.Running.{RunReaches};
+ghost use Rattle.ang_vm.specs.Traces.{HasHalted, IfStops, ended_by};
 ghost use Rattle.ang_vm_steps.specs.Arms.{AreCounted};
 
 use crate::calls::enter;
 use crate::crossing::Crossing;
+use crate::last::{LastRun, note_fault};
 use crate::returns::{Parted, leave_body, resume};
 use crate::turns::run_body;
 use ang_code::Frame;
@@ -40,6 +43,7 @@ pub fn fail(stack: &Vec<Slot>, store: &mut Store, top: usize, fault: Fault) -> R
     ensures told { StoreTold ⟦<dyn Driver as Driver>⟧ (faulted fault (values stack.now.items top))
         store.old (λ w. Over (outcome result w)) store.new }
     ensures moves { HasMoved ⟦<dyn Driver as Driver>⟧ store.old store.new }
+    ensures result { result ≡ endings.Stops fault }
 {
     give_all_in_use(stack.as_slice(), store, top);
     RunResult::Stops(fault)
@@ -55,6 +59,7 @@ pub fn give_up(stack: &Vec<Slot>, store: &mut Store, top: usize, stop: Trap) -> 
         → StoreTold ⟦<dyn Driver as Driver>⟧ (begun (Err stop) top stack.now.items frames) store.old
         (λ w. Over (outcome result w)) store.new }
     ensures moves { HasMoved ⟦<dyn Driver as Driver>⟧ store.old store.new }
+    ensures result { result ≡ ended_by stop }
 {
     match stop {
         Trap::Fails(fault) => fail(stack, store, top, fault),
@@ -70,6 +75,7 @@ fn run_within(
     stack: &mut Vec<Slot>,
     store: &mut Store,
     from: Activation,
+    noted: &mut Cursor,
 ) -> (Cursor, Crossing)
     requires there { body_of table.now from.body ≡ Some code.now }
     requires in_room { from.place.top ≤ from.room }
@@ -81,6 +87,9 @@ fn run_within(
         (world_of ⟦<dyn Driver as Driver>⟧ store.new) }
     ensures same { length stack.new.items ≡ length stack.old.items }
     ensures moves { RunMoves ⟦<dyn Driver as Driver>⟧ table.now store.old store.new }
+    ensures faults { IfFault result.1 (λ x. HasFaulted table.now from.body from.room from.place
+        stack.old.items (world_of ⟦<dyn Driver as Driver>⟧ store.old) noted.new result.0.top x
+        stack.new.items (world_of ⟦<dyn Driver as Driver>⟧ store.new)) }
 {
     run_body(
         table,
@@ -90,6 +99,7 @@ fn run_within(
         store,
         from.room,
         from.place,
+        noted,
     )
 }
 
@@ -147,29 +157,35 @@ fn finish(stack: &Vec<Slot>, store: &mut Store, parted: Parted, ticks: u64) -> R
         (back [] parted.value [] (values stack.now.items parted.kept) ticks) store.old
         (λ w. Over (outcome result w)) store.new }
     ensures moves { HasMoved ⟦<dyn Driver as Driver>⟧ store.old store.new }
+    ensures result { result ≡ endings.Gives parted.value ticks }
 {
     give_all_in_use(stack.as_slice(), store, parted.kept);
     RunResult::Gives(parted.value, ticks)
 }
 
-/// Goes on until the run is over; `nesting` functions may stand one inside the other.
+/// Goes on until the run is over; `nesting` functions may stand one inside the other. Where it faults, `last` has
+/// the place; its frames are the callers of the running body.
 ///
 /// The body is named by its parts here and in `resume`: a copy of the whole takes the bytes between them along at each call.
 pub fn run_from(
     table: &Table,
     nesting: usize,
     stack: &mut Vec<Slot>,
-    frames: &mut Vec<Frame>,
+    last: &mut LastRun,
     store: &mut Store,
     from: Activation,
 ) -> RunResult
-    requires fits { Fits from stack.old.items frames.old.items }
+    requires fits { Fits from stack.old.items last.old.frames.items }
     requires may_run { MayRun ⟦<dyn Driver as Driver>⟧ table.now
         (values stack.old.items from.place.top) store.old }
     ensures ends { RunReaches ⟦<dyn Driver as Driver>⟧ table.now nesting
-        (standing from stack.old.items (reverse frames.old.items)) store.old
+        (standing from stack.old.items (reverse last.old.frames.items)) store.old
         (λ w. Over (outcome result w)) store.new }
     ensures moves { RunMoves ⟦<dyn Driver as Driver>⟧ table.now store.old store.new }
+    ensures halted { IfStops result (λ x. HasHalted (setting_of table.now nesting)
+        (texts_of table.now) (λ is. standing from stack.old.items (reverse last.old.frames.items)
+        (with_inputs is (world_of ⟦<dyn Driver as Driver>⟧ store.old))) x last.new.frames.items
+        last.new.left) }
 {
     let Routine { home, number } = from.body;
     let mut here = Activation {
@@ -180,13 +196,26 @@ pub fn run_from(
         return RunResult::Stuck;
     };
     loop {
-        let (place, crossing) = run_within(table, code, stack, store, here);
+        let (place, crossing) = run_within(table, code, stack, store, here, &mut last.place);
         match crossing {
             Crossing::Enters(callee) => {
                 let left = Activation { place, ..here };
-                let (next, its) = match enter(table, nesting, stack, frames, store, left, callee) {
+                let (next, its) = match enter(
+                    table,
+                    nesting,
+                    stack,
+                    &mut last.frames,
+                    store,
+                    left,
+                    code.text().len(),
+                    callee,
+                ) {
                     Ok(both) => both,
-                    Err(stop) => return give_up(stack, store, place.top, stop),
+                    Err(stop) => {
+                        last.place = place;
+                        note_fault(last, here.body, here.room);
+                        return give_up(stack, store, place.top, stop);
+                    }
                 };
                 here = next;
                 code = its;
@@ -195,7 +224,7 @@ pub fn run_from(
                 let Some(parted) = leave_within(code, stack, store, place.top, count) else {
                     return RunResult::Stuck;
                 };
-                let Some(caller) = frames.pop() else {
+                let Some(caller) = last.frames.pop() else {
                     return finish(stack, store, parted, place.ticks);
                 };
                 let Some(next) = resume_within(stack, caller, parted, place.ticks) else {
@@ -207,7 +236,10 @@ pub fn run_from(
                 here = next;
                 code = its;
             }
-            Crossing::Faults(fault) => return fail(stack, store, place.top, fault),
+            Crossing::Faults(fault) => {
+                note_fault(last, here.body, here.room);
+                return fail(stack, store, place.top, fault);
+            }
             Crossing::Stuck => return RunResult::Stuck,
         }
     }

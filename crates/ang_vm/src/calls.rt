@@ -1,10 +1,11 @@
 //! Calls: what stands before a body, and room for its frame.
-ghost use Rattle.std.specs.Prelude.{◌≡◌, ℕ, ◌+◌, ◌<◌, ◌≤◌, ◌^◌, List, length, reverse, Some, None, Err, IfOk, IfSome};
+ghost use Rattle.std.specs.Prelude.{◌≡◌, ℕ, ◌+◌, ◌<◌, ◌≤◌, ◌^◌, List, length, reverse, Some, None, Err, IfErr, IfOk, true, ◌⊎◌};
 ghost use Rattle.ang_meaning.specs.World.{World, with_inputs};
 ghost use Rattle.ang_meaning.specs.Environment.{has_objects, target};
 ghost use Rattle.ang_meaning.specs.Told.{Told};
 ghost use Rattle.ang_code.specs.declared.instruction.Frame.{Frame};
-ghost use Rattle.ang_code.specs.Machine.{Texts, begins, enters, found_enters};
+ghost use Rattle.ang_code.specs.Machine.{Texts, begins, enters, fault, found_enters};
+ghost use Rattle.ang_code.specs.Weight.{frames_left, left_in};
 ghost use Rattle.ang_vm_stack.specs.Parameters.{
   want_objects as do_want_objects,
   only_receiver as is_only_receiver,
@@ -14,6 +15,8 @@ ghost use Rattle.ang_vm_stack.specs.Stacks.{values};
 ghost use Rattle.ang_vm_stack.specs.Tables.{body_of, setting_of, texts_of};
 ghost use Rattle.ang_vm_steps.specs.Turns.{Reaches};
 ghost use Rattle.ang_vm.specs.Legs.{Fits, begun, caller_at, misses, standing_in};
+ghost use Rattle.ang_vm.specs.Traces.{IfFails};
+ghost use Rattle.ang_vm.specs.Waiting.{most_waiting, long};
 
 use crate::callees::callee_of;
 use crate::lookups::height_at;
@@ -28,6 +31,15 @@ use ang_vm_stack::place::{Activation, Cursor};
 use ang_vm_stack::stack::peek;
 use ang_vm_stack::stop::Trap;
 use ang_vm_stack::table::{Table, body_at};
+
+/// 524,288: the most instructions that callers may have left when one of them calls, if it is long. Each runs
+/// the rest of its text as it goes on, for which it needs no tick, so this bounds what a run does after its last
+/// one: some 50 milliseconds of the dearest instructions, with what the running body has left and 200 callers that
+/// are not long.
+pub const MOST_WAITING: usize = 524_288;
+
+/// 1,024: a body of more instructions is long. A call from any other is not looked at.
+const LONG: usize = 1_024;
 
 /// Whether a parameter misses its object.
 #[inline(always)]
@@ -80,35 +92,32 @@ fn objects_there(
     have_objects(params, stack, top)
 }
 
-/// Room above the values in use for `height` more, for which the stack has to grow; none where there is no memory for it.
-/// It stays apart, so that entering a body stays small.
+/// Makes room above the values in use for `height` more, for which the stack has to grow; false where there is no memory
+/// for it. It stays apart, so that entering a body stays small.
 #[inline(never)]
-fn grow(stack: &mut Vec<Slot>, top: usize, height: usize) -> Option<usize>
+fn grow(stack: &mut Vec<Slot>, top: usize, height: usize) -> bool
     requires within { top ≤ length stack.old.items }
     requires short { length stack.old.items < top + height }
-    ensures exact { IfSome result
-        (λ room. (room ≡ top + height) × (room ≤ length stack.new.items)) }
+    ensures room { result ≡ true → top + height ≤ length stack.new.items }
     ensures same { values stack.new.items top ≡ values stack.old.items top }
     ensures grows { length stack.old.items ≤ length stack.new.items }
 {
-    let room = top.saturating_add(height);
-    match stack.resize(room, Slot::Bits(0)) {
-        Ok(()) => Some(room),
-        Err(_) => None,
+    match stack.resize(top.saturating_add(height), Slot::Bits(0)) {
+        Ok(()) => true,
+        Err(_) => false,
     }
 }
 
-/// Room above the values in use for `height` more; none where there is no memory for it.
+/// Makes room above the values in use for `height` more; false where there is no memory for it.
 #[inline(always)]
-fn reserve(stack: &mut Vec<Slot>, top: usize, height: usize) -> Option<usize>
+fn reserve(stack: &mut Vec<Slot>, top: usize, height: usize) -> bool
     requires within { top ≤ length stack.old.items }
-    ensures exact { IfSome result
-        (λ room. (room ≡ top + height) × (room ≤ length stack.new.items)) }
+    ensures room { result ≡ true → top + height ≤ length stack.new.items }
     ensures same { values stack.new.items top ≡ values stack.old.items top }
     ensures grows { length stack.old.items ≤ length stack.new.items }
 {
     if height <= stack.len() - top {
-        return Some(top + height);
+        return true;
     }
     grow(stack, top, height)
 }
@@ -135,14 +144,14 @@ fn begin_above(
     ensures same { values stack.new.items top ≡ values stack.old.items top }
     ensures grows { length stack.old.items ≤ length stack.new.items }
 {
-    match reserve(stack, top, height) {
-        Some(room) => Ok(Activation {
-            body,
-            room,
-            place: Cursor { at: 0, top, ticks },
-        }),
-        None => Err(Trap::Fails(Fault::Memory)),
+    if !reserve(stack, top, height) {
+        return Err(Trap::Fails(Fault::Memory));
     }
+    Ok(Activation {
+        body,
+        room: top + height,
+        place: Cursor { at: 0, top, ticks },
+    })
 }
 
 /// A body begins, where there is memory for its frame.
@@ -169,10 +178,57 @@ pub fn begin(
     begin_above(body, height_at(table, body), stack, top, ticks)
 }
 
-/// A function is entered, with its arguments on top; `code` is its code.
+/// The instructions of a body from a place on; none where there is no such body.
+fn left_from(table: &Table, body: Routine, at: usize) -> usize
+    ensures exact { result ≡ left_in (texts_of table.now) body at }
+{
+    match body_at(table, body) {
+        Some(code) => code.text().len().saturating_sub(at),
+        None => 0,
+    }
+}
+
+/// Whether these callers and one more wait with at most `MOST_WAITING` instructions left.
+///
+/// It stays apart, so that entering a body stays small.
+#[inline(never)]
+fn may_wait(table: &Table, frames: &Vec<Frame>, of: Routine, at: usize) -> bool
+    ensures few { result ≡ true → frames_left (texts_of table.now) frames.now.items
+        + left_in (texts_of table.now) of (at + 1) ≤ most_waiting }
+{
+    let last = left_from(table, of, at.saturating_add(1));
+    if last > MOST_WAITING {
+        return false;
+    }
+    let mut room = MOST_WAITING - last;
+    for frame in frames.iter() {
+        let left = left_from(table, frame.of, frame.at);
+        if left > room {
+            return false;
+        }
+        room = room - left;
+    }
+    true
+}
+
+/// The same, where the length of its text is known; one that is not long always may.
+#[inline(always)]
+fn may_call(table: &Table, frames: &Vec<Frame>, size: usize, of: Routine, at: usize) -> bool
+    ensures few { result ≡ true → (size ≤ long) ⊎ (frames_left (texts_of table.now) frames.now.items
+        + left_in (texts_of table.now) of (at + 1) ≤ most_waiting) }
+{
+    if size <= LONG {
+        return true;
+    }
+    may_wait(table, frames, of, at)
+}
+
+/// A function is entered, with its arguments on top; `code` is its code, and `size` the length of the caller's
+/// text.
 ///
 /// # Errors
-/// `Null`, `Depth`, `Budget` and `Memory`, the first of them that applies.
+/// `Null`, `Depth`, `Budget` and `Memory`, the first of them that applies. It is `Memory` too where the caller is
+/// long, and with it more than `MOST_WAITING` instructions would wait.
 #[inline(always)]
 pub fn enter_body(
     table: &Table,
@@ -180,12 +236,16 @@ pub fn enter_body(
     stack: &mut Vec<Slot>,
     frames: &mut Vec<Frame>,
     from: Activation,
+    size: usize,
     body: Routine,
     code: &LoadedBody,
 ) -> Result<Activation, Trap>
     requires fits { Fits from stack.old.items frames.old.items }
     requires inside { from.place.at + 1 < 2 ^ 64 }
     requires known { body_of table.now body ≡ Some code.now }
+    ensures callers { IfErr result (λ stop. frames.new.items ≡ frames.old.items) }
+    ensures waits { IfOk result (λ s. (size ≤ long)
+        ⊎ (frames_left (texts_of table.now) frames.new.items ≤ most_waiting)) }
     ensures told { (w : World)
         → Told (λ is. enters (setting_of table.now nesting) (texts_of table.now) body
         (values stack.old.items from.place.top) (reverse frames.old.items) (caller_at from)
@@ -218,14 +278,23 @@ pub fn enter_body(
     if from.place.ticks == 0 {
         return Err(Trap::Fails(Fault::Budget));
     }
+    if !may_call(table, frames, size, from.body, from.place.at) {
+        return Err(Trap::Fails(Fault::Memory));
+    }
     let caller = Frame {
         of: from.body,
         at: from.place.at + 1,
         room: from.room,
     };
-    match frames.push(caller) {
-        Ok(()) => begin_above(body, height, stack, top, from.place.ticks - 1),
-        Err(_) => Err(Trap::Fails(Fault::Memory)),
+    let Ok(()) = frames.reserve(1) else {
+        return Err(Trap::Fails(Fault::Memory));
+    };
+    match begin_above(body, height, stack, top, from.place.ticks - 1) {
+        Ok(next) => {
+            frames.push_reserved(caller);
+            Ok(next)
+        }
+        Err(stop) => Err(stop),
     }
 }
 
@@ -238,6 +307,12 @@ fn enter_nothing(nesting: usize, frames: &Vec<Frame>, place: Cursor) -> Trap
         (λ is. enters (setting_of table nesting) (texts_of table) body (values stack top)
         (reverse frames.now.items) caller place.ticks (with_inputs is w))
         (λ is. begun (Err result) top stack (reverse frames.now.items) (with_inputs is w)) }
+    ensures refuses { (table : Table) (body : Routine) (stack : List Slot) (top : ℕ) (caller : Frame)
+        (w : World) → body_of table body ≡ None → top ≤ length stack
+        → IfFails result (λ x. Told
+        (λ is. enters (setting_of table nesting) (texts_of table) body (values stack top)
+        (reverse frames.now.items) caller place.ticks (with_inputs is w))
+        (λ is. fault x (values stack top) (with_inputs is w))) }
 {
     if nesting <= frames.len() + 1 {
         return Trap::Fails(Fault::Depth);
@@ -260,6 +335,7 @@ pub fn enter<'t>(
     frames: &mut Vec<Frame>,
     store: &Store,
     from: Activation,
+    size: usize,
     callee: Callee,
 ) -> Result<(Activation, &'t LoadedBody), Trap>
     requires fits { Fits from stack.old.items frames.old.items }
@@ -273,6 +349,16 @@ pub fn enter<'t>(
         from.place.ticks (with_inputs is (world_of ⟦<dyn Driver as Driver>⟧ store.now)))
         (λ is. begun (standing_in result) from.place.top stack.new.items (reverse frames.new.items)
         (with_inputs is (world_of ⟦<dyn Driver as Driver>⟧ store.now))) }
+    ensures refused { IfErr result (λ stop. IfFails stop (λ x. Told
+        (λ is. found_enters (setting_of table.now nesting) (texts_of table.now)
+        (target (setting_of table.now nesting) from.body.home callee
+        (values stack.old.items from.place.top)
+        (with_inputs is (world_of ⟦<dyn Driver as Driver>⟧ store.now)))
+        (values stack.old.items from.place.top) (reverse frames.old.items) (caller_at from)
+        from.place.ticks (with_inputs is (world_of ⟦<dyn Driver as Driver>⟧ store.now)))
+        (λ is. fault x (values stack.new.items from.place.top)
+        (with_inputs is (world_of ⟦<dyn Driver as Driver>⟧ store.now))))) }
+    ensures callers { IfErr result (λ stop. frames.new.items ≡ frames.old.items) }
     ensures fits { IfOk result (λ r. Fits r.0 stack.new.items frames.new.items) }
     ensures code { IfOk result (λ r. body_of table.now r.0.body ≡ Some r.1.now) }
     ensures same { values stack.new.items from.place.top ≡ values stack.old.items from.place.top }
@@ -284,7 +370,7 @@ pub fn enter<'t>(
             let Some(code) = body_at(table, body) else {
                 return Err(enter_nothing(nesting, frames, from.place));
             };
-            match enter_body(table, nesting, stack, frames, from, body, code) {
+            match enter_body(table, nesting, stack, frames, from, size, body, code) {
                 Ok(next) => Ok((next, code)),
                 Err(stop) => Err(stop),
             }

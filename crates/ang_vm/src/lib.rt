@@ -16,6 +16,7 @@ mod bodies;
 mod callees;
 mod calls;
 pub mod crossing;
+mod last;
 mod lookups;
 mod machines;
 mod operands;
@@ -25,4 +26,5 @@ mod start;
 pub mod turns;
 
 pub use ang_vm_stack::table::Table;
+pub use last::LastRun;
 pub use machines::{Machine, run, run_initializer};

@@ -1,5 +1,5 @@
 //! The machine.
-ghost use Rattle.std.specs.Prelude.{◌≡◌, ◌<◌, ℕ, List, [], length, reverse};
+ghost use Rattle.std.specs.Prelude.{◌≡◌, ◌<◌, ◌≤◌, ℕ, List, [], length, reverse, IfErr, IfOk};
 ghost use Rattle.ang_kinds.specs.declared.fault.Fault.TheVariants.{Budget as BudgetFault, Memory as MemoryFault};
 ghost use Rattle.ang_host.specs.Boxes.{members};
 ghost use Rattle.ang_meaning.specs.World.{with_inputs};
@@ -13,11 +13,13 @@ ghost use Rattle.ang_vm_ask.specs.Entities.{DriversThere};
 ghost use Rattle.ang_vm.specs.Legs.{Ends};
 ghost use Rattle.ang_vm.specs.BodyRunning.{MayRun, RunMoves};
 ghost use Rattle.ang_vm.specs.Running.{HeldAt, IsSettled};
-ghost use Rattle.ang_vm.specs.Machines.{lent, IsLost, HasCalled, HasRun, HasInitialized, call_in, initializer_in};
+ghost use Rattle.ang_vm.specs.Machines.{lent, IsLost, HasCalled, HasGiven, HasRun, HasInitialized, call_in, initializer_in};
+ghost use Rattle.ang_vm.specs.Traces.{HasLeft, HasTrace, IfStops, IsKept};
 ghost use Rattle.ang_vm_ask.specs.Askings.{HasMovedOver};
 
 use crate::answers::answer;
 use crate::bodies::run_from;
+use crate::last::{LastRun, begin_run, end_run};
 use crate::lookups::result_type;
 use crate::start::{start_call, start_initializer};
 use ang_heap::{Store, give};
@@ -46,6 +48,8 @@ pub struct Machine {
     /// What a run borrows. Between runs nothing is read of its `events`: those of a command are put in their
     /// place.
     pub store: Store,
+    /// Where the last run faulted, and the ticks that it left.
+    pub last: LastRun,
 }
 
 /// The fault of a call for whose arguments there is no memory.
@@ -80,22 +84,27 @@ fn run_call(
     alloc: Global,
     table: &Table,
     store: &mut Store,
+    last: &mut LastRun,
     entry: Routine,
     args: &[Slot],
     budget: u64,
 ) -> RunResult
     requires may_run { MayRun ⟦<dyn Driver as Driver>⟧ table.now (reverse args.now) store.old }
+    requires none { last.old.frames.items ≡ [] }
+    requires all { last.old.left ≡ budget }
     ensures ends { Ends (setting_of table.now 200) (texts_of table.now)
         (call_in ⟦<dyn Driver as Driver>⟧ table.now budget entry (reverse args.now) store.old)
         result (world_of ⟦<dyn Driver as Driver>⟧ store.new) }
     ensures moves { RunMoves ⟦<dyn Driver as Driver>⟧ table.now store.old store.new }
+    ensures stood { IfStops result (λ x. IsKept (setting_of table.now 200) (texts_of table.now)
+        (call_in ⟦<dyn Driver as Driver>⟧ table.now budget entry (reverse args.now) store.old)
+        x budget last.new) }
 {
     let Ok(mut stack) = Vec::from_slice(alloc, args) else {
         return refuse(store, args, budget);
     };
-    let mut frames = Vec::new(alloc);
-    match start_call(table, &mut stack, &mut frames, store, entry, budget) {
-        Ok(first) => run_from(table, CALLS, &mut stack, &mut frames, store, first),
+    match start_call(table, &mut stack, &mut last.frames, store, entry, budget) {
+        Ok(first) => run_from(table, CALLS, &mut stack, last, store, first),
         Err(ending) => ending,
     }
 }
@@ -105,26 +114,23 @@ fn initialize(
     alloc: Global,
     table: &Table,
     store: &mut Store,
+    last: &mut LastRun,
     entry: Routine,
     ticks: u64,
 ) -> RunResult
     requires may_run { MayRun ⟦<dyn Driver as Driver>⟧ table.now [] store.old }
+    requires all { last.old.left ≡ ticks }
     ensures ends { Ends (setting_of table.now 201) (texts_of table.now)
         (initializer_in ⟦<dyn Driver as Driver>⟧ table.now ticks entry store.old) result
         (world_of ⟦<dyn Driver as Driver>⟧ store.new) }
     ensures moves { RunMoves ⟦<dyn Driver as Driver>⟧ table.now store.old store.new }
+    ensures stood { IfStops result (λ x. IsKept (setting_of table.now 201) (texts_of table.now)
+        (initializer_in ⟦<dyn Driver as Driver>⟧ table.now ticks entry store.old) x ticks
+        last.new) }
 {
     let mut stack = Vec::new(alloc);
-    let mut frames = Vec::new(alloc);
-    match start_initializer(table, &mut stack, &mut frames, store, entry, ticks) {
-        Ok(first) => run_from(
-            table,
-            WITH_INITIALIZER,
-            &mut stack,
-            &mut frames,
-            store,
-            first,
-        ),
+    match start_initializer(table, &mut stack, &mut last.frames, store, entry, ticks) {
+        Ok(first) => run_from(table, WITH_INITIALIZER, &mut stack, last, store, first),
         Err(ending) => ending,
     }
 }
@@ -158,6 +164,7 @@ fn call_told(
     alloc: Global,
     table: &Table,
     store: &mut Store,
+    last: &mut LastRun,
     entry: Routine,
     args: &[Slot],
     budget: u64,
@@ -170,8 +177,18 @@ fn call_told(
     ensures counted { (IsLost (setting_of table.now 200) (texts_of table.now)
         (call_in ⟦<dyn Driver as Driver>⟧ table.now budget entry (reverse args.now) store.old)
         → ⊥) → IsCounted [] (world_of ⟦<dyn Driver as Driver>⟧ store.new) }
+    ensures stood { IfErr result (λ fault. HasTrace (setting_of table.now 200) (texts_of table.now)
+        (call_in ⟦<dyn Driver as Driver>⟧ table.now budget entry (reverse args.now) store.old)
+        fault last.new.frames.items last.new.left) }
+    ensures ticks { IfOk result (λ value. HasGiven (setting_of table.now 200) (texts_of table.now)
+        (call_in ⟦<dyn Driver as Driver>⟧ table.now budget entry (reverse args.now) store.old)
+        value last.new.left (world_of ⟦<dyn Driver as Driver>⟧ store.new)) }
+    ensures no_frames { IfOk result (λ value. last.new.frames.items ≡ []) }
+    ensures within { last.new.left ≤ budget }
 {
-    let ending = run_call(alloc, table, store, entry, args, budget);
+    begin_run(last, budget);
+    let ending = run_call(alloc, table, store, last, entry, args, budget);
+    end_run(last, ending);
     match settle(store, ending) {
         Ok((value, _)) => Ok(value),
         Err(fault) => Err(fault),
@@ -186,6 +203,7 @@ fn initializer_told(
     alloc: Global,
     table: &Table,
     store: &mut Store,
+    last: &mut LastRun,
     entry: Routine,
     ticks: u64,
 ) -> Result<u64, Fault>
@@ -197,8 +215,16 @@ fn initializer_told(
     ensures counted { (IsLost (setting_of table.now 201) (texts_of table.now)
         (initializer_in ⟦<dyn Driver as Driver>⟧ table.now ticks entry store.old) → ⊥)
         → IsCounted [] (world_of ⟦<dyn Driver as Driver>⟧ store.new) }
+    ensures stood { IfErr result (λ fault. HasTrace (setting_of table.now 201) (texts_of table.now)
+        (initializer_in ⟦<dyn Driver as Driver>⟧ table.now ticks entry store.old) fault
+        last.new.frames.items last.new.left) }
+    ensures ticks { IfOk result (λ left. last.new.left ≡ left) }
+    ensures no_frames { IfOk result (λ left. last.new.frames.items ≡ []) }
+    ensures within { last.new.left ≤ ticks }
 {
-    let ending = initialize(alloc, table, store, entry, ticks);
+    begin_run(last, ticks);
+    let ending = initialize(alloc, table, store, last, entry, ticks);
+    end_run(last, ending);
     match settle(store, ending) {
         Ok((_, left)) => Ok(left),
         Err(fault) => Err(fault),
@@ -208,6 +234,7 @@ fn initializer_told(
 /// Puts a command's events into the machine's store.
 fn lend(machine: &mut Machine, events: &mut EventBuffer)
     ensures lent { machine.new.store ≡ lent machine.old events.old }
+    ensures last { machine.new.last ≡ machine.old.last }
 {
     mem::swap(&mut machine.store.events, events);
 }
@@ -215,6 +242,7 @@ fn lend(machine: &mut Machine, events: &mut EventBuffer)
 /// Takes them out again.
 fn take_back(machine: &mut Machine, events: &mut EventBuffer)
     ensures back { lent machine.new events.new ≡ machine.old.store }
+    ensures last { machine.new.last ≡ machine.old.last }
 {
     mem::swap(&mut machine.store.events, events);
 }
@@ -227,6 +255,8 @@ fn take_back(machine: &mut Machine, events: &mut EventBuffer)
 /// answered, and so on. What it asked and which host objects ended is listed after the events, and the drivers
 /// follow what was added. It always ends: each turn of a loop and each call takes a tick. The events need room
 /// for the end of each live host object.
+///
+/// `last` of the machine has then where the run faulted, and the ticks that it left.
 ///
 /// # Errors
 /// The fault of the script: `Budget` where its ticks run out, `Depth` where more than 200 functions would stand
@@ -258,10 +288,28 @@ pub fn run(
         (call_in ⟦<dyn Driver as Driver>⟧ table.now budget entry (reverse args.now)
         (lent machine.old events.old)) → ⊥)
         → IsCounted [] (world_of ⟦<dyn Driver as Driver>⟧ (lent machine.new events.new)) }
+    ensures stood { IfErr result (λ fault. HasTrace (setting_of table.now 200) (texts_of table.now)
+        (call_in ⟦<dyn Driver as Driver>⟧ table.now budget entry (reverse args.now)
+        (lent machine.old events.old)) fault machine.new.last.frames.items machine.new.last.left) }
+    ensures ticks { IfOk result (λ answer. HasLeft (setting_of table.now 200) (texts_of table.now)
+        (result_of table.now entry)
+        (call_in ⟦<dyn Driver as Driver>⟧ table.now budget entry (reverse args.now)
+        (lent machine.old events.old)) answer machine.new.last.left
+        (world_of ⟦<dyn Driver as Driver>⟧ (lent machine.new events.new))) }
+    ensures no_frames { IfOk result (λ answer. machine.new.last.frames.items ≡ []) }
+    ensures within { machine.new.last.left ≤ budget }
 {
     let alloc = *events.allocator();
     lend(machine, events);
-    let ended = call_told(alloc, table, &mut machine.store, entry, args, budget);
+    let ended = call_told(
+        alloc,
+        table,
+        &mut machine.store,
+        &mut machine.last,
+        entry,
+        args,
+        budget,
+    );
     take_back(machine, events);
     answer(result_type(table, entry), ended)
 }
@@ -295,10 +343,23 @@ pub fn run_initializer(
         (initializer_in ⟦<dyn Driver as Driver>⟧ table.now ticks entry
         (lent machine.old events.old)) → ⊥)
         → IsCounted [] (world_of ⟦<dyn Driver as Driver>⟧ (lent machine.new events.new)) }
+    ensures stood { IfErr result (λ fault. HasTrace (setting_of table.now 201) (texts_of table.now)
+        (initializer_in ⟦<dyn Driver as Driver>⟧ table.now ticks entry
+        (lent machine.old events.old)) fault machine.new.last.frames.items machine.new.last.left) }
+    ensures ticks { IfOk result (λ left. machine.new.last.left ≡ left) }
+    ensures no_frames { IfOk result (λ left. machine.new.last.frames.items ≡ []) }
+    ensures within { machine.new.last.left ≤ ticks }
 {
     let alloc = *events.allocator();
     lend(machine, events);
-    let ended = initializer_told(alloc, table, &mut machine.store, entry, ticks);
+    let ended = initializer_told(
+        alloc,
+        table,
+        &mut machine.store,
+        &mut machine.last,
+        entry,
+        ticks,
+    );
     take_back(machine, events);
     ended
 }

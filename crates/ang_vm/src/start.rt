@@ -35,6 +35,7 @@ fn start(
         (left result stack.new.items (reverse frames.new.items)) store.new }
     ensures fits { IfOk result (λ s. Fits s stack.new.items frames.new.items) }
     ensures moves { HasMoved ⟦<dyn Driver as Driver>⟧ store.old store.new }
+    ensures callers { frames.new.items ≡ [] }
 {
     frames.clear();
     let top = stack.len();
@@ -67,6 +68,7 @@ pub fn start_call(
         (left result stack.new.items (reverse frames.new.items)) store.new }
     ensures fits { IfOk result (λ s. Fits s stack.new.items frames.new.items) }
     ensures moves { HasMoved ⟦<dyn Driver as Driver>⟧ store.old store.new }
+    ensures callers { frames.old.items ≡ [] → frames.new.items ≡ [] }
 {
     if budget == 0 {
         let held = stack.len();
@@ -96,6 +98,7 @@ pub fn start_initializer(
         store.old (left result stack.new.items (reverse frames.new.items)) store.new }
     ensures fits { IfOk result (λ s. Fits s stack.new.items frames.new.items) }
     ensures moves { HasMoved ⟦<dyn Driver as Driver>⟧ store.old store.new }
+    ensures callers { frames.new.items ≡ [] }
 {
     start(table, stack, frames, store, entry, ticks)
 }

@@ -86,9 +86,9 @@ within_long : (z : ℤ) → SFits w64 z → is_within I64 z ≡ true
 within_long (pos n) f = let small = f.sfits in lt-ltb n (2 ^ 63) (omega (arith, small))
 within_long (negsuc n) f = let small = f.sfits in le-leb n (2 ^ 63 - 1) (omega (arith, small))
 
-pub long_slot : (d : ℕ) (z : ℤ) (n : ℕ) → SFits w64 z → n ≡ cast_unsigned w64 z → slot_of d (Plain I64) (Int z) ≡ Some (Bits n)
+pub int64_slot : (d : ℕ) (z : ℤ) (n : ℕ) → SFits w64 z → n ≡ cast_unsigned w64 z → slot_of d (Plain I64) (Int z) ≡ Some (Bits n)
 unfolding slot_of
-long_slot d z n f e =
+int64_slot d z n f e =
     ap (λ b. if_within b (bits_of I64 z)) (within_long z f) ∙ ap (λ k. Some (Bits k)) (ap (cast_unsigned w64) (int_wrap_fits w64 z f) ∙ sym e)
 
 -- ---- an answer that names nothing

@@ -34,7 +34,7 @@ use std::alloc::Global;
 /// asked; the driver's own faults and its want of memory; `BadAnswer` where the answer is not of the declared type or
 /// not in its range, and `Tally` where a tally of the driver has run out (docs/HOST.md, "Drivers").
 #[inline(always)]
-pub fn call_with(
+pub(crate) fn call_with(
     store: &mut Store,
     caller: &[u8],
     entity: EntityNo,

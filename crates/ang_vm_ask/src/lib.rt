@@ -7,7 +7,7 @@
 #![tactic(auto)]
 
 mod arguments;
-pub mod asking;
+mod asking;
 pub mod fields;
 mod fitting;
 pub mod globals;

@@ -416,9 +416,7 @@ pub fn call_entry(
         args.now }
     ensures called { (ops : List Slot) → object_in (receiver_of host.now ops) ≡ Ok object
         → values_of host.now.driver host.now.params (arguments_in host.now ops) ≡ args.now
-        → (nesting : ℕ) → is_fit (setting_of table.now nesting) home (Ask entity) ≡ true
-        → length ops ≡ operand_count (setting_of table.now nesting) home (Ask entity)
-        → StoreTold ⟦<dyn Driver as Driver>⟧ (asks (setting_of table.now nesting) home (Ask entity)
+        → (nesting : ℕ) → StoreTold ⟦<dyn Driver as Driver>⟧ (asks (setting_of table.now nesting) home (Ask entity)
         (reverse ops)) store.old (done result) store.new }
     ensures enough { StillGives ⟦<dyn Driver as Driver>⟧ store.old store.new }
     ensures ready { IsReady ⟦<dyn Driver as Driver>⟧ store.new }

@@ -32,7 +32,7 @@ fn is_void(of: HostValueType) -> bool
 
 /// Whether the type is that of all signed numbers of 64 bits.
 #[inline(always)]
-fn is_long(of: HostValueType) -> bool
+fn is_int64(of: HostValueType) -> bool
     ensures exact { IsTrue result ↔ (of ≡ Plain I64) }
 {
     match of {
@@ -54,7 +54,7 @@ fn is_long(of: HostValueType) -> bool
 
 /// A number of that type, as it is kept.
 #[inline(always)]
-fn long_bits(number: i64) -> u64
+fn int64_bits(number: i64) -> u64
     ensures exact { (d : ℕ) → slot_of d (Plain I64) (Int number) ≡ Some (Bits result) }
 {
     number.cast_unsigned()
@@ -124,8 +124,8 @@ fn take_value(
 {
     match value {
         Value::Int(number) => {
-            if is_long(of) {
-                Ok(Slot::Bits(long_bits(number)))
+            if is_int64(of) {
+                Ok(Slot::Bits(int64_bits(number)))
             } else {
                 take_value_apart(store, driver, of, Value::Int(number))
             }

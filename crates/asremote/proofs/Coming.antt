@@ -14,7 +14,6 @@ use Rattle.ang_host.specs.declared.event.HostEvent.{HostEvent}
 use Rattle.ang_host.proofs.Events.{AllFollow-join}
 use Rattle.ang_engine.specs.declared.engine.Engine.{Engine}
 use Rattle.ang_engine.specs.Engines.{registrations, world_in, drivers_in}
-use Rattle.ang_engine.specs.Step.{Runs}
 use Rattle.ang_engine_modules.specs.World.{World}
 use Rattle.ang_engine.specs.Roles.{roles_of}
 use Rattle.ang_view.specs.Registration.{RegistrationList}
@@ -24,7 +23,7 @@ use Rattle.asrun_lines.specs.SessionLines.{session_line_of, is_header}
 use Rattle.asrun_lines.specs.declared.session_lines.SessionLine.{SessionLine}
 use Rattle.asrun_lines.specs.declared.session_lines.SessionLine.TheVariants as line
 use Rattle.asrun_lines.proofs.Headers.{may_head, no_header}
-use Rattle.asrun_session.specs.Deeds.{Deed, Ran, Set, Does as DoesDeed, commands_in, replies_in, deed_events, events_in, bad_line_text}
+use Rattle.asrun_session.specs.Deeds.{bad_line_text}
 use Rattle.asrun_session.specs.Drivers.{ByEvents}
 use Rattle.asrun_session.specs.Session.{Act, act_of, section_act, budget_after}
 use Rattle.asrun_session.specs.Whole.{long_session_text}
@@ -42,10 +41,10 @@ use Rattle.asremote.specs.declared.commands.Next.TheVariants as next
 use Rattle.asremote.specs.OwnLines.{own_line_of}
 use Rattle.asremote.specs.declared.own_lines.OwnLine.{OwnLine}
 use Rattle.asremote.proofs.OwnLines.{own_is_none}
-use Rattle.asremote.specs.Talk.{Says, Nothing, Does, Owns, Wrong, Talk, talk_from, behind_turn, ticks_after, Turned, Passed, Did, Limited, Told, Unread, says_of, deed_in, deeds_in, is_right, turn_text, turns_text, done_line, status_of}
+use Rattle.asremote.specs.Talk.{Says, Nothing, Does, Owns, Wrong, Talk, talk_from, behind_turn, ticks_after, Turned, Passed, Did, Limited, Told, Traced, Checked, Listed, LookedUp, Called, Missed, Unread, says_of, events_of, events_in, is_right, turn_text, turns_text, done_line, status_of}
 use Rattle.asremote.specs.Turns.{said_by, IsSaid, IsEnding, IsTaken, Comes, Goes, Ends, GoesHalf, EndsHalf, Stays, TurnsHalf, TakesHalf, TakesOne}
 use Rattle.asremote.specs.declared.turns.At.{At}
-use Rattle.asremote.specs.Conversation.{but_last, IsHeld, IsTold, IsTooLong, Converses, IsCutShort}
+use Rattle.asremote.specs.Conversation.{TurnLeads, TurnsLead, but_last, IsHeld, IsTold, IsTooLong, Converses, IsCutShort}
 use Rattle.asremote.proofs.Lining.{lines_both, lines_here, no_lines}
 
 -- ---- what a command says does not depend on what follows its section
@@ -225,42 +224,17 @@ leads_on n b line section future Wrong lines within h =
 
 -- ---- turns one after the other
 
-abbrev TurnDoes : RegistrationList → World → Turned → World → Type 0
-TurnDoes R w Passed after = w ≡ after
-TurnDoes R w (Did d) after = DoesDeed R w d after
-TurnDoes R w (Limited limit) after = w ≡ after
-TurnDoes R w (Told held) after = w ≡ after
-TurnDoes R w Unread after = w ≡ after
-
-abbrev DoAll : RegistrationList → World → List Turned → World → Type 0
-DoAll R w [] after = w ≡ after
-DoAll R w (t ∷ ts) after = (v : World) × TurnDoes R w t v × DoAll R v ts after
-
-do_more : (R : RegistrationList) (w v after : World) (ts : List Turned) (t : Turned) → DoAll R w ts v → TurnDoes R v t after → DoAll R w (ts ++ t ∷ []) after
-do_more R w v after [] t h e = (after, subst (λ x. TurnDoes R x t after) (sym h) e, refl)
+do_more : (R : RegistrationList) (w v after : World) (ts : List Turned) (t : Turned) → TurnsLead R w ts v → TurnLeads R v t after → TurnsLead R w (ts ++ t ∷ []) after
+do_more R w v after [] t h e = (after, subst (λ x. TurnLeads R x t after) (sym h) e, refl)
 do_more R w v after (x ∷ xs) t h e = (h.0, h.1, do_more R h.0 v after xs t h.2 e)
-
-runs_all : (R : RegistrationList) (w after : World) (ts : List Turned) → DoAll R w ts after → Runs R w (commands_in (deeds_in ts)) (replies_in (deeds_in ts)) after
-runs_all R w after [] h = h
-runs_all R w after (Passed ∷ ts) h = rw h.1 (runs_all R h.0 after ts h.2)
-runs_all R w after (Limited limit ∷ ts) h = rw h.1 (runs_all R h.0 after ts h.2)
-runs_all R w after (Told held ∷ ts) h = rw h.1 (runs_all R h.0 after ts h.2)
-runs_all R w after (Unread ∷ ts) h = rw h.1 (runs_all R h.0 after ts h.2)
-runs_all R w after (Did (Ran c r) ∷ ts) h = (h.0, h.1, runs_all R h.0 after ts h.2)
-runs_all R w after (Did (Set ticks) ∷ ts) h = rw h.1 (runs_all R h.0 after ts h.2)
 
 text_more : (ts : List Turned) (t : Turned) → turns_text (ts ++ t ∷ []) ≡ turns_text ts ++ turn_text t
 text_more [] t = append-nil (turn_text t)
 text_more (x ∷ xs) t = ap (λ y. turn_text x ++ y) (text_more xs t) ∙ sym (append_assoc (turn_text x) (turns_text xs) (turn_text t))
 
-events_more : (ts : List Turned) (t : Turned) → events_in (deeds_in (ts ++ t ∷ [])) ≡ events_in (deeds_in ts) ++ events_in (deed_in t)
-events_more [] t = ap events_in (append-nil (deed_in t))
-events_more (Passed ∷ xs) t = events_more xs t
-events_more (Limited limit ∷ xs) t = events_more xs t
-events_more (Told held ∷ xs) t = events_more xs t
-events_more (Unread ∷ xs) t = events_more xs t
-events_more (Did d ∷ xs) t =
-    ap (λ y. deed_events d ++ y) (events_more xs t) ∙ sym (append_assoc (deed_events d) (events_in (deeds_in xs)) (events_in (deed_in t)))
+events_more : (ts : List Turned) (t : Turned) → events_in (ts ++ t ∷ []) ≡ events_in ts ++ events_of t
+events_more [] t = append-nil (events_of t)
+events_more (x ∷ xs) t = ap (λ y. events_of x ++ y) (events_more xs t) ∙ sym (append_assoc (events_of x) (events_in xs) (events_of t))
 
 says_more : (ts : List Turned) (t : Turned) (left : List Says) → map says_of (ts ++ t ∷ []) ++ left ≡ map says_of ts ++ says_of t ∷ left
 says_more [] t left = refl
@@ -309,24 +283,38 @@ front_behind old mid new text one p q = (
 -- ---- what a turn does
 
 module _ {V : Type 0} {P : V → Type 0} (m : Meanings P) (e f : Engine V P) where
-  turn_does : (t : Turned) → Comes m e f t → TurnDoes (registrations e) (world_in m e) t (world_in m f)
+  turn_does : (t : Turned) → Comes m e f t → TurnLeads (registrations e) (world_in m e) t (world_in m f)
   turn_does Passed h = ap (λ g. world_in m g) (sym h)
   turn_does (Did d) h = h.does
   turn_does (Limited limit) h = sym h.world
-  turn_does (Told held) h = ap (λ g. world_in m g) (sym h.0)
+  turn_does (Told ticks held) h = ap (λ g. world_in m g) (sym h.0)
+  turn_does (Traced frames) h = ap (λ g. world_in m g) (sym h)
+  turn_does (Checked name r) h = h.checks
+  turn_does (Listed name lines o) h = ap (λ g. world_in m g) (sym h)
+  turn_does (LookedUp name decl found) h = (ap (λ g. world_in m g) (sym h.0), h.1)
+  turn_does (Called number args p ticks r) h = h.takes
+  turn_does (Missed number args) h = ap (λ g. world_in m g) (sym h)
   turn_does Unread h = ap (λ g. world_in m g) (sym h)
 
-  turn_follows : (t : Turned) → Comes m e f t → DriversFollow m (roles_of (registrations e)) (drivers_in e) (events_in (deed_in t)) (drivers_in f)
-  turn_follows Passed h =
-      subst (λ g. DriversFollow m (roles_of (registrations e)) (drivers_in e) [] (drivers_in g)) (sym h) (follow_nothing m (registrations e) (drivers_in e))
-  turn_follows (Did d) h =
-      subst (λ es. DriversFollow m (roles_of (registrations e)) (drivers_in e) es (drivers_in f)) (sym (append-nil (deed_events d))) h.follow
-  turn_follows (Limited limit) h =
-      subst (λ ys. DriversFollow m (roles_of (registrations e)) (drivers_in e) [] ys) (sym h.drivers) (follow_nothing m (registrations e) (drivers_in e))
-  turn_follows (Told held) h =
-      subst (λ g. DriversFollow m (roles_of (registrations e)) (drivers_in e) [] (drivers_in g)) (sym h.0) (follow_nothing m (registrations e) (drivers_in e))
-  turn_follows Unread h =
-      subst (λ g. DriversFollow m (roles_of (registrations e)) (drivers_in e) [] (drivers_in g)) (sym h) (follow_nothing m (registrations e) (drivers_in e))
+  -- the drivers were asked nothing
+  none_asked : drivers_in f ≡ drivers_in e → DriversFollow m (roles_of (registrations e)) (drivers_in e) [] (drivers_in f)
+  none_asked h = subst (λ ys. DriversFollow m (roles_of (registrations e)) (drivers_in e) [] ys) (sym h) (follow_nothing m (registrations e) (drivers_in e))
+
+  same_drivers : f ≡ e → drivers_in f ≡ drivers_in e
+  same_drivers h = ap (λ g. drivers_in g) h
+
+  turn_follows : (t : Turned) → Comes m e f t → DriversFollow m (roles_of (registrations e)) (drivers_in e) (events_of t) (drivers_in f)
+  turn_follows Passed h = none_asked (same_drivers h)
+  turn_follows (Did d) h = h.follow
+  turn_follows (Limited limit) h = none_asked h.drivers
+  turn_follows (Told ticks held) h = none_asked (same_drivers h.0)
+  turn_follows (Traced frames) h = none_asked (same_drivers h)
+  turn_follows (Checked name r) h = none_asked h.drivers
+  turn_follows (Listed name lines o) h = none_asked (same_drivers h)
+  turn_follows (LookedUp name decl found) h = none_asked (same_drivers h.0)
+  turn_follows (Called number args p ticks r) h = h.follow
+  turn_follows (Missed number args) h = none_asked (same_drivers h)
+  turn_follows Unread h = none_asked (same_drivers h)
 
 -- ---- what was done so far with the lines that were read
 
@@ -337,8 +325,8 @@ pub record HasCome {V : Type 0} {P : V → Type 0} (m : Meanings P) (R : Registr
   pub here : lines_of text ≡ lines
   pub said : (future : List (List ℕ)) → (talk_from 1 budget zero (lines ++ future)).turns ≡ map says_of turns ++ (talk_from number ticks zero future).turns
   pub ends : (future : List (List ℕ)) → (talk_from 1 budget zero (lines ++ future)).bad_line ≡ (talk_from number ticks zero future).bad_line
-  pub does : DoAll R w turns after
-  pub follow : DriversFollow m (roles_of R) xs (events_in (deeds_in turns)) ys
+  pub does : TurnsLead R w turns after
+  pub follow : DriversFollow m (roles_of R) xs (events_in turns) ys
 
 -- and what was printed
 pub record HasGone {V : Type 0} {P : V → Type 0} (m : Meanings P) (R : RegistrationList) (w : World) (xs : List (DynBox V Global P)) (budget : ℕ)
@@ -393,10 +381,10 @@ module _ {V : Type 0} {P : V → Type 0} (m : Meanings P) (R : RegistrationList)
     pub going_on : (talk_from 1 budget 0 (lines_of text)).bad_line ≡ None
     going_on = ap (λ ls. (talk_from 1 budget 0 ls).bad_line) whole_lines ∙ h.ends [] ∙ ap (λ s. s.bad_line) (talk_end number ticks)
 
-    pub held : IsHeld R w (talk_from 1 budget 0 (lines_of text)) turns (events_in (deeds_in turns)) after
+    pub held : IsHeld R w (talk_from 1 budget 0 (lines_of text)) turns (events_in turns) after
     held = record {
       said = ap (λ ls. (talk_from 1 budget 0 ls).turns) whole_lines ∙ h.said [] ∙ ap (λ s. map says_of turns ++ s.turns) (talk_end number ticks) ∙ append-nil (map says_of turns);
-      replies = runs_all R w after turns h.does;
+      leads = h.does;
       events = refl;
     }
 
@@ -408,7 +396,7 @@ module _ {V : Type 0} {P : V → Type 0} (m : Meanings P) (R : RegistrationList)
         let good = going_on r1 text lines number ticks h.turns after ys h.come in
         let same : turns_text h.turns ≡ turns_text h.turns ++ bad_line_text (talk_from 1 budget 0 (lines_of text)).bad_line =
         sym (append-nil (turns_text h.turns)) ∙ ap (λ b. turns_text h.turns ++ bad_line_text b) (sym good) in (
-          events_in (deeds_in h.turns),
+          events_in h.turns,
           inl (record {
             text = text;
             turns = h.turns;
@@ -424,7 +412,7 @@ module _ {V : Type 0} {P : V → Type 0} (m : Meanings P) (R : RegistrationList)
     pub ends_long : (r2 w2 : Option (List ℕ)) (more : List ℕ) → Consumes r1 r2 more → most_command < length more → Appends w1 w2 long_session_text
         → ByEvents m R xs (λ es. Converses R w budget [] rold r2 wold w2 BadInput es after) ys
     ends_long r2 w2 more c long p = (
-      events_in (deeds_in h.turns),
+      events_in h.turns,
       inr (record {
         text = text;
         more = more;
@@ -452,7 +440,7 @@ module _ {V : Type 0} {P : V → Type 0} (m : Meanings P) (R : RegistrationList)
         → ByEvents m R xs (λ es. IsCutShort R w budget [] rold r2 wold w2 es after) ys
     cut_after r2 w2 last can p =
         let front = front_behind wold w1 w2 (turns_text h.turns) last h.printed p in (
-          events_in (deeds_in h.turns),
+          events_in h.turns,
           record {
             text = text;
             turns = h.turns;
@@ -499,11 +487,11 @@ module _ {V : Type 0} {P : V → Type 0} (m : Meanings P) (R : RegistrationList)
               ∙ ap (λ s. map says_of turns ++ s.turns) (left future) ∙ sym (says_more turns t (talk_from (number + (1 + many)) next zero future).turns);
           ends = λ future.
               ap (λ ls. (talk_from 1 budget zero ls).bad_line) (joined future) ∙ h.ends (line ∷ (section ++ future)) ∙ ap (λ s. s.bad_line) (left future);
-          does = do_more R w (world_in m e) (world_in m f) turns t h.does (subst (λ l. TurnDoes l (world_in m e) t (world_in m f)) list (turn_does m e f t k.comes));
+          does = do_more R w (world_in m e) (world_in m f) turns t h.does (subst (λ l. TurnLeads l (world_in m e) t (world_in m f)) list (turn_does m e f t k.comes));
           follow = subst (λ es. DriversFollow m (roles_of R) xs es (drivers_in f)) (sym (events_more turns t))
               (AllFollow-join (λ b. state_in m b) (λ b. b.vtable) (λ v. (m v).meaning.fits) (roles_of R) xs (drivers_in e) (drivers_in f)
-              (events_in (deeds_in turns)) (events_in (deed_in t)) h.follow
-              (subst (λ l. DriversFollow m (roles_of l) (drivers_in e) (events_in (deed_in t)) (drivers_in f)) list (turn_follows m e f t k.comes)));
+              (events_in turns) (events_of t) h.follow
+              (subst (λ l. DriversFollow m (roles_of l) (drivers_in e) (events_of t) (drivers_in f)) list (turn_follows m e f t k.comes)));
         }
 
     -- or it ends the conversation
@@ -513,10 +501,10 @@ module _ {V : Type 0} {P : V → Type 0} (m : Meanings P) (R : RegistrationList)
     bad_line_is : IsEnding ticks line section → (talk_from 1 budget 0 (lines_of (text ++ c))).bad_line ≡ Some number
     bad_line_is k = ap (λ ls. (talk_from 1 budget 0 ls).bad_line) cut ∙ h.ends (line ∷ section) ∙ ap (λ s. s.bad_line) (ended_by k)
 
-    held_to : IsEnding ticks line section → IsHeld R w (talk_from 1 budget 0 (lines_of (text ++ c))) turns (events_in (deeds_in turns)) (world_in m e)
+    held_to : IsEnding ticks line section → IsHeld R w (talk_from 1 budget 0 (lines_of (text ++ c))) turns (events_in turns) (world_in m e)
     held_to k = record {
       said = ap (λ ls. (talk_from 1 budget 0 ls).turns) cut ∙ h.said (line ∷ section) ∙ ap (λ s. map says_of turns ++ s.turns) (ended_by k) ∙ append-nil (map says_of turns);
-      replies = runs_all R w (world_in m e) turns h.does;
+      leads = h.does;
       events = refl;
     }
 
@@ -525,7 +513,7 @@ module _ {V : Type 0} {P : V → Type 0} (m : Meanings P) (R : RegistrationList)
     ends_bad f w1 w2 before p =
         let bad = bad_line_is p.ending in
         subst (λ g. ByEvents m R xs (λ es. Converses R w budget [] rold r2 wold w2 BadInput es (world_in m g)) (drivers_in g)) (sym p.same) (
-          events_in (deeds_in turns),
+          events_in turns,
           inl (record {
             text = text ++ c;
             turns = turns;
@@ -544,7 +532,7 @@ module _ {V : Type 0} {P : V → Type 0} (m : Meanings P) (R : RegistrationList)
         let bad = bad_line_is p.ending in
         let front = front_behind wold w1 w2 (turns_text turns) (bad_line_text (Some number)) before p.front in
         subst (λ g. ByEvents m R xs (λ es. IsCutShort R w budget [] rold r3 wold w2 es (world_in m g)) (drivers_in g)) (sym p.same) (
-          events_in (deeds_in turns),
+          events_in turns,
           record {
             text = text ++ c;
             turns = turns;
@@ -566,7 +554,7 @@ module _ {V : Type 0} {P : V → Type 0} (m : Meanings P) (R : RegistrationList)
         let front = front_behind wold w1 w2 (turns_text turns) (turn_text p.did) before p.front in
         let same : turns_text turns ++ turn_text p.did ≡ turns_text (turns ++ p.did ∷ []) ++ [] =
         sym (text_more turns p.did) ∙ sym (append-nil (turns_text (turns ++ p.did ∷ []))) in (
-          events_in (deeds_in (turns ++ p.did ∷ [])),
+          events_in (turns ++ p.did ∷ []),
           record {
             text = text ++ c;
             turns = turns ++ p.did ∷ [];

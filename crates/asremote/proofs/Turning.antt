@@ -83,6 +83,7 @@ module _ {V : Type 0} {P : V → Type 0} (m : Meanings P) (e f : Engine V P) (ol
     taken = record {
       said = subst (λ x. IsSaid ticks l ls (Does x) a.lines) (sym p.done.action) said;
       budget = budget ∙ ap (λ x. ticks_after ticks (Does x)) (sym p.done.action);
+      budgeted = tt;
       comes = record { does = p.done.does; follow = p.done.follow; within = p.within };
     };
     is_ok = p.done.ended;
@@ -99,28 +100,30 @@ module _ {V : Type 0} {P : V → Type 0} (m : Meanings P) (e f : Engine V P) (ol
     taken = record {
       said = subst (λ x. IsSaid ticks l ls (Does x) a.lines) (sym p.done.action) said;
       budget = ap (λ x. ticks_after ticks (Does x)) (sym p.done.action);
+      budgeted = tt;
       comes = record { does = p.done.does; follow = p.done.follow; within = p.within };
     };
     front = front_of_turn old new (Did p.done.deed) p.done.front;
   }
 
   -- a line that no session has was done, and answered
-  pub obeyed : (l : List ℕ) (ls : List (List ℕ)) (o : OwnLine) → is_skipped (shown_of l) ≡ false → own_line_of (shown_of l) ≡ Some o
-      → Obeys m e f old new o → Answers m e f old new ticks l ls true ticks 0
-  obeyed l ls o told own p = record {
+  pub obeyed : (l : List ℕ) (ls : List (List ℕ)) (o : OwnLine) (ok : Bool) → is_skipped (shown_of l) ≡ false → own_line_of (shown_of l) ≡ Some o
+      → Obeys m e f old new ticks o ok → Answers m e f old new ticks l ls ok ticks 0
+  obeyed l ls o ok told own p = record {
     did = p.did;
     taken = record {
       said = subst (λ x. IsSaid ticks l ls x 0) (sym p.says) (told, own, refl);
       budget = ap (ticks_after ticks) (sym p.says);
+      budgeted = p.budgeted;
       comes = p.comes;
     };
-    is_ok = sym p.right;
+    is_ok = p.right;
     printed = p.printed;
   }
 
   -- or answered in part
   pub half_obeyed : (l : List ℕ) (ls : List (List ℕ)) (o : OwnLine) → is_skipped (shown_of l) ≡ false → own_line_of (shown_of l) ≡ Some o
-      → ObeysHalf m e f old new o → GoesHalf m e f old new ticks l ls
+      → ObeysHalf m e f old new ticks o → GoesHalf m e f old new ticks l ls
   half_obeyed l ls o told own p = record {
     did = p.did;
     next = ticks;
@@ -128,6 +131,7 @@ module _ {V : Type 0} {P : V → Type 0} (m : Meanings P) (e f : Engine V P) (ol
     taken = record {
       said = subst (λ x. IsSaid ticks l ls x 0) (sym p.says) (told, own, refl);
       budget = ap (ticks_after ticks) (sym p.says);
+      budgeted = p.budgeted;
       comes = p.comes;
     };
     front = front_of_turn old new p.did p.front;
@@ -149,7 +153,7 @@ module _ {V : Type 0} {P : V → Type 0} (m : Meanings P) (e : Engine V P) (old 
   pub refused : (t : Turn) → Refuses (is_header shown) old new number ticks t → Turns m e e old new number ticks l ls t
   refused (turn.Done ok next lines) h = record {
     did = Unread;
-    taken = record { said = (told_of, own_of, said_of, ap is_header (sym is) ∙ h.0, h.3); budget = h.2; comes = refl };
+    taken = record { said = (told_of, own_of, said_of, ap is_header (sym is) ∙ h.0, h.3); budget = h.2; budgeted = tt; comes = refl };
     is_ok = h.1;
     printed = h.4;
   }
@@ -164,7 +168,7 @@ module _ {V : Type 0} {P : V → Type 0} (m : Meanings P) (e : Engine V P) (old 
     did = Unread;
     next = ticks;
     lines = 0;
-    taken = record { said = (told_of, own_of, said_of, ap is_header (sym is) ∙ h.0, refl); budget = refl; comes = refl };
+    taken = record { said = (told_of, own_of, said_of, ap is_header (sym is) ∙ h.0, refl); budget = refl; budgeted = tt; comes = refl };
     front = front_of_turn old new Unread h.1;
   })
   half_refused (inr h) = inr (inl (record {
@@ -231,6 +235,7 @@ pub err_turn : {A E : Type 0} (r : Result A E) (S T : Type 0) → (S → T) → 
 err_turn (Ok a) S T f h = tt
 err_turn (Err e) S T f h = f h
 
-pub done_turn : {A E : Type 0} (r : Result A E) (S T : Type 0) → (S → T) → OnOk r S → OnOk r T
-done_turn (Ok a) S T f h = f h
-done_turn (Err e) S T f h = tt
+-- what is said of an answer, and of a result that is one
+pub ok_both : {A E : Type 0} (r : Result A E) (S : A → Type 0) (T : Type 0) (U : A → Type 0) → ((a : A) → S a → T → U a) → IfOk r S → OnOk r T → IfOk r U
+ok_both (Ok a) S T U f h k = f a h k
+ok_both (Err e) S T U f h k = tt

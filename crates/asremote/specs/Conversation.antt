@@ -1,15 +1,17 @@
 -- A whole conversation: what is done with its lines, and all that is printed.
-use Rattle.std.specs.Prelude.{ℕ, ◌+◌, ◌-◌, ◌≡◌, ◌<◌, ◌≤◌, ◌⊎◌, List, [], ◌++◌, length, take, map, Option, Some, None, Result, Ok, Err}
+use Rattle.std.specs.Prelude.{ℕ, ◌+◌, ◌-◌, ◌≡◌, ◌<◌, ◌≤◌, ◌⊎◌, List, [], ◌∷◌, ◌++◌, length, take, map, Option, Some, None, Result, Ok, Err}
 use Rattle.std.specs.Io.KnownBytes.{Appends, Consumes}
 use Rattle.std.specs.declared.alloc.Global.{Global}
 use Rattle.std.specs.declared.dyn_box.DynBox.{DynBox}
 use Rattle.ang_host.specs.Meanings.{Meanings}
 use Rattle.ang_host.specs.declared.event.HostEvent.{HostEvent}
 use Rattle.ang_view.specs.Registration.{RegistrationList}
-use Rattle.ang_engine.specs.Step.{Runs}
+use Rattle.ang_engine.specs.Checking.{checking}
+use Rattle.ang_engine.specs.Prepared.{looked_up}
+use Rattle.ang_engine.specs.Step.{Leads}
 use Rattle.ang_engine_modules.specs.World.{World, no_modules}
 use Rattle.asrun_lines.specs.Lines.{lines_of}
-use Rattle.asrun_session.specs.Deeds.{commands_in, replies_in, events_in, bad_line_text}
+use Rattle.asrun_session.specs.Deeds.{Does as DoesDeed, bad_line_text}
 use Rattle.asrun_session.specs.Drivers.{WasDiscarded}
 use Rattle.asrun_session.specs.Whole.{EngineRefused, EngineStops, Untouched, long_session_text}
 use Rattle.asrun_session.specs.Writing.{HasFront}
@@ -17,7 +19,8 @@ use Rattle.asrun_session.specs.declared.ending.IoFault.{IoFault}
 use Rattle.asrun_session.specs.declared.ending.Status.{Status}
 use Rattle.asrun_session.specs.declared.ending.Status.TheVariants.{AllOk, SomeRefused, BadInput, Memory}
 use Rattle.asremote.specs.Commands.{most_command}
-use Rattle.asremote.specs.Talk.{Talk, talk_from, Turned, says_of, deeds_in, turns_text, done_line, status_of}
+use Rattle.asremote.specs.Talk.{Talk, talk_from, Turned, Passed, Did, Limited, Told, Traced, Checked, Listed, LookedUp, Called, Missed, Unread, says_of, events_in, turns_text, done_line, status_of}
+use Rattle.asremote.specs.Turns.{IsFound, TakesPrepared}
 
 -- all turns but the last one
 abbrev pub but_last : List Turned → List Turned
@@ -27,14 +30,34 @@ but_last ts = take (length ts - 1) ts
 abbrev pub IsFrontOf : Option (List ℕ) → List ℕ → Type 0
 IsFrontOf unread text = (left : Option (List ℕ)) × Consumes unread left text
 
--- Over the list R and the world w: these turns were taken with what was said, in their order; the
--- commands among them ran, each with its reply; these are the events of all replies, and the world
--- that they left.
+-- What a turn does to the modules: a command and a call of what was looked up as the engine says, a check
+-- takes sections with errors away, and no other turn does anything. What a look-up answers is of the modules.
+abbrev pub TurnLeads : RegistrationList → World → Turned → World → Type 0
+TurnLeads R w Passed after = w ≡ after
+TurnLeads R w (Did d) after = DoesDeed R w d after
+TurnLeads R w (Limited limit) after = w ≡ after
+TurnLeads R w (Told ticks held) after = w ≡ after
+TurnLeads R w (Traced frames) after = w ≡ after
+TurnLeads R w (Checked name r) after = Leads (checking R name w) r after
+TurnLeads R w (Listed name lines o) after = w ≡ after
+TurnLeads R w (LookedUp name decl found) after = (w ≡ after) × IsFound (looked_up name decl w) found
+TurnLeads R w (Called number args p ticks r) after = TakesPrepared R w p args ticks r after
+TurnLeads R w (Missed number args) after = w ≡ after
+TurnLeads R w Unread after = w ≡ after
+
+-- one after the other
+abbrev pub TurnsLead : RegistrationList → World → List Turned → World → Type 0
+TurnsLead R w [] after = w ≡ after
+TurnsLead R w (t ∷ ts) after = (v : World) × TurnLeads R w t v × TurnsLead R v ts after
+
+-- Over the list R and the world w: these turns were taken with what was said, in their order; each
+-- command among them ran, with its reply; these are the events of all replies, and the world that they
+-- left.
 pub record IsHeld (R : RegistrationList) (w : World) (talk : Talk) (turns : List Turned)
     (es : List HostEvent) (after : World) : Type 0 where
   pub said : talk.turns ≡ map says_of turns
-  pub replies : Runs R w (commands_in (deeds_in turns)) (replies_in (deeds_in turns)) after
-  pub events : es ≡ events_in (deeds_in turns)
+  pub leads : TurnsLead R w turns after
+  pub events : es ≡ events_in turns
 
 -- A conversation over the list R and the world w, with a budget. `first` is told before it begins. The
 -- bytes that the reader had left and those of the writer, before and after.

@@ -1,13 +1,23 @@
 -- What the lines of a conversation say, and what is answered (docs/FORMATS.md, "The conversation of
 -- asremote").
-use Rattle.std.specs.Prelude.{ℕ, zero, suc, ◌+◌, ◌≡◌, Bool, true, false, List, [], ◌∷◌, ◌++◌, flat_map, Option, Some, None, codes, option_and_then, if◌then◌else◌}
+use Rattle.std.specs.Prelude.{ℕ, zero, suc, ◌+◌, ◌≡◌, Bool, true, false, List, [], ◌∷◌, ◌++◌, flat_map, Option, Some, None, Result, Ok, Err, codes, option_and_then, if◌then◌else◌}
 use Rattle.std.specs.List.{list_all}
 use Rattle.asrun_lines.specs.Lines.{shown_of, is_skipped}
 use Rattle.asrun_lines.specs.SessionLines.{session_line_of, is_header}
 use Rattle.asrun_lines.specs.declared.limits.LimitLine.{LimitLine}
 use Rattle.ang_heap.specs.declared.limits.Held.{Held}
-use Rattle.asrun_session.specs.Deeds.{Deed, action_of, deed_text, is_ok}
-use Rattle.asrun_session.specs.Limits.{held_text}
+use Rattle.ang_host.specs.declared.event.HostEvent.{HostEvent}
+use Rattle.ang_kinds.specs.declared.value.Value.{Value}
+use Rattle.ang_engine.specs.declared.prepared.Prepared.{Prepared}
+use Rattle.ang_engine_modules.specs.declared.reply.Outcome.{Outcome}
+use Rattle.ang_engine_modules.specs.declared.reply.Outcome.TheVariants.{Refused}
+use Rattle.ang_engine_modules.specs.declared.reply.Refusal.{Refusal}
+use Rattle.ang_engine_modules.specs.declared.reply.Refusal.TheVariants.{NoFunction}
+use Rattle.ang_engine_modules.specs.declared.reply.Reply.{Reply}
+use Rattle.asrun_text.specs.Text.{outcome_text, reply_text}
+use Rattle.asrun_text.specs.Trace.{TraceLine}
+use Rattle.asrun_session.specs.Deeds.{Deed, action_of, deed_events, deed_text, is_done, is_ok}
+use Rattle.asrun_session.specs.Inquiries.{used_text, trace_text, listing_text, prepared_text}
 use Rattle.asrun_session.specs.Session.{Act, act_of, budget_after, session_from}
 use Rattle.asrun_session.specs.declared.action.Action.{Action}
 use Rattle.asrun_session.specs.declared.ending.Status.{Status}
@@ -67,37 +77,68 @@ talk_from n budget zero (l ∷ ls) =
 
 -- ---- what is answered
 
--- a turn that was taken: a line passed over, a command that was done, a limit that was set, what is
--- held that was told, a line of another form
+-- a turn that was taken: a line passed over; a command that was done; and of the lines that no session
+-- has a limit that was set, what was told of ticks and of what is held, a trace, a check with its reply, a
+-- list of declarations, a look-up of a function, with its number or why there is none, a call of what was
+-- looked up, in a budget, and a call of a number that is none; and a line of another form
 pub data Turned : Type 0 where
   Passed : Turned
   Did : Deed → Turned
   Limited : LimitLine → Turned
-  Told : Held → Turned
+  Told : ℕ → Held → Turned
+  Traced : List TraceLine → Turned
+  Checked : List ℕ → Reply → Turned
+  Listed : List ℕ → List (List ℕ) → Outcome → Turned
+  LookedUp : List ℕ → List ℕ → Result ℕ Refusal → Turned
+  Called : ℕ → List Value → Prepared → ℕ → Reply → Turned
+  Missed : ℕ → List Value → Turned
   Unread : Turned
 
 abbrev pub says_of : Turned → Says
 says_of Passed = Nothing
 says_of (Did d) = Does (action_of d)
 says_of (Limited limit) = Owns (own.Limit limit)
-says_of (Told held) = Owns own.Used
+says_of (Told ticks held) = Owns own.Used
+says_of (Traced frames) = Owns own.Trace
+says_of (Checked name r) = Owns (own.Check name)
+says_of (Listed name lines o) = Owns (own.Declarations name)
+says_of (LookedUp name decl found) = Owns (own.Prepare name decl)
+says_of (Called number args p ticks r) = Owns (own.Run number args)
+says_of (Missed number args) = Owns (own.Run number args)
 says_of Unread = Wrong
 
-abbrev pub deed_in : Turned → List Deed
-deed_in Passed = []
-deed_in (Did d) = d ∷ []
-deed_in (Limited limit) = []
-deed_in (Told held) = []
-deed_in Unread = []
+-- the events of the turn's reply
+abbrev pub events_of : Turned → List HostEvent
+events_of Passed = []
+events_of (Did d) = deed_events d
+events_of (Limited limit) = []
+events_of (Told ticks held) = []
+events_of (Traced frames) = []
+events_of (Checked name r) = []
+events_of (Listed name lines o) = []
+events_of (LookedUp name decl found) = []
+events_of (Called number args p ticks r) = r.events
+events_of (Missed number args) = []
+events_of Unread = []
 
-abbrev pub deeds_in : List Turned → List Deed
-deeds_in = flat_map deed_in
+abbrev pub events_in : List Turned → List HostEvent
+events_in = flat_map events_of
+
+abbrev pub is_found : Result ℕ Refusal → Bool
+is_found (Ok n) = true
+is_found (Err why) = false
 
 abbrev pub is_right : Turned → Bool
 is_right Passed = true
 is_right (Did d) = is_ok d
 is_right (Limited limit) = true
-is_right (Told held) = true
+is_right (Told ticks held) = true
+is_right (Traced frames) = true
+is_right (Checked name r) = is_done r.outcome
+is_right (Listed name lines o) = is_done o
+is_right (LookedUp name decl found) = is_found found
+is_right (Called number args p ticks r) = is_done r.outcome
+is_right (Missed number args) = false
 is_right Unread = false
 
 abbrev pub ok_text : List ℕ
@@ -106,12 +147,22 @@ ok_text = codes "ok\n"
 abbrev pub bad_form_text : List ℕ
 bad_form_text = codes "refused BadLine\n"
 
+abbrev pub found_text : Result ℕ Refusal → List ℕ
+found_text (Ok n) = prepared_text n
+found_text (Err why) = outcome_text (Refused why)
+
 -- a command's reply as a session prints it
 abbrev pub answer_text : Turned → List ℕ
 answer_text Passed = []
 answer_text (Did d) = deed_text d
 answer_text (Limited limit) = ok_text
-answer_text (Told held) = held_text held
+answer_text (Told ticks held) = used_text ticks held
+answer_text (Traced frames) = trace_text frames
+answer_text (Checked name r) = reply_text r
+answer_text (Listed name lines o) = listing_text lines o
+answer_text (LookedUp name decl found) = found_text found
+answer_text (Called number args p ticks r) = reply_text r
+answer_text (Missed number args) = outcome_text (Refused NoFunction)
 answer_text Unread = bad_form_text
 
 abbrev pub done_line : List ℕ

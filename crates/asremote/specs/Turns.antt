@@ -1,13 +1,27 @@
 -- What is done with one command, and printed for it.
-use Rattle.std.specs.Prelude.{ℕ, ◌+◌, ◌≡◌, ◌≤◌, ◌⊎◌, Bool, true, false, List, ◌∷◌, length, Option, Some, None}
+use Rattle.std.specs.Prelude.{ℕ, ◌+◌, ◌≡◌, ◌≢◌, ◌≤◌, ◌⊎◌, Bool, true, false, List, [], ◌∷◌, length, Option, Some, None, Result, Ok, Err}
 use Rattle.std.specs.Option.{option_and_then}
 use Rattle.std.specs.Io.KnownBytes.{Appends}
 use Rattle.ang_host.specs.Events.{DriversFollow}
 use Rattle.ang_host.specs.Meanings.{Meanings}
 use Rattle.ang_engine.specs.Engines.{registrations, world_in, drivers_in, limits_in, held_in}
 use Rattle.ang_engine.specs.declared.engine.Engine.{Engine}
+use Rattle.ang_engine.specs.Checking.{checking}
 use Rattle.ang_engine.specs.Limited.{StaysWithin}
+use Rattle.ang_engine.specs.Prepared.{IsFunctionOf, is_there, looked_up}
+use Rattle.ang_engine.specs.declared.prepared.Prepared.{Prepared}
 use Rattle.ang_engine.specs.Roles.{roles_of}
+use Rattle.ang_engine.specs.Step.{Leads, Takes}
+use Rattle.ang_engine.specs.Trace.{ticks_in}
+use Rattle.ang_engine_modules.specs.Commands.{reply_of}
+use Rattle.ang_engine_modules.specs.World.{World}
+use Rattle.ang_engine_modules.specs.declared.command.Command.TheVariants.{Call}
+use Rattle.ang_engine_modules.specs.declared.reply.Outcome.TheVariants.{Refused}
+use Rattle.ang_engine_modules.specs.declared.reply.Refusal.{Refusal}
+use Rattle.ang_engine_modules.specs.declared.reply.Refusal.TheVariants.{Memory, NoFunction}
+use Rattle.ang_engine_modules.specs.declared.reply.Reply.{Reply}
+use Rattle.ang_kinds.specs.declared.value.Value.{Value}
+use Rattle.ang_view.specs.Registration.{RegistrationList}
 use Rattle.asrun_lines.specs.Lines.{lines_of, shown_of, is_skipped}
 use Rattle.asrun_lines.specs.SessionLines.{session_line_of, is_header}
 use Rattle.asrun_lines.specs.declared.limits.LimitLine.{LimitLine}
@@ -16,7 +30,7 @@ use Rattle.asrun_session.specs.Limits.{with_limit}
 use Rattle.asrun_session.specs.Session.{Act, act_of}
 use Rattle.asrun_session.specs.Writing.{HasFront}
 use Rattle.asremote.specs.OwnLines.{own_line_of}
-use Rattle.asremote.specs.Talk.{Says, Nothing, Does, Owns, Wrong, ticks_after, Turned, Passed, Did, Limited, Told, Unread, says_of, is_right, bad_form_text, answer_text, turn_text}
+use Rattle.asremote.specs.Talk.{Says, Nothing, Does, Owns, Wrong, ticks_after, Turned, Passed, Did, Limited, Told, Traced, Checked, Listed, LookedUp, Called, Missed, Unread, says_of, is_right, bad_form_text, answer_text, turn_text}
 use Rattle.asremote.specs.declared.own_lines.OwnLine.{OwnLine}
 use Rattle.asremote.specs.declared.turns.At.{At}
 use Rattle.asremote.specs.declared.turns.Turn.{Turn}
@@ -61,6 +75,34 @@ RefusesHalf header old new number =
     ((header ≡ false) × HasFront old new bad_form_text)
     ⊎ ((header ≡ true) × HasFront old new (bad_line_text (Some number)))
 
+-- What is answered to a look-up, of which the engine says `there`: a number, or why there is no such
+-- function, unless memory ran out.
+abbrev pub IsFound : Result ℕ Refusal → Result ℕ Refusal → Type 0
+IsFound there (Ok n) = (k : ℕ) × (there ≡ Ok k)
+IsFound there (Err why) = why ≢ Memory → there ≡ Err why
+
+-- a call of what was looked up has the budget that holds
+abbrev pub IsBudgeted : ℕ → Turned → Type 0
+IsBudgeted budget Passed = Unit {0}
+IsBudgeted budget (Did d) = Unit {0}
+IsBudgeted budget (Limited limit) = Unit {0}
+IsBudgeted budget (Told ticks held) = Unit {0}
+IsBudgeted budget (Traced frames) = Unit {0}
+IsBudgeted budget (Checked name r) = Unit {0}
+IsBudgeted budget (Listed name lines o) = Unit {0}
+IsBudgeted budget (LookedUp name decl found) = Unit {0}
+IsBudgeted budget (Called number args p ticks r) = ticks ≡ budget
+IsBudgeted budget (Missed number args) = Unit {0}
+IsBudgeted budget Unread = Unit {0}
+
+-- What was looked up is called over the modules w: as by each text that names the function, or, where its
+-- module was built since or is gone, to no avail. `builds` numbers the last build of each module.
+pub record TakesPrepared (R : RegistrationList) (w : World) (p : Prepared) (args : List Value) (ticks : ℕ)
+    (r : Reply) (after : World) : Type 0 where
+  pub builds : ℕ → Option ℕ
+  pub takes : (name decl : List ℕ) → IsFunctionOf w builds p name decl → Takes R w (Call name decl args ticks) r after
+  pub gone : is_there builds p ≡ false → (r ≡ reply_of (Refused NoFunction) [] []) × (after ≡ w)
+
 module _ {V : Type 0} {P : V → Type 0} (m : Meanings P) (e f : Engine V P) where
   -- A command was done, under the limits that hold and stay: the drivers followed its events.
   pub record HasDone (d : Deed) : Type 0 where
@@ -75,26 +117,47 @@ module _ {V : Type 0} {P : V → Type 0} (m : Meanings P) (e f : Engine V P) whe
     pub world : world_in m f ≡ world_in m e
     pub drivers : drivers_in f ≡ drivers_in e
 
-  -- What a turn did to the engine. What was told to be held is what it holds.
+  -- The sections that wait in a module were checked: what the drivers have and the limits stay.
+  pub record HasChecked (name : List ℕ) (r : Reply) : Type 0 where
+    pub checks : Leads (checking (registrations e) name (world_in m e)) r (world_in m f)
+    pub silent : r.events ≡ []
+    pub drivers : drivers_in f ≡ drivers_in e
+    pub limits : limits_in f ≡ limits_in e
+
+  -- What was looked up was called, under the limits that hold and stay: the drivers followed its events.
+  pub record HasCalled (p : Prepared) (args : List Value) (ticks : ℕ) (r : Reply) : Type 0 where
+    pub takes : TakesPrepared (registrations e) (world_in m e) p args ticks r (world_in m f)
+    pub follow : DriversFollow m (roles_of (registrations e)) (drivers_in e) r.events (drivers_in f)
+    pub within : StaysWithin m e.machine.store r.events f.machine.store
+
+  -- What a turn did to the engine. What was told of ticks and to be held is what it took and holds.
   abbrev pub Comes : Turned → Type 0
   Comes Passed = f ≡ e
   Comes (Did d) = HasDone d
   Comes (Limited limit) = HasLimited limit
-  Comes (Told held) = (f ≡ e) × (held ≡ held_in m e)
+  Comes (Told ticks held) = (f ≡ e) × (held ≡ held_in m e) × (ticks ≡ ticks_in e)
+  Comes (Traced frames) = f ≡ e
+  Comes (Checked name r) = HasChecked name r
+  Comes (Listed name lines o) = f ≡ e
+  Comes (LookedUp name decl found) = (f ≡ e) × IsFound (looked_up name decl (world_in m e)) found
+  Comes (Called number args p ticks r) = HasCalled p args ticks r
+  Comes (Missed number args) = f ≡ e
   Comes Unread = f ≡ e
 
-  -- a line that no session has was done, and answered
-  pub record Obeys (old new : Option (List ℕ)) (o : OwnLine) : Type 0 where
+  -- a line that no session has was done, with this budget, and answered
+  pub record Obeys (old new : Option (List ℕ)) (ticks : ℕ) (o : OwnLine) (ok : Bool) : Type 0 where
     pub did : Turned
     pub says : says_of did ≡ Owns o
+    pub budgeted : IsBudgeted ticks did
     pub comes : Comes did
-    pub right : is_right did ≡ true
+    pub right : ok ≡ is_right did
     pub printed : Appends old new (answer_text did)
 
   -- or answered in part
-  pub record ObeysHalf (old new : Option (List ℕ)) (o : OwnLine) : Type 0 where
+  pub record ObeysHalf (old new : Option (List ℕ)) (ticks : ℕ) (o : OwnLine) : Type 0 where
     pub did : Turned
     pub says : says_of did ≡ Owns o
+    pub budgeted : IsBudgeted ticks did
     pub comes : Comes did
     pub front : HasFront old new (answer_text did)
 
@@ -103,6 +166,7 @@ module _ {V : Type 0} {P : V → Type 0} (m : Meanings P) (e f : Engine V P) whe
       (next lines : ℕ) : Type 0 where
     pub said : IsSaid ticks line section (says_of t) lines
     pub budget : next ≡ ticks_after ticks (says_of t)
+    pub budgeted : IsBudgeted ticks t
     pub comes : Comes t
 
   -- the same, and what is answered was printed

@@ -75,11 +75,21 @@ fn turns_on<S: Read, W: Write>(
     let mut number = 1;
     let mut ticks = budget;
     let mut all_ok = true;
+    let mut prepared = Vec::new(alloc);
     for _ in 0..u32::MAX {
         let mut text = Vec::new(alloc);
         match read_command(alloc, input, &mut text)? {
             Next::Command => {
-                match one_turn(alloc, engine, writer, buffer, &text, number, ticks)? {
+                match one_turn(
+                    alloc,
+                    engine,
+                    writer,
+                    buffer,
+                    &mut prepared,
+                    &text,
+                    number,
+                    ticks,
+                )? {
                     Some(at) => {
                         all_ok &= at.ok;
                         ticks = at.ticks;
@@ -89,7 +99,16 @@ fn turns_on<S: Read, W: Write>(
                 }
             }
             Next::Last => {
-                return match one_turn(alloc, engine, writer, buffer, &text, number, ticks)? {
+                return match one_turn(
+                    alloc,
+                    engine,
+                    writer,
+                    buffer,
+                    &mut prepared,
+                    &text,
+                    number,
+                    ticks,
+                )? {
                     Some(at) => Ok(ended(all_ok & at.ok)),
                     None => Ok(Status::BadInput),
                 };
@@ -225,12 +244,14 @@ pub fn converse<P: Read, S: Read, W: Write>(
     match load_profile(alloc, profile, out, &mut buffer, &mut loaded) {
         Ok(true) => {}
         Ok(false) => {
+            drop(loaded);
             return SessionEnd {
                 outcome: Ok(Status::BadInput),
                 drivers,
             };
         }
         Err(stop) => {
+            drop(loaded);
             return SessionEnd {
                 outcome: outcome_of(Err(stop)),
                 drivers,

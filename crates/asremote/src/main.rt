@@ -7,9 +7,12 @@ mod commands;
 mod conversation;
 mod echo;
 pub mod laws;
+mod obeying;
 mod options;
 mod own_lines;
 mod posted;
+mod prepared;
+mod replies;
 mod shared;
 mod turns;
 

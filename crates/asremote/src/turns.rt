@@ -1,21 +1,23 @@
 //! Doing a command of a conversation.
-ghost use Rattle.std.specs.Prelude.{◌≡◌, ◌+◌, IfOk, OnOk, OnErr};
+ghost use Rattle.std.specs.Prelude.{◌≡◌, ◌+◌, ℕ, false, List, None, IfOk, OnOk, OnErr};
 ghost use Rattle.std.specs.Io.KnownBytes.{Appends};
 ghost use Rattle.ang_engine.specs.Engines.{registrations, drivers_in};
 ghost use Rattle.ang_engine.specs.Sound.{IsSound};
 ghost use Rattle.asrun_session.specs.Drivers.{kinds_of};
 ghost use Rattle.asrun_session.specs.Writing.{HasFront};
+ghost use Rattle.asremote.specs.OwnLines.{own_line_of};
 ghost use Rattle.asremote.specs.Talk.{done_line};
+ghost use Rattle.asrun_lines.specs.Lines.{lines_of, shown_of, is_skipped};
 ghost use Rattle.asrun_lines.specs.SessionLines.{is_header};
-ghost use Rattle.asremote.specs.Turns.{Obeys, ObeysHalf, Refuses, RefusesHalf, TakesTurn, TakesHalf, TakesOne};
+ghost use Rattle.asremote.specs.Turns.{Refuses, RefusesHalf, Turns, TurnsHalf, TakesTurn, TakesHalf, TakesOne};
 
-use crate::own_lines::{OwnLine, own_line};
-use ang_engine::Engine;
+use crate::obeying::obey;
+use crate::own_lines::own_line;
+use ang_engine::{Engine, Prepared};
 use ang_host::Driver;
 use asrun_lines::{LineError, first_line, is_header, is_skipped, shown};
 use asrun_session::{
-    IoFault, ReplyBuffer, SessionError, perform, print_bad_line, print_held, read_act, with_limit,
-    write_text,
+    IoFault, ReplyBuffer, SessionError, perform, print_bad_line, read_act, write_text,
 };
 use std::alloc::Global;
 use std::io::Write;
@@ -66,33 +68,42 @@ fn refuse<W: Write>(
     Ok(Turn::Done(false, ticks, 0))
 }
 
-/// Does a line that no session has, and prints its answer.
+/// Does a command of a session, whose line stands in front of these lines, and prints its reply. A line of another form
+/// is answered `refused BadLine`, or ends the conversation.
 ///
 /// # Errors
 /// A write fault, and want of memory.
-fn obey<W: Write>(
+fn take_act<W: Write>(
+    alloc: Global,
     engine: &mut Engine,
     writer: &mut W,
     buffer: &mut ReplyBuffer,
-    line: OwnLine,
-) -> Result<(), SessionError>
+    line: &[u8],
+    after: &[u8],
+    number: u64,
+    ticks: u64,
+) -> Result<Turn, SessionError>
     requires sound { IsSound ⟦<dyn Driver as Driver>⟧ engine.old }
+    requires told { is_skipped line.now ≡ false }
+    requires not_own { own_line_of line.now ≡ None }
     ensures sound { IsSound ⟦<dyn Driver as Driver>⟧ engine.new }
     ensures registrations { registrations engine.new ≡ registrations engine.old }
     ensures order { kinds_of (drivers_in engine.new) ≡ kinds_of (drivers_in engine.old) }
-    ensures obeyed { OnOk result (Obeys ⟦<dyn Driver as Driver>⟧ engine.old engine.new
-        (W.contents writer.old) (W.contents writer.new) line) }
-    ensures cut { OnErr result (ObeysHalf ⟦<dyn Driver as Driver>⟧ engine.old engine.new
-        (W.contents writer.old) (W.contents writer.new) line) }
+    ensures turned { IfOk result (λ t. (whole : List ℕ) → line.now ≡ shown_of whole
+        → Turns ⟦<dyn Driver as Driver>⟧ engine.old engine.new (W.contents writer.old)
+        (W.contents writer.new) number ticks whole (lines_of after.now) t) }
+    ensures cut { OnErr result ((whole : List ℕ) → line.now ≡ shown_of whole
+        → TurnsHalf ⟦<dyn Driver as Driver>⟧ engine.old engine.new (W.contents writer.old)
+        (W.contents writer.new) number ticks whole (lines_of after.now)) }
 {
-    match line {
-        OwnLine::Limit(limit) => {
-            let limits = with_limit(engine.limits(), limit);
-            engine.set_limits(limits);
-            write_text(writer, b"ok\n")?;
-            Ok(())
+    match read_act(alloc, ticks, line, after) {
+        Ok(act) => {
+            let lines = act.lines;
+            let (ok, next) = perform(engine, writer, buffer, act.action, ticks)?;
+            Ok(Turn::Done(ok, next, lines))
         }
-        OwnLine::Used => print_held(writer, buffer, engine.held()),
+        Err(LineError::BadLine) => refuse(writer, buffer, line, number, ticks),
+        Err(LineError::Memory) => Err(SessionError::Memory),
     }
 }
 
@@ -106,6 +117,7 @@ pub fn take_turn<W: Write>(
     engine: &mut Engine,
     writer: &mut W,
     buffer: &mut ReplyBuffer,
+    prepared: &mut Vec<Prepared>,
     text: &[u8],
     number: u64,
     ticks: u64,
@@ -126,17 +138,14 @@ pub fn take_turn<W: Write>(
     if is_skipped(line) {
         return Ok(Turn::Done(true, ticks, 0));
     }
-    if let Some(own) = own_line(line) {
-        obey(engine, writer, buffer, own)?;
-        return Ok(Turn::Done(true, ticks, 0));
-    }
-    match read_act(alloc, ticks, line, after) {
-        Ok(act) => {
-            let lines = act.lines;
-            let (ok, next) = perform(engine, writer, buffer, act.action, ticks)?;
-            Ok(Turn::Done(ok, next, lines))
+    match own_line(alloc, line) {
+        Ok(own) => {
+            let ok = obey(alloc, engine, writer, buffer, prepared, own, ticks)?;
+            Ok(Turn::Done(ok, ticks, 0))
         }
-        Err(LineError::BadLine) => refuse(writer, buffer, line, number, ticks),
+        Err(LineError::BadLine) => {
+            take_act(alloc, engine, writer, buffer, line, after, number, ticks)
+        }
         Err(LineError::Memory) => Err(SessionError::Memory),
     }
 }
@@ -172,6 +181,7 @@ pub fn one_turn<W: Write>(
     engine: &mut Engine,
     writer: &mut W,
     buffer: &mut ReplyBuffer,
+    prepared: &mut Vec<Prepared>,
     text: &[u8],
     number: u64,
     ticks: u64,
@@ -185,7 +195,7 @@ pub fn one_turn<W: Write>(
     ensures cut { OnErr result (TakesHalf ⟦<dyn Driver as Driver>⟧ engine.old engine.new
         (W.contents writer.old) (W.contents writer.new) number ticks text.now) }
 {
-    match take_turn(alloc, engine, writer, buffer, text, number, ticks)? {
+    match take_turn(alloc, engine, writer, buffer, prepared, text, number, ticks)? {
         Turn::Done(ok, ticks, lines) => {
             print_done(writer)?;
             let number = advanced(number, lines)?;

@@ -1,15 +1,15 @@
 -- The values that a command line gives.
 use Rattle.std.proofs.Common.{◌≡◌, ◌∙◌, ap, sym, subst, refl, true, List, [], ◌∷◌, ℕ, Option, None, Result, Ok, Err, IsErrAnd, IfErr, is_some, codes}
 use Rattle.std.proofs.lemmas.Bool.{and_parts, false≢true}
-use Rattle.clap.specs.Words.{HasMatchesOf, first_value, found_of, is_simple, matches_of, rows_of, first_of}
+use Rattle.clap.specs.Words.{HasMatchesOf, first_value, one_text, found_of, is_simple, matches_of, rows_of, first_of, one_of}
 use Rattle.clap.specs.Words.{App, takes, kind_of, fault_of, is_simple_and_free, Kinds, FailsBy, HasKind}
 use Rattle.clap.specs.declared.error.Error.{Error}
 use Rattle.clap.specs.declared.error.kind.ErrorKind.TheVariants.{OutOfMemory, DisplayVersion}
 use Rattle.clap.specs.declared.parser.matches.ArgMatches.{ArgMatches}
 use Rattle.clap.proofs.OnLiterals.{clap_on_literals}
-use Rattle.clap.proofs.WalkLemmas.{first_value-rows}
+use Rattle.clap.proofs.WalkLemmas.{first_value-rows, one_text-rows}
 use Rattle.asrun_lines.specs.Budget.{budget_given}
-use Rattle.asrun.specs.Options.{program, given, is_complete, is_right, AsksVersion, IsVersion}
+use Rattle.asrun.specs.Options.{program, given, flag, is_complete, is_right, AsksVersion, IsVersion}
 use Rattle.asrun.specs.declared.command.RunOptions.{RunOptions}
 
 program_simple : is_simple program ≡ true
@@ -22,6 +22,14 @@ unfolding given
 value_given app words m name is h =
     let rows : rows_of (found_of m) ≡ matches_of program words = (h (ap is_simple is ∙ program_simple)).0 ∙ ap (λ a. matches_of a words) is in
     first_value-rows (found_of m) name ∙ ap (first_of name) rows
+
+-- and what a flag is
+pub flag_given : (app : App) (words : List (List ℕ)) (m : ArgMatches) (name : List ℕ) → app ≡ program → HasMatchesOf app words m
+    → one_text (found_of m) name ≡ flag name words
+unfolding flag
+flag_given app words m name is h =
+    let rows : rows_of (found_of m) ≡ matches_of program words = (h (ap is_simple is ∙ program_simple)).0 ∙ ap (λ a. matches_of a words) is in
+    one_text-rows (found_of m) name ∙ ap (one_of name) rows
 
 -- a right line is one that the command line takes
 pub right_taken : (app : App) (words : List (List ℕ)) → app ≡ program → is_right words ≡ true → takes app words ≡ true

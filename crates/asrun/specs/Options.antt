@@ -1,12 +1,13 @@
 -- The command line (docs/HOST.md, "The program").
 use Rattle.std.specs.Prelude.{◌≡◌, ℕ, Bool, true, List, [], ◌∷◌, Option, Some, is_some, ◌&&◌, codes}
-use Rattle.clap.specs.Words.{App, Rule, HasKind, new_app, new_rule, with_rule, matches_of, first_of, takes}
+use Rattle.clap.specs.Words.{App, Rule, HasKind, new_app, new_rule, with_rule, matches_of, first_of, one_of, takes}
 use Rattle.clap.specs.Simple.{on_top}
+use Rattle.clap.specs.declared.builder.action.ArgAction.TheVariants.{SetTrue}
 use Rattle.clap.specs.declared.error.Error.{Error}
 use Rattle.clap.specs.declared.error.kind.ErrorKind.TheVariants.{DisplayVersion}
 use Rattle.asrun_lines.specs.Budget.{budget_given}
 
--- `--profile` and `--session` are wanted, `--budget` isn't
+-- `--profile` and `--session` are wanted, the others aren't; `--trace` has no value
 abbrev pub profile_rule : Rule
 profile_rule = record (new_rule (codes "profile")) { long = Some (codes "profile"); required = true }
 
@@ -16,16 +17,23 @@ session_rule = record (new_rule (codes "session")) { long = Some (codes "session
 abbrev pub budget_rule : Rule
 budget_rule = record (new_rule (codes "budget")) { long = Some (codes "budget") }
 
+abbrev pub trace_rule : Rule
+trace_rule = record (new_rule (codes "trace")) { long = Some (codes "trace"); action = Some SetTrue }
+
 -- a command with a version, which `--version` and `-V` print
 abbrev pub with_version : App → App
 with_version = on_top (λ s. record s { has_version = true })
 
 abbrev pub program : App
-program = with_rule (with_rule (with_rule (with_version (new_app (codes "asrun"))) profile_rule) session_rule) budget_rule
+program = with_rule (with_rule (with_rule (with_rule (with_version (new_app (codes "asrun"))) profile_rule) session_rule) budget_rule) trace_rule
 
 -- the value that a line of words gives an option
 unfoldable pub given : List ℕ → List (List ℕ) → Option (List ℕ)
 given name words = first_of name (matches_of program words)
+
+-- `true` where a line of words has a flag, `false` where it has not
+unfoldable pub flag : List ℕ → List (List ℕ) → Option (List ℕ)
+flag name words = one_of name (matches_of program words)
 
 -- whether both paths are there, and a budget that is one
 abbrev pub is_complete : Option (List ℕ) → Option (List ℕ) → Option ℕ → Bool

@@ -1,11 +1,11 @@
 //! The options of the command line.
-ghost use Rattle.std.specs.Prelude.{◌≡◌, ◌≤◌, Some, IfOk, IfSome, codes, is_some, string_bytes};
-ghost use Rattle.clap.specs.Words.{app_of, first_value, found_of};
+ghost use Rattle.std.specs.Prelude.{◌≡◌, ◌≤◌, true, false, Some, IfOk, IfSome, codes, is_some, string_bytes};
+ghost use Rattle.clap.specs.Words.{app_of, first_value, one_text, found_of};
 ghost use Rattle.asrun_lines.specs.Budget.{budget_given};
 ghost use Rattle.asrun.specs.Options.{program, is_complete};
 
 use asrun_lines::budget_of;
-use clap::{Arg, ArgMatches, Command};
+use clap::{Arg, ArgAction, ArgMatches, Command};
 use std::alloc::{AllocError, Global};
 
 /// The version, which docs/CHANGES.md and the clients have too.
@@ -20,6 +20,8 @@ const SESSION_HELP: &str = "The file of commands: modules, their scripts, builds
 
 const BUDGET_HELP: &str =
     "The ticks that each command may take, from 1 to 2147483647 (1000000 if left out)";
+
+const TRACE_HELP: &str = "Prints what was running where a command ended with a fault, too";
 
 /// Files of both forms to begin with, and where the forms are described.
 const FORMATS: &str = "\
@@ -48,6 +50,8 @@ pub struct RunOptions {
     pub session: String,
     /// The ticks that each command may take, from 1 to 2,147,483,647.
     pub budget: u64,
+    /// Whether traces are printed.
+    pub trace: bool,
 }
 
 /// The program's command line.
@@ -57,13 +61,17 @@ pub fn command_line<'a>(alloc: Global) -> Result<Command<'a>, AllocError>
     let profile = Arg::new(alloc, "profile").long("profile").required(true);
     let session = Arg::new(alloc, "session").long("session").required(true);
     let budget = Arg::new(alloc, "budget").long("budget");
+    let trace = Arg::new(alloc, "trace")
+        .long("trace")
+        .action(ArgAction::SetTrue);
     Command::new(alloc, "asrun")
         .version(VERSION)
         .about(ABOUT)
         .after_help(FORMATS)
         .arg(profile.help(PROFILE_HELP))?
         .arg(session.help(SESSION_HELP))?
-        .arg(budget.help(BUDGET_HELP))
+        .arg(budget.help(BUDGET_HELP))?
+        .arg(trace.help(TRACE_HELP))
 }
 
 /// The options of a command line that was read. None where the budget is no number from 1 to the most.
@@ -76,6 +84,12 @@ pub fn chosen(alloc: Global, matches: &ArgMatches<'_>) -> Result<Option<RunOptio
         ≡ Some (string_bytes o.session))) }
     ensures budget { IfOk result (λ r. IfSome r
         (λ o. budget_given (first_value (found_of matches.now) (codes "budget")) ≡ Some o.budget)) }
+    ensures trace { IfOk result (λ r. IfSome r
+        (λ o. one_text (found_of matches.now) (codes "trace") ≡ Some (codes "true")
+        → o.trace ≡ true)) }
+    ensures no_trace { IfOk result (λ r. IfSome r
+        (λ o. one_text (found_of matches.now) (codes "trace") ≡ Some (codes "false")
+        → o.trace ≡ false)) }
     ensures least { IfOk result (λ r. IfSome r (λ o. 1 ≤ o.budget)) }
     ensures most { IfOk result (λ r. IfSome r (λ o. o.budget ≤ 2147483647)) }
     ensures complete { IfOk result (λ r. is_some r
@@ -96,5 +110,6 @@ pub fn chosen(alloc: Global, matches: &ArgMatches<'_>) -> Result<Option<RunOptio
         profile: String::from_str(alloc, profile)?,
         session: String::from_str(alloc, session)?,
         budget,
+        trace: matches.get_flag("trace"),
     }))
 }

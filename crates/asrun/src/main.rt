@@ -2,6 +2,8 @@
 //! (docs/HOST.md, "The program").
 #![tactic(auto)]
 
+ghost use Rattle.std.specs.Prelude.{◌<◌, ◌^◌, length};
+
 mod command;
 mod options;
 
@@ -11,7 +13,7 @@ use ang_host::Driver;
 pub use asrun_session::{IoFault, SessionEnd, Status, session};
 use asrun_session::{
     Kept, ProgramExit, exit_status, print_no_memory, print_outcome, print_profile_line,
-    print_session_line,
+    print_session_line, traced_session,
 };
 use std::alloc::AllocError;
 use std::fs::File;
@@ -32,6 +34,24 @@ fn open_or_say(rt: &HostRuntime, path: &str) -> Option<File> {
     }
 }
 
+/// Runs the session with these drivers, on standard output.
+fn run_boxes(
+    rt: &HostRuntime,
+    options: &RunOptions,
+    profile: &mut Kept<File>,
+    session: &mut Kept<File>,
+    boxes: Vec<Box<dyn Driver>>,
+) -> SessionEnd
+    requires few { length boxes.items < 2 ^ 60 }
+{
+    let alloc = rt.alloc();
+    let mut out = io::writer(rt);
+    if options.trace {
+        return traced_session(alloc, profile, session, &mut out, boxes, options.budget);
+    }
+    crate::session(alloc, profile, session, &mut out, boxes, options.budget)
+}
+
 /// Opens the files and runs the session.
 ///
 /// # Errors
@@ -50,15 +70,7 @@ fn run_files(rt: &HostRuntime, options: &RunOptions) -> Result<ProgramExit, Allo
     boxes.push(Box::new(alloc, Console::new(alloc)?)?)?;
     boxes.push(Box::new(alloc, Counter::new(alloc)?)?)?;
     boxes.push(Box::new(alloc, Cell::new(alloc)?)?)?;
-    let mut out = io::writer(rt);
-    let SessionEnd { outcome, drivers } = crate::session(
-        alloc,
-        &mut profile,
-        &mut session,
-        &mut out,
-        boxes,
-        options.budget,
-    );
+    let SessionEnd { outcome, drivers } = run_boxes(rt, options, &mut profile, &mut session, boxes);
     drop(drivers);
     print_outcome(rt, NAME, outcome);
     if let Ok(Status::BadInput) = outcome {

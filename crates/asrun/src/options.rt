@@ -1,9 +1,9 @@
 //! Reading the command line.
-ghost use Rattle.std.specs.Prelude.{◌≡◌, ◌≤◌, true, Some, IfOk, IfErr, IsErrAnd, codes, map, string_bytes};
+ghost use Rattle.std.specs.Prelude.{◌≡◌, ◌≤◌, true, false, Some, IfOk, IfErr, IsErrAnd, codes, map, string_bytes};
 ghost use Rattle.clap.specs.Words.{kind_of};
 ghost use Rattle.clap.specs.declared.error.kind.ErrorKind.TheVariants.{OutOfMemory};
 ghost use Rattle.asrun_lines.specs.Budget.{budget_given};
-ghost use Rattle.asrun.specs.Options.{given, is_right, AsksVersion, IsVersion};
+ghost use Rattle.asrun.specs.Options.{given, flag, is_right, AsksVersion, IsVersion};
 
 use crate::command;
 use crate::command::{chosen, command_line};
@@ -23,6 +23,10 @@ pub fn options<'a>(alloc: Global, words: &'a [&'a str]) -> Result<command::RunOp
         ≡ Some (string_bytes o.session)) }
     ensures budget { IfOk result (λ o. budget_given
         (given (codes "budget") (map (λ w. w.now) words.now)) ≡ Some o.budget) }
+    ensures trace { IfOk result (λ o. flag (codes "trace") (map (λ w. w.now) words.now)
+        ≡ Some (codes "true") → o.trace ≡ true) }
+    ensures no_trace { IfOk result (λ o. flag (codes "trace") (map (λ w. w.now) words.now)
+        ≡ Some (codes "false") → o.trace ≡ false) }
     ensures most { IfOk result (λ o. o.budget ≤ 2147483647) }
     ensures least { IfOk result (λ o. 1 ≤ o.budget) }
     ensures refused { IfErr result (λ e. is_right (map (λ w. w.now) words.now) ≡ true →

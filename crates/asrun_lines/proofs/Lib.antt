@@ -1,4 +1,4 @@
-pub mod Arguments
+pub mod ValueLists
 pub mod Cuts
 pub mod FirstLines
 pub mod Headers

@@ -12,10 +12,10 @@ mod texts;
 mod values;
 
 pub use budget::budget_of;
-pub use fields::{decimal, field, number};
+pub use fields::{decimal, field, last_field, number, rest};
 pub use limits::{LimitKind, LimitLine, limit};
 pub use lines::{first_line, first_lines, is_skipped, shown};
 pub use profile_lines::{ProfileLine, profile_line};
 pub use session_lines::{LineError, SessionLine, is_header, session_line};
 pub use texts::{push_key, push_number, push_object, push_signed, push_spaced_number, push_text};
-pub use values::value;
+pub use values::{arguments, value};

@@ -1,3 +1,4 @@
+pub mod Added
 pub mod Appending
 pub mod Doing
 pub mod Held

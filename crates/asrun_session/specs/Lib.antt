@@ -11,3 +11,4 @@ pub mod Reading
 pub mod Session
 pub mod Whole
 pub mod Writing
+pub mod Inquiries

@@ -1,8 +1,6 @@
--- The limits that a profile sets, and what is told of what is held (docs/FORMATS.md, "Profile" and
--- "The conversation of asremote").
-use Rattle.std.specs.Prelude.{ℕ, List, [], ◌∷◌, ◌++◌, Option, Some, None, codes, decimal, if◌then◌else◌}
+-- The limits that a profile sets (docs/FORMATS.md, "Profile").
+use Rattle.std.specs.Prelude.{ℕ, List, [], ◌∷◌, Option, Some, None, if◌then◌else◌}
 use Rattle.ang_heap.specs.declared.limits.Limits.{Limits}
-use Rattle.ang_heap.specs.declared.limits.Held.{Held}
 use Rattle.asrun_lines.specs.Lines.{shown_of, is_skipped}
 use Rattle.asrun_lines.specs.ProfileLines.{Entry, DefaultMask, Limit, HostType, Factory, Method, Property, Function, Posted, Global, Enumeration, EnumValue, Blank, entry_of}
 use Rattle.asrun_lines.specs.declared.limits.LimitKind.{LimitKind}
@@ -41,8 +39,3 @@ line_limits l line = if is_skipped line then l else entry_limits l (entry_of lin
 unfoldable pub limits_of : Limits → List (List ℕ) → Limits
 limits_of l [] = l
 limits_of l (line ∷ lines) = limits_of (line_limits l (shown_of line)) lines
-
--- `slots N` and `objects N`, and then `ok`
-unfoldable pub held_text : Held → List ℕ
-held_text h =
-    codes "slots " ++ decimal h.slots ++ codes "\nobjects " ++ decimal h.objects ++ codes "\nok\n"

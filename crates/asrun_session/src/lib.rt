@@ -11,6 +11,7 @@ mod ending;
 mod exit;
 mod explaining;
 mod forms;
+mod inquiries;
 mod kept;
 mod limits;
 mod printing;
@@ -18,6 +19,7 @@ mod profile;
 mod reading;
 mod run;
 mod text;
+mod tracing;
 mod whole;
 mod writing;
 
@@ -25,12 +27,14 @@ pub use action::{Act, Action, read_act};
 pub use ending::{IoFault, SessionError, Status};
 pub use exit::{ProgramExit, exit_status, print_no_memory, print_outcome};
 pub use explaining::{print_profile_line, print_session_line};
+pub use inquiries::{print_declarations, print_prepared, print_refusal, print_trace, print_used};
 pub use kept::Kept;
 pub use limits::{limited_engine, with_limit};
-pub use printing::{ReplyBuffer, print_bad_line, print_held};
+pub use printing::{ReplyBuffer, print_bad_line, print_reply};
 pub use profile::LoadedProfile;
 pub use reading::{BoundedText, MOST_PROFILE, read_text};
-pub use run::perform;
+pub use run::{is_done, perform};
+pub use tracing::traced_session;
 pub use whole::{
     SessionEnd, load_profile, outcome_of, print_drivers_error, print_long_profile, print_no_driver,
     session,

@@ -2,7 +2,6 @@
 ghost use Rattle.std.specs.Prelude.{◌≡◌, ◌≢◌, ◌++◌, ℕ, List, Some, OnOk, OnErr, IfErr, flat_map};
 ghost use Rattle.std.specs.Io.KnownBytes.{Appends};
 ghost use Rattle.asrun_session.specs.Deeds.{bad_line_text};
-ghost use Rattle.asrun_session.specs.Limits.{held_text};
 ghost use Rattle.asrun_session.specs.Pieces.{Holds};
 ghost use Rattle.asrun_session.specs.Reading.{unread};
 ghost use Rattle.asrun_session.specs.Whole.{profile_fault_text};
@@ -11,9 +10,9 @@ ghost use Rattle.asrun_text.specs.Text.{event_text, error_text, denial_text, out
 
 use crate::ending::SessionError;
 use crate::profile::ProfileFault;
-use crate::text::{push_bad_line, push_held, push_profile_fault};
+use crate::text::{push_bad_line, push_profile_fault};
 use crate::writing::write_text;
-use ang_engine::{Held, Outcome, Reply};
+use ang_engine::{Outcome, Reply};
 use ang_host::{EventLog, EventRef};
 use ang_kinds::{Denial, Error};
 use asrun_text::{push_denial, push_error, push_event, push_outcome};
@@ -30,7 +29,7 @@ const PIECE: usize = 32_768;
 /// KiB stand in it; so printing asks for memory only where a single line has more than 32 KiB.
 #[derive(Drop)]
 pub struct ReplyBuffer {
-    text: Vec<u8>,
+    pub(crate) text: Vec<u8>,
 }
 
 impl ReplyBuffer {
@@ -80,7 +79,7 @@ impl Line for Denial {
 }
 
 /// Writes what is kept back, if that is enough for a piece.
-fn settle<W: Write>(writer: &mut W, text: &mut Vec<u8>) -> Result<(), SessionError>
+pub(crate) fn settle<W: Write>(writer: &mut W, text: &mut Vec<u8>) -> Result<(), SessionError>
     ensures whole { OnOk result (Holds (W.contents writer.old) (W.contents writer.new)
         text.new.items text.old.items) }
     ensures front { OnErr result
@@ -232,25 +231,6 @@ pub fn print_profile_fault<W: Write>(
     let text = &mut buffer.text;
     text.clear();
     push_profile_fault(text, fault)?;
-    write_text(writer, text.as_slice())?;
-    Ok(())
-}
-
-/// Prints `slots N`, `objects N` and `ok`, each on a line.
-pub fn print_held<W: Write>(
-    writer: &mut W,
-    buffer: &mut ReplyBuffer,
-    held: Held,
-) -> Result<(), SessionError>
-    ensures whole { OnOk result
-        (Appends (W.contents writer.old) (W.contents writer.new) (held_text held)) }
-    ensures front { OnErr result
-        (HasFront (W.contents writer.old) (W.contents writer.new) (held_text held)) }
-    ensures fault { IfErr result (λ e. e ≢ unread) }
-{
-    let text = &mut buffer.text;
-    text.clear();
-    push_held(text, held)?;
     write_text(writer, text.as_slice())?;
     Ok(())
 }

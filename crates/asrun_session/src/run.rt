@@ -20,7 +20,8 @@ use asrun_lines::{LineError, first_line, is_skipped, shown};
 use std::alloc::Global;
 use std::io::Write;
 
-fn is_done(outcome: Outcome) -> bool
+/// Whether the command was done.
+pub fn is_done(outcome: Outcome) -> bool
     ensures exact { result ≡ is_done outcome }
 {
     match outcome {

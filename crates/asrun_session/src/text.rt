@@ -1,7 +1,7 @@
-//! The texts of lines that end the run, and of what is held.
+//! The texts of lines that end the run, and of what is told between commands.
 ghost use Rattle.std.specs.Prelude.{◌≡◌, ◌++◌, OnOk, Some};
 ghost use Rattle.asrun_session.specs.Deeds.{bad_line_text};
-ghost use Rattle.asrun_session.specs.Limits.{held_text};
+ghost use Rattle.asrun_session.specs.Inquiries.{used_text, prepared_text};
 ghost use Rattle.asrun_session.specs.Whole.{why_text, profile_fault_text};
 
 use crate::profile::ProfileFault;
@@ -59,14 +59,26 @@ pub fn push_profile_fault(out: &mut Vec<u8>, fault: ProfileFault) -> Result<(), 
     }
 }
 
-/// `slots N`, `objects N` and `ok`, put after what stands in `out`.
-#[tactic(auto, using(crate::proofs::Texts::texts), unfolding(crate::specs::Limits::held_text))]
-pub fn push_held(out: &mut Vec<u8>, held: Held) -> Result<(), AllocError>
-    ensures added { OnOk result (out.new.items ≡ out.old.items ++ held_text held) }
+/// `ticks N`, `slots N`, `objects N` and `ok`, put after what stands in `out`.
+#[tactic(auto, using(crate::proofs::Texts::texts), unfolding(crate::specs::Inquiries::used_text))]
+pub fn push_used(out: &mut Vec<u8>, ticks: u64, held: Held) -> Result<(), AllocError>
+    ensures added { OnOk result (out.new.items ≡ out.old.items ++ used_text ticks held) }
 {
-    push_text(out, "slots ")?;
+    push_text(out, "ticks ")?;
+    push_number(out, ticks)?;
+    push_text(out, "\nslots ")?;
     push_number(out, held.slots as u64)?;
     push_text(out, "\nobjects ")?;
     push_number(out, held.objects as u64)?;
+    push_text(out, "\nok\n")
+}
+
+/// `prepared N` and `ok`, put after what stands in `out`.
+#[tactic(auto, using(crate::proofs::Texts::texts), unfolding(crate::specs::Inquiries::prepared_text))]
+pub fn push_prepared(out: &mut Vec<u8>, number: u64) -> Result<(), AllocError>
+    ensures added { OnOk result (out.new.items ≡ out.old.items ++ prepared_text number) }
+{
+    push_text(out, "prepared ")?;
+    push_number(out, number)?;
     push_text(out, "\nok\n")
 }

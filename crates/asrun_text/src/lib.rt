@@ -1,7 +1,9 @@
-//! The text of replies: each event, error, denial and outcome on a line of its own
+//! The text of replies: each event, error, denial and outcome on a line of its own; and of traces
 //! (docs/HOST.md, "The program").
 #![tactic(auto)]
 
 mod reply;
+mod trace;
 
 pub use reply::{push_denial, push_error, push_event, push_outcome, push_reply};
+pub use trace::push_trace_frame;

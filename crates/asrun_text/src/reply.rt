@@ -48,7 +48,7 @@ fn push_fault(out: &mut Vec<u8>, fault: Fault) -> Result<(), AllocError>
 }
 
 #[tactic(auto, using(crate::proofs::Texts::texts))]
-fn push_place(out: &mut Vec<u8>, place: Place) -> Result<(), AllocError>
+pub fn push_place(out: &mut Vec<u8>, place: Place) -> Result<(), AllocError>
     ensures added { OnOk result (out.new.items ≡ out.old.items ++ place_text place) }
 {
     push_number(out, u64::from(place.sect))?;
@@ -95,7 +95,7 @@ fn kind_name(kind: ErrorKind) -> &'static str
     }
 }
 
-fn push_bytes(out: &mut Vec<u8>, bytes: &[u8]) -> Result<(), AllocError>
+pub fn push_bytes(out: &mut Vec<u8>, bytes: &[u8]) -> Result<(), AllocError>
     ensures added { OnOk result (out.new.items ≡ out.old.items ++ bytes.now) }
 {
     out.extend_from_slice(bytes)

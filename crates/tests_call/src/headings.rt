@@ -23,7 +23,7 @@ fn register(registry: &mut Registry) -> Result<(), RegError> {
 }
 
 /// What a module sees of these.
-fn view(alloc: Global) -> Option<View> {
+pub(crate) fn view(alloc: Global) -> Option<View> {
     let mut registry = Registry::new(alloc);
     if register(&mut registry).is_err() {
         return None;
@@ -37,7 +37,7 @@ fn script_in(alloc: Global, text: &[u8]) -> Option<Script> {
 }
 
 /// The names of one section, or nothing where it has an error.
-fn names_in(alloc: Global, view: &View, text: &[u8]) -> Option<Names> {
+pub(crate) fn names_in(alloc: Global, view: &View, text: &[u8]) -> Option<Names> {
     let scripts = [script_in(alloc, text)?];
     declare(alloc, view, &scripts).ok()
 }
@@ -137,7 +137,13 @@ fn spaced(alloc: Global, length: usize) -> Result<Vec<u8>, AllocError> {
     Ok(text)
 }
 
-fn is_found(alloc: Global, view: &View, names: &Names, decl: &[u8], wanted: Option<usize>) -> bool {
+pub(crate) fn is_found(
+    alloc: Global,
+    view: &View,
+    names: &Names,
+    decl: &[u8],
+    wanted: Option<usize>,
+) -> bool {
     if names.families().len() > 256 {
         return false;
     }

@@ -1,8 +1,10 @@
 //! Tests of calls from outside, by public calls: which function a text names, whether it can be
-//! called, and in which slots its arguments are passed.
+//! called, in which slots its arguments are passed, and how declarations are written.
 #![tactic(auto)]
 
 #[cfg(test)]
 mod arguments;
 #[cfg(test)]
 mod headings;
+#[cfg(test)]
+mod texts;

@@ -1,6 +1,6 @@
 //! Tests of `session` by its public call: texts at their limits, a reader that never ends, how many drivers there may be,
 //! and what a driver was asked that no text tells. Sessions with their texts stand in crates/examples, which also cuts
-//! them and runs them over streams that fail.
+//! them and runs them over streams that fail. And of drivers whose host is a text (`remote`).
 #![tactic(auto)]
 
 #[cfg(test)]
@@ -11,5 +11,7 @@ mod drivers;
 mod harness;
 #[cfg(test)]
 mod limits;
+#[cfg(test)]
+mod remote;
 #[cfg(test)]
 mod streams;

@@ -22,6 +22,8 @@ mod handles;
 #[cfg(test)]
 mod known;
 #[cfg(test)]
+mod last;
+#[cfg(test)]
 mod listed;
 #[cfg(test)]
 mod machine;

@@ -16,7 +16,7 @@ use ang_heap::{Globals, Heap, Limits, Store};
 use ang_host::{Driver, Drivers, EventBuffer};
 use ang_kinds::{Fault, Value};
 use ang_meaning::{HostUse, Routine, Slot};
-use ang_vm::{Machine, run, run_initializer};
+use ang_vm::{LastRun, Machine, run, run_initializer};
 use ang_vm_stack::table::{ModuleCode, Table};
 use std::alloc::{AllocError, Global};
 
@@ -100,6 +100,7 @@ fn machine_of(alloc: Global, drivers: Drivers, modules: Vec<Box<Vec<Slot>>>) -> 
             made: 0,
             made_at: 0,
         },
+        last: LastRun::none(alloc),
     }
 }
 
@@ -123,7 +124,7 @@ pub fn with_drivers(alloc: Global) -> Result<Option<Machine>, AllocError>
 
 /// Takes a machine apart, which can't be dropped.
 pub fn end(machine: Machine) {
-    let Machine { store } = machine;
+    let Machine { store, last: _ } = machine;
     let Store {
         heap: _,
         globals: _,

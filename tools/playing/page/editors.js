@@ -5,6 +5,7 @@ import { moduleOf, state, textsOf } from "./state.js";
 
 const LINES_LEAST = 6;
 const LINES_MOST = 26;
+const MOST_SOURCE = 200; // characters of a line that a trace tells
 let shown = []; // the editors, in the order of their sections
 
 /** Draws the editors of the chosen module. `edited` is called when a text changes, `remove` with the number of a section. */
@@ -22,7 +23,8 @@ function editorOf(name, text, number, canGo, edited, remove) {
   const id = `section-${number}`;
   const area = element("textarea", { id, spellcheck: "false", wrap: "off", autocapitalize: "off", autocomplete: "off" });
   area.value = text;
-  const it = { numbers, marks, area, number };
+  const lit = element("div", { class: "lit", "aria-hidden": "true", hidden: true });
+  const it = { numbers, marks, area, number, lit, line: 0 };
   area.addEventListener("input", () => {
     textsOf(name)[number] = area.value;
     fit(it);
@@ -33,7 +35,7 @@ function editorOf(name, text, number, canGo, edited, remove) {
   if (canGo) {
     title.push(element("button", { type: "button", class: "small", click: () => remove(number) }, `Remove section ${number}`));
   }
-  const body = element("div", { class: "text" }, marks, area);
+  const body = element("div", { class: "text" }, lit, marks, area);
   it.whole = element("div", { class: "section" }, element("div", { class: "line" }, ...title), element("div", { class: "editor" }, numbers, body));
   fit(it);
   return it;
@@ -51,6 +53,12 @@ function fit(it) {
 function follow(it) {
   it.marks.scrollTop = it.numbers.scrollTop = it.area.scrollTop;
   it.marks.scrollLeft = it.area.scrollLeft;
+  it.lit.hidden = it.line === 0;
+  if (it.line > 0) {
+    const style = getComputedStyle(it.area);
+    const top = parseFloat(style.paddingTop) + (it.line - 1) * parseFloat(style.lineHeight) - it.area.scrollTop;
+    it.lit.style.transform = `translateY(${top}px)`;
+  }
 }
 
 /** Marks the places of the chosen module's errors, where the texts are those that were judged. */
@@ -59,6 +67,8 @@ export function showMarks() {
   for (const it of shown) {
     const own = problems.filter((problem) => problem.section === it.number && problem.end <= it.area.value.length);
     fill(it.marks, ...markedParts(it.area.value, own));
+    const isLit = state.lit?.module === state.chosen && state.lit.section === it.number;
+    it.line = isLit ? lineOf(it.area.value, state.lit) : 0;
     follow(it);
   }
 }
@@ -76,6 +86,41 @@ function markedParts(text, problems) {
     }
   }
   return [...parts, text.slice(from)];
+}
+
+/** The line of a level in a text, from 1; 0 where it is not there any more. */
+function lineOf(text, level) {
+  const lines = text.split("\n");
+  const isIt = (line) => (level.source.length < MOST_SOURCE ? lines[line - 1] === level.source : lines[line - 1].startsWith(level.source));
+  const found = lines.map((_, place) => place + 1).filter(isIt);
+  const far = (line) => Math.abs(line - level.line);
+  return found.reduce((best, line) => (best === 0 || far(line) < far(best) ? line : best), 0);
+}
+
+/** Lights the line of a level in the chosen module, and puts the cursor there. Gives whether it is there. */
+export function showLine(level) {
+  showMarks();
+  const it = shown[level.section];
+  if (!it || it.line === 0) {
+    return false;
+  }
+  const lines = it.area.value.split("\n");
+  const start = lines.slice(0, it.line - 1).join("\n").length + (it.line > 1 ? 1 : 0) + level.before;
+  it.area.focus({ preventScroll: true });
+  it.area.setSelectionRange(start, start + level.size);
+  showInside(it);
+  it.lit.scrollIntoView({ block: "center" });
+  return true;
+}
+
+/** Scrolls an editor so that its lit line is in it. */
+function showInside(it) {
+  const tall = parseFloat(getComputedStyle(it.area).lineHeight);
+  const top = (it.line - 1) * tall;
+  if (top < it.area.scrollTop || top + 2 * tall > it.area.scrollTop + it.area.clientHeight) {
+    it.area.scrollTop = top - it.area.clientHeight / 2;
+  }
+  follow(it);
 }
 
 /** Puts the cursor to a place, with the word there selected. */

@@ -1,11 +1,11 @@
 // The page of tools/play.py --web: what its controls do, and what is drawn again after that.
 
 import { at, counted, element, fill } from "./dom.js";
-import { drawEditors, showMarks } from "./editors.js";
+import { drawEditors, showLine, showMarks } from "./editors.js";
 import { drawImports } from "./imports.js";
 import { drawBits, drawTabs, showMask } from "./masks.js";
 import { drawProblems } from "./problems.js";
-import { addRuns, calledFunction, drawCall, drawObjects, drawValues, forgetRuns, givenValues, showOutcome, showTicks } from "./runs.js";
+import { addRuns, calledFunction, drawCall, drawObjects, drawValues, forgetRuns, givenValues, showProblem, whenFollowed } from "./runs.js";
 import { ask, askInOrder, leave, whenGone } from "./server.js";
 import { linkOf, save, sessionAnew, textsIn, writeTexts } from "./share.js";
 import { ended, hex, isEdited, moduleOf, state, textsOf } from "./state.js";
@@ -96,6 +96,7 @@ async function open(texts, send = askInOrder) {
     return false;
   }
   state.steps = [];
+  state.lit = null;
   for (const name of ["page", "profile", "answers", "entries", "limits"]) {
     state[name] = answer[name];
   }
@@ -104,8 +105,8 @@ async function open(texts, send = askInOrder) {
   takeSections(answer);
   state.chosen = (moduleOf() ?? firstRefused() ?? state.modules[0])?.name ?? "";
   forgetRuns();
-  addRuns([...state.steps]);
   draw();
+  ran(state.steps);
   say(answer.note);
   ask("close", { page: before });
   await write();
@@ -142,9 +143,31 @@ async function command(operation, fields) {
   say(answer.problem);
   if (answer.modules) {
     take(answer);
-    addRuns(answer.steps);
+    ran(answer.steps);
   }
   return answer;
+}
+
+/** Shows what commands did, and lights the line where the last of them had a fault. */
+function ran(steps) {
+  const run = addRuns(steps);
+  if (run) {
+    state.lit = run.trace[0] ?? null;
+    showMarks();
+  }
+}
+
+/** Goes to a line of a trace, in the module that has it. */
+function follow(level) {
+  if (!moduleOf(level.module)) {
+    say(`There is no module ${level.module} any more.`);
+    return;
+  }
+  if (state.chosen !== level.module) {
+    choose(level.module);
+  }
+  state.lit = level;
+  say(showLine(level) ? "" : `Section ${level.section} of ${level.module} has been edited: the line is not there any more.`);
 }
 
 // ---- modules and masks
@@ -247,19 +270,19 @@ function removeSection(number) {
   edited();
 }
 
-/** Has the sections checked as they stand, while the built program runs on. */
+/** Has the engine check the sections as they stand. The built program runs on. */
 async function check() {
   const module = moduleOf();
   if (!module) {
     return;
   }
   const number = ++checking;
-  const answer = await ask("check", { name: module.name, mask: module.mask, sections: textsOf(module.name) });
+  const answer = await askInOrder("check", { name: module.name, sections: textsOf(module.name) });
   if (number !== checking || module.name !== state.chosen) {
     return;
   }
   state.problems.set(module.name, answer.problems ?? []);
-  const fine = answer.outcome === "ok" ? `None: it would be built under ${hex(module.mask)}.` : `${answer.outcome}: ${answer.means}.`;
+  const fine = answer.outcome === "ok" ? `None: it can be built under ${hex(module.mask)}.` : `${answer.outcome}: ${answer.means}.`;
   drawProblems(setBit, answer.problem ?? fine);
   showMarks();
 }
@@ -278,9 +301,15 @@ async function build() {
   drawProgram();
   if (name === state.chosen) {
     hintAtBits();
-    drawProblems(setBit, answer.means ? `${answer.steps.at(-1).lines.at(-1)}: ${answer.means}.` : "None: it is built.");
+    drawProblems(setBit, builtNote(answer));
     showMarks();
   }
+}
+
+function builtNote(answer) {
+  const step = answer.steps.at(-1);
+  const where = step.trace.length > 0 ? " Its stack stands below, at Runs." : "";
+  return step.means ? `${step.lines.at(-1)}: ${step.means}.${where}` : "None: it is built.";
 }
 
 async function bind(number, exporter, declaration) {
@@ -306,15 +335,10 @@ async function call(event) {
   const called = calledFunction();
   const answer = await command("call", { declaration: called.declaration, values: givenValues(), parameters: called.parameters });
   if (answer.problem) {
-    fill(at("result"), element("p", { class: "outcome fault" }, answer.problem));
+    showProblem(answer.problem);
     return;
   }
-  showOutcome(answer.steps.at(-1), answer.means);
   drawObjects();
-  const found = answer.steps.at(-1).lines.at(-1).startsWith("refused") ? null : await ask("ticks");
-  if (found && !found.problem) {
-    showTicks(found);
-  }
 }
 
 async function setBudget(event) {
@@ -411,6 +435,7 @@ function listen() {
   window.addEventListener("pagehide", leave);
   window.addEventListener("pageshow", (event) => event.persisted && location.reload());
   whenGone(openAgain);
+  whenFollowed(follow);
   setInterval(() => ask("alive"), ALIVE);
 }
 

@@ -7,20 +7,41 @@ const MOST_RUNS = 30;
 const MOST_ROWS = 200;
 const HOST = /^host (\S+) (\d+) (\d+) (\S+) (\(\S*\)) (.+)$/;
 const END = /^end (\d+) (#\d+)$/;
-let runs = []; // commands with events, and calls: the last one first
+const MOST_LEVELS = 20;
+let runs = []; // commands with events, calls, and builds with a fault: the last one first
+let last = null; // the call or build with a fault that is shown below the form
+let follow = () => {}; // goes to a line of a trace
+let count = 0; // of commands that ran
+
+export function whenFollowed(handler) {
+  follow = handler;
+}
 
 /** Draws the form of a call: the chosen module's functions. */
 export function drawCall() {
   const module = moduleOf();
   const functions = module ? module.functions : [];
   const before = at("function").value;
-  const none = element("option", { value: "" }, module ? "none: build it first" : "none");
-  const options = functions.map((it, number) => element("option", { value: String(number) }, it.declaration));
-  fill(at("function"), ...(options.length ? options : [none]));
-  at("function").value = functions[before] ? before : options.length ? "0" : "";
+  const none = element("option", { value: "" }, noneOf(module));
+  const options = functions.map(optionOf);
+  const callable = functions.map((it, number) => (it.isCallable ? String(number) : "")).filter(Boolean);
+  fill(at("function"), ...(callable.length ? options : [none, ...options]));
+  at("function").value = callable.includes(before) ? before : callable[0] ?? "";
   at("call-of").textContent = state.chosen;
-  at("do-call").disabled = functions.length === 0;
+  at("do-call").disabled = callable.length === 0;
   drawValues();
+}
+
+function noneOf(module) {
+  if (!module) {
+    return "none";
+  }
+  return module.builtMask === null ? "none: build it first" : "none that can be called from outside";
+}
+
+function optionOf(it, number) {
+  const note = it.isCallable ? "" : " (for scripts alone)";
+  return element("option", { value: String(number), disabled: !it.isCallable }, `${it.declaration}${note}`);
 }
 
 /** Draws a field for each parameter of the function. */
@@ -42,40 +63,86 @@ export function givenValues() {
   return [...at("values").querySelectorAll("input")].map((it) => it.value);
 }
 
-/** Shows how a command ended. `stack` is a place for the lines where a fault stood: no engine tells them so far. */
-export function showOutcome(step, means, stack = []) {
+/** Shows how the last run ended: where a fault stood, and the ticks. */
+function showOutcome(step) {
+  const [outcome, word] = outcomeOf(step);
+  const told = element("p", { class: `outcome ${word}` }, element("code", {}, outcome), step.means ? ` ${step.means}.` : "");
+  const parts = [element("p", { class: "quiet" }, step.text.split("\n")[0]), told, ...stackOf(step, "")];
+  if (!outcome.startsWith("refused") || step.trace.length > 0) {
+    const text = `${counted(step.ticks, "tick")} of ${state.budget.toLocaleString("en")}`;
+    const meter = element("meter", { min: 0, max: state.budget, value: step.ticks, "aria-label": "Ticks of the budget" });
+    parts.push(element("p", { class: "ticks", id: "ticks" }, text, " ", meter));
+  }
+  fill(at("result"), ...parts);
+}
+
+/** Shows why a call could not be made. */
+export function showProblem(problem) {
+  fill(at("result"), element("p", { class: "outcome fault" }, problem));
+}
+
+function outcomeOf(step) {
   const outcome = step.lines[step.lines.length - 1];
-  const [word] = outcome.split(" ");
-  const parts = [element("p", { class: `outcome ${word}` }, element("code", {}, outcome), means ? ` ${means}.` : "")];
-  if (stack.length > 0) {
-    const places = stack.map((it) => element("li", {}, `${it.module} ${it.section}:${it.line}:${it.column}`));
-    parts.push(element("ol", { class: "stack" }, ...places));
-  }
-  parts.push(element("p", { class: "ticks", id: "ticks" }));
-  fill(at("result"), element("p", { class: "quiet" }, step.text.split("\n")[0]), ...parts);
+  return [outcome, outcome.split(" ")[0]];
 }
 
-/** Shows the ticks that a call took, as far as they are known. */
-export function showTicks(found) {
-  const known = found.exact ? `${counted(found.ticks, "tick")}` : `more than ${counted(found.ticks, "tick")}`;
-  const text = `${known} of ${state.budget.toLocaleString("en")}`;
-  const meter = element("meter", { min: 0, max: state.budget, value: found.ticks, "aria-label": "Ticks of the budget" });
-  if (at("ticks")) {
-    fill(at("ticks"), text, " ", meter);
+/** What was running when a fault came, innermost first. Each line leads to its place in an editor. */
+function stackOf(step, run, most = MOST_LEVELS) {
+  if (step.trace.length === 0) {
+    return [];
   }
+  const levels = step.trace.slice(0, most).map((it, number) => levelOf(it, number, run));
+  const title = element("p", { class: "quiet" }, "It was running, the innermost function first:");
+  const list = element("ol", { class: "stack", "aria-label": `Stack of the fault${run}` }, ...levels);
+  if (step.trace.length <= most) {
+    return [title, list];
+  }
+  const rest = step.trace.length - most;
+  const more = element("button", { type: "button", class: "small" }, `Show ${counted(rest, "more line")} of the stack${run}`);
+  more.addEventListener("click", () => {
+    list.replaceChildren(...step.trace.map((it, number) => levelOf(it, number, run)));
+    more.remove();
+  });
+  return [title, list, more];
 }
 
-/** Adds commands to the timeline. */
+function levelOf(level, number, run) {
+  const place = `${level.section}:${level.line}:${level.column}`;
+  const label = `Go to ${level.module}, section ${level.section}, line ${level.line}, column ${level.column}: level ${number} of the stack${run}`;
+  const go = element("button", { type: "button", class: "place", "aria-label": label, click: () => follow(level) }, place);
+  const times = level.times > 1 ? ` ${level.times} times` : "";
+  const where = level.known ? "" : ", declared there";
+  const note = element("span", { class: "quiet" }, `${times}${where}`);
+  const name = element("span", { class: "name" }, element("b", {}, level.module), " ", element("code", {}, level.name), note);
+  return element("li", {}, go, " ", name, element("code", { class: "source" }, level.source.trim()));
+}
+
+/** Adds commands to the timeline, and shows how the last run ended, which it gives. */
 export function addRuns(steps) {
-  const telling = steps.filter((it) => it.text.startsWith("call ") || it.lines.some((line) => /^(host|end) /.test(line)));
-  if (telling.length > 0) {
-    runs = [...telling.reverse(), ...runs].slice(0, MOST_RUNS);
-    drawTimeline();
+  const telling = steps.filter((it) => isRun(it) || it.lines.some((line) => /^(host|end) /.test(line)));
+  if (telling.length === 0) {
+    return null;
   }
+  for (const it of telling) {
+    it.number = ++count;
+  }
+  runs = [...telling.reverse(), ...runs].slice(0, MOST_RUNS);
+  const run = telling.find(isRun) ?? null;
+  if (run) {
+    last = run;
+    showOutcome(run);
+  }
+  drawTimeline();
+  return run;
+}
+
+/** Whether it is a call, or a build with a fault. */
+function isRun(step) {
+  return step.text.startsWith("call ") || step.trace.length > 0;
 }
 
 export function forgetRuns() {
-  runs = [];
+  [runs, last, count] = [[], null, 0];
   fill(at("result"));
   drawTimeline();
 }
@@ -87,17 +154,17 @@ function drawTimeline() {
 
 function runOf(step, isOpen) {
   const events = step.lines.map(eventOf).filter(Boolean);
-  const outcome = step.lines[step.lines.length - 1];
-  const [word] = outcome.split(" ");
+  const [outcome, word] = outcomeOf(step);
   const told = element("code", {}, step.text.split("\n")[0]);
   const ended = element("span", { class: `outcome ${word}` }, outcome);
-  const title = [told, " ", ended, " ", element("span", { class: "quiet" }, counted(events.length, "event"))];
+  const ticks = step.ticks > 0 ? `, ${counted(step.ticks, "tick")}` : "";
+  const title = [told, " ", ended, " ", element("span", { class: "quiet" }, `${counted(events.length, "event")}${ticks}`)];
   const it = element("details", { class: "run", open: isOpen }, element("summary", {}, ...title));
   let isDrawn = false;
   const draw = () => {
     if (it.open && !isDrawn) {
       isDrawn = true;
-      it.append(eventsOf(events, MOST_ROWS));
+      it.append(...(step === last ? [] : stackOf(step, ` of run ${step.number}`)), eventsOf(events, MOST_ROWS));
     }
   };
   it.addEventListener("toggle", draw);

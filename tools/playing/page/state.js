@@ -17,6 +17,7 @@ export const state = {
   texts: new Map(), // of each module: its sections as they stand in the editors
   tried: new Map(), // of each module: its sections as they were last built
   problems: new Map(), // of each module: what is wrong with its sections
+  lit: null, // the level of a trace whose line is lit
 };
 
 /** The module of a name, or the one that is chosen. */

@@ -1,8 +1,9 @@
-use Rattle.std.proofs.Common.{◌∙◌, refl, sym, subst, length, map, [], None}
+use Rattle.std.proofs.Common.{◌∙◌, refl, ap, sym, subst, length, map, [], None}
 use Rattle.std.specs.Prelude.{slice_index_or}
 use Rattle.ang_heap.specs.Globals.{values_in}
 use Rattle.ang_engine_modules.specs.Sound.{HasSameName}
-use Rattle.ang_engine_modules.proofs.PlaceLists.{any_default}
+use Rattle.ang_engine_modules.specs.States.{build_in}
+use Rattle.ang_engine_modules.proofs.PlaceLists.{any_default, set_at}
 use Rattle.ang_engine_modules.proofs.Keeping.{placed_modules}
 use Rattle.ang_engine.specs.Sound.{IsBuiltBy}
 use Rattle.ang_engine.proofs.Starting.{globals_kept, set_again}
@@ -151,3 +152,11 @@ returns-in-Ok-clause-heard g c =
 
 pub returns-in-Err-clause-heard : goal.returns-in-Err-clause-heard
 returns-in-Err-clause-heard g c = (c.end_globals.ensures.moves []).heard
+
+pub returns-in-Ok-clause-build : goal.returns-in-Ok-clause-build
+returns-in-Ok-clause-build g c =
+    ap build_in (set_at c.args.list.now.places.items c.args.home c.compile_place.new.place None c.requires.within) ∙ c.compile_place.ensures.build
+
+pub returns-in-Err-clause-build : goal.returns-in-Err-clause-build
+returns-in-Err-clause-build g c =
+    ap build_in (set_at c.args.list.now.places.items c.args.home c.compile_place.new.place None c.requires.within) ∙ c.compile_place.ensures.build

@@ -10,6 +10,8 @@ use Rattle.ang_vm_steps.proofs.Paths.{reach_same, reach_then}
 use Rattle.ang_vm.proofs.Counting.{call_counted, first_counted}
 use Rattle.ang_vm.proofs.Moving.{moved_by, moved_then, may_go_on}
 use Rattle.ang_vm.proofs.Running.{whole_ends}
+use Rattle.ang_vm.proofs.Ticking.{call_most}
+use Rattle.ang_vm.proofs.Tracing.{halted_kept, unbegun_kept}
 use Rattle.ang_vm.proofs.machines.run_call.Goals as goal
 
 pub refuse-requires : goal.refuse-requires
@@ -59,3 +61,26 @@ returns-clause-ends g c =
 
 pub returns-clause-moves : goal.returns-clause-moves
 returns-clause-moves g c = moved_by (λ v. (g.dyn-1.0.entry v).1) c.args.table.now _ _ c.in-Err.ensures.moves
+
+-- what is kept of it
+pub returns-in_default-clause-stood : goal.returns-in_default-clause-stood
+returns-in_default-clause-stood g c =
+    let z = setting_of c.args.table.now 200 in
+    let code = texts_of c.args.table.now in
+    let w = (world_of (λ v. (g.dyn-1.0.entry v).1) c.args.store.now) in
+    unbegun_kept z code (λ is. call_begins z code c.args.budget c.args.entry (reverse c.args.args.now) (with_inputs is w)) c.args.budget (λ is. call_most z code c.args.budget c.args.entry (reverse c.args.args.now) (with_inputs is w)) c.refuse.result c.args.last.now c.requires.none c.requires.all
+
+pub returns-in-Ok-start_call-clause-stood : goal.returns-in-Ok-start_call-clause-stood
+returns-in-Ok-start_call-clause-stood g c =
+    let z = setting_of c.args.table.now 200 in
+    let code = texts_of c.args.table.now in
+    let w = (world_of (λ v. (g.dyn-1.0.entry v).1) c.args.store.now) in
+    halted_kept z code (λ is. call_begins z code c.args.budget c.args.entry (reverse c.args.args.now) (with_inputs is w)) c.args.budget (λ is. call_most z code c.args.budget c.args.entry (reverse c.args.args.now) (with_inputs is w)) c.run_from.result c.run_from.new.last
+    (reach_then z code (reach_same z code (λ is. ap (λ s. call_begins z code c.args.budget c.args.entry (reverse s) (with_inputs is w)) (sym c.in-Ok.ensures.items))) (c.in-Ok-start_call.ensures.starts 200)) c.run_from.ensures.halted
+
+pub returns-clause-stood : goal.returns-clause-stood
+returns-clause-stood g c =
+    let z = setting_of c.args.table.now 200 in
+    let code = texts_of c.args.table.now in
+    let w = (world_of (λ v. (g.dyn-1.0.entry v).1) c.args.store.now) in
+    unbegun_kept z code (λ is. call_begins z code c.args.budget c.args.entry (reverse c.args.args.now) (with_inputs is w)) c.args.budget (λ is. call_most z code c.args.budget c.args.entry (reverse c.args.args.now) (with_inputs is w)) c.in-Err.ending _ (c.in-Err.ensures.callers c.requires.none) c.requires.all

@@ -25,6 +25,7 @@ returns-in-Ok g c =
           (told_then (c.in-Ok.ensures.told [] w) (told_same (λ is. ap (λ fr. standing c.in-Ok.standing c.begin.new.stack.items fr (with_inputs is w)) (sym none)))));
       fits = record { values = c.in-Ok.ensures.in_room.0; body = c.in-Ok.ensures.in_room.1; callers = subst (AllFit (length c.begin.new.stack.items)) (sym none) tt };
       moves = λ roles. moves_none (λ v. (g.dyn-1.0.entry v).1) roles c.args.store.now;
+      callers = c.clear.ensures.items;
     }
 
 pub give_up-requires : goal.give_up-requires
@@ -48,4 +49,5 @@ returns-in-Err g c =
           (told_then (c.in-Err.ensures.told [] w) (c.give_up.ensures.told [])));
       fits = tt;
       moves = c.give_up.ensures.moves;
+      callers = c.clear.ensures.items;
     }

@@ -33,6 +33,7 @@ returns-then-budget-eq0 g c =
           reach_told z code (told_then (told_same (λ is. call_spent z code c.args.budget c.args.entry s (with_inputs is w) (omega arith) ∙ ap (λ x. fault Budget x (with_inputs is w)) (sym all))) c.fail.ensures.told);
       fits = tt;
       moves = c.fail.ensures.moves;
+      callers = λ none. none;
     }
 
 pub returns : goal.returns
@@ -45,4 +46,5 @@ returns g c =
           reach_then z code (reach_same z code (λ is. call_starts z code c.args.budget c.args.entry s (with_inputs is w) (omega arith))) (c.start.ensures.starts nesting);
       fits = c.start.ensures.fits;
       moves = c.start.ensures.moves;
+      callers = λ none. c.start.ensures.callers;
     }

@@ -21,4 +21,5 @@ returns g c =
           reach_then z code (reach_same z code (λ is. ap (λ s. begins code c.args.entry s [] c.args.ticks (with_inputs is w)) (sym none))) (c.start.ensures.starts nesting);
       fits = c.start.ensures.fits;
       moves = c.start.ensures.moves;
+      callers = c.start.ensures.callers;
     }

@@ -7,7 +7,7 @@ use Rattle.ang_vm_ask.proofs.Performing.{ask_with}
 use Rattle.ang_vm_ask.proofs.operation.call_entry.Goals as goal
 
 pub returns-clause-called : goal.returns-clause-called
-returns-clause-called g c = λ ops object args nesting fit count.
+returns-clause-called g c = λ ops object args nesting.
     let same : c.requires.entry.entity ≡ c.args.entity = cc in
     let z = setting_of c.args.table.now nesting in
     let sees : Sees z c.args.home c.name_at-name.result.now c.args.entity c.args.host.now = record { name = sym c.name_at-name.ensures.exact; host = ap (λ e. entity_of c.args.table.now c.args.home e.0) (sym same) ∙ c.requires.entry.seen } in

@@ -9,14 +9,14 @@ use Rattle.ang_heap.proofs.Storing.{moves_none, bits_hold}
 use Rattle.ang_vm_ask.proofs.Replying.{accepted_told}
 use Rattle.ang_vm_ask.proofs.replies.take_value.Goals as goal
 
-pub returns-then-is_long-clause-told : goal.returns-then-is_long-clause-told
-returns-then-is_long-clause-told g c =
+pub returns-then-is_int64-clause-told : goal.returns-then-is_int64-clause-told
+returns-then-is_int64-clause-told g c =
     let w = world_of (λ v. (g.dyn-1.0.entry v).1) c.args.store.now in
-    let long : c.args.of ≡ Plain I64 = c.if-is_long.ensures.exact.0 refl in
+    let plain : c.args.of ≡ Plain I64 = c.if-is_int64.ensures.exact.0 refl in
     let back : to_z w64 (of_z w64 c.in-Int.number) ≡ c.in-Int.number = search rules in
-    let slot : slot_of c.args.driver c.args.of c.args.value ≡ Some (Bits c.long_bits.result) = (λ j. slot_of c.args.driver (long j) (c.in-Int.is j)) ∙ ap (λ z. slot_of c.args.driver (Plain I64) (Int z)) (sym back)
-    ∙ c.long_bits.ensures.exact c.args.driver in
-    accepted_told (slot_of c.args.driver c.args.of c.args.value) (Bits c.long_bits.result) true w w slot refl (bits_hold c.long_bits.result w)
+    let slot : slot_of c.args.driver c.args.of c.args.value ≡ Some (Bits c.int64_bits.result) = (λ j. slot_of c.args.driver (plain j) (c.in-Int.is j)) ∙ ap (λ z. slot_of c.args.driver (Plain I64) (Int z)) (sym back)
+    ∙ c.int64_bits.ensures.exact c.args.driver in
+    accepted_told (slot_of c.args.driver c.args.of c.args.value) (Bits c.int64_bits.result) true w w slot refl (bits_hold c.int64_bits.result w)
 
-pub returns-then-is_long-clause-moves : goal.returns-then-is_long-clause-moves
-returns-then-is_long-clause-moves g c = λ roles. moves_none (λ v. (g.dyn-1.0.entry v).1) roles c.args.store.now
+pub returns-then-is_int64-clause-moves : goal.returns-then-is_int64-clause-moves
+returns-then-is_int64-clause-moves g c = λ roles. moves_none (λ v. (g.dyn-1.0.entry v).1) roles c.args.store.now

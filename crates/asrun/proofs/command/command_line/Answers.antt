@@ -1,19 +1,31 @@
-use Rattle.std.proofs.Common.{◌≡◌, ◌∙◌, ap, ap₂, rules, codes}
+use Rattle.std.proofs.Common.{◌≡◌, ◌∙◌, ap, ap₂, rules, codes, Some, true, false}
 use Rattle.std.proofs.lemmas.Result.{IfOk-weaker}
-use Rattle.clap.specs.Words.{app_of, rule_of, with_rule, new_app}
+use Rattle.clap.specs.Words.{Rule, app_of, rule_of, with_rule, new_app}
 use Rattle.clap.specs.Simple.{app_of_fields}
-use Rattle.asrun.specs.Options.{with_version, profile_rule, session_rule, budget_rule}
+use Rattle.clap.specs.declared.builder.arg.Arg.{Arg}
+use Rattle.asrun.specs.Options.{with_version, profile_rule, session_rule, budget_rule, trace_rule}
 use Rattle.asrun.proofs.command.command_line.Goals as goal
 
 pub returns : goal.returns
 returns c =
-    let profile_is : rule_of c.help.result ≡ profile_rule = search rules in
-    let session_is : rule_of c.help-2.result ≡ session_rule = search rules in
+    let profile_is : rule_of c.help.result ≡ profile_rule =
+    ap rule_of c.help.ensures ∙ ap rule_of c.required-profile.ensures
+    ∙ ap (λ (a : Arg). rule_of (record a { required = true })) c.long.ensures
+    ∙ ap (λ (r : Rule). record r { long = Some (codes "profile"); required = true }) c.new.ensures.rule in
+    let local : c.help.result.global ≡ false =
+    ap (λ (a : Arg). a.global) c.help.ensures ∙ ap (λ (a : Arg). a.global) c.required-profile.ensures ∙ ap (λ (a : Arg). a.global) c.long.ensures ∙ c.new.ensures.optional.1 in
+    let session_is : rule_of c.help-2.result ≡ session_rule =
+    ap rule_of c.help-2.ensures ∙ ap rule_of c.required-session.ensures
+    ∙ ap (λ (a : Arg). rule_of (record a { required = true })) c.long-2.ensures
+    ∙ ap (λ (r : Rule). record r { long = Some (codes "session"); required = true }) c.new-2.ensures.rule in
     let budget_is : rule_of c.help-3.result ≡ budget_rule = search rules in
+    let trace_is : rule_of c.help-4.result ≡ trace_rule = search rules in
     let told : app_of c.after_help.result ≡ with_version (new_app (codes "asrun")) =
-    ap app_of_fields c.after_help.ensures ∙ ap app_of_fields c.about.ensures ∙ ap app_of_fields c.version.ensures ∙ ap with_version c.new-4.ensures.app in
+    ap app_of_fields c.after_help.ensures ∙ ap app_of_fields c.about.ensures ∙ ap app_of_fields c.version.ensures ∙ ap with_version c.new-5.ensures.app in
     let first : app_of c.in_ok-arg.field-0 ≡ with_rule (with_version (new_app (codes "asrun"))) profile_rule =
-    c.in_ok-arg.ensures.shape (search rules) ∙ ap₂ with_rule told profile_is in
+    c.in_ok-arg.ensures.shape local ∙ ap₂ with_rule told profile_is in
     let second : app_of c.in_ok-arg-2.field-0 ≡ with_rule (with_rule (with_version (new_app (codes "asrun"))) profile_rule) session_rule =
     c.in_ok-arg-2.ensures.shape (search rules) ∙ ap₂ with_rule first session_is in
-    record { exact = IfOk-weaker c.arg-3.result _ _ (λ d added. added.shape (search rules) ∙ ap₂ with_rule second budget_is) c.arg-3.ensures }
+    let third : app_of c.in_ok-arg-3.field-0 ≡ with_rule (with_rule (with_rule (with_version (new_app (codes "asrun"))) profile_rule) session_rule) budget_rule =
+    c.in_ok-arg-3.ensures.shape (search rules) ∙ ap₂ with_rule second budget_is in
+    record { exact = IfOk-weaker c.arg-4.result _ _ (λ d added. added.shape (search rules) ∙ ap₂ with_rule third trace_is) c.arg-4.ensures }

@@ -1,6 +1,6 @@
 use Rattle.std.proofs.Common.{◌∙◌, ap, sym, codes}
 use Rattle.asrun_lines.specs.Budget.{budget_given}
-use Rattle.asrun.proofs.CommandLine.{value_given, refused_right, not_right, no_options, version_shown}
+use Rattle.asrun.proofs.CommandLine.{value_given, flag_given, refused_right, not_right, no_options, version_shown}
 use Rattle.asrun.proofs.options.options.Goals as goal
 
 pub returns-in-Some-clause-profile : goal.returns-in-Some-clause-profile
@@ -17,6 +17,14 @@ pub returns-in-Some-clause-budget : goal.returns-in-Some-clause-budget
 returns-in-Some-clause-budget c =
     ap budget_given (sym (value_given _ _ c.in_ok-matches.matches (codes "budget") c.in_ok-command.ensures.exact c.in_ok-matches.ensures.ok.2))
     ∙ (rw c.in-Some.is at c.in_ok-options.ensures.budget)
+
+pub returns-in-Some-clause-trace : goal.returns-in-Some-clause-trace
+returns-in-Some-clause-trace c =
+    λ is. (rw c.in-Some.is at c.in_ok-options.ensures.trace) (flag_given _ _ c.in_ok-matches.matches (codes "trace") c.in_ok-command.ensures.exact c.in_ok-matches.ensures.ok.2 ∙ is)
+
+pub returns-in-Some-clause-no_trace : goal.returns-in-Some-clause-no_trace
+returns-in-Some-clause-no_trace c =
+    λ is. (rw c.in-Some.is at c.in_ok-options.ensures.no_trace) (flag_given _ _ c.in_ok-matches.matches (codes "trace") c.in_ok-command.ensures.exact c.in_ok-matches.ensures.ok.2 ∙ is)
 
 pub returns-in_err-matches-clause-refused : goal.returns-in_err-matches-clause-refused
 returns-in_err-matches-clause-refused c =

@@ -1,5 +1,5 @@
 use Rattle.std.proofs.Common.{sym}
-use Rattle.asrun_lines.proofs.Arguments.{values_broken, values_more, values_whole}
+use Rattle.asrun_lines.proofs.ValueLists.{values_broken, values_more, values_whole}
 use Rattle.asrun_lines.proofs.values.values.Goals as goal
 
 pub returns-in_default-value : goal.returns-in_default-value

@@ -1,12 +1,12 @@
-use Rattle.std.proofs.Common.{refl, sym, ap, ◌∙◌, arith, ◌-◌, nat_lt}
+use Rattle.std.proofs.Common.{refl, sym, ap, ◌∙◌, arith, ◌-◌, nat_lt, ◌/◌, ℕ, Vec, Global}
 use Rattle.std.proofs.lemmas.Bool.{lt-ltb, le-ltb}
 use Rattle.std.specs.Vec.{with_item}
 use Rattle.ang_host.specs.State.{count_of}
 use Rattle.ang_drivers.specs.declared.pages.Counted.{Counted}
-use Rattle.ang_drivers.specs.Pages.{objects_in}
+use Rattle.ang_drivers.specs.Pages.{objects_in, is_blank}
 use Rattle.ang_drivers.specs.PagesHeld.{entries_of}
 use Rattle.ang_drivers.proofs.Ledgers.{by_key-kept, by_key-less, read_at}
-use Rattle.ang_drivers.proofs.Paging.{IsSpot, spot_found, spot_written, spot_kept}
+use Rattle.ang_drivers.proofs.Paging.{IsSpot, page_from, page_to, spot_found, spot_written, spot_kept, home_recounted}
 use Rattle.ang_drivers.proofs.pages.Pages.count_down.Goals as goal
 
 pub invariant_of-self : goal.invariant_of-self
@@ -17,11 +17,11 @@ invariant_of-self g c =
     let at = c.place-place.result in
     let p = c.index_mut.result.now in
     let x = c.index_mut-2.result.now in
-    let spot : IsSpot objects_in s.next k at.page at.index s.pages.items p x =
-    record { home = record { paged = s.paged; from = t.from; to = t.to; page = t.page; there = t.there; page_is = c.index_mut.ensures.value }; object_is = c.index_mut-2.ensures.value } in
+    let spot : IsSpot objects_in s.next k (k / 64) at.page at.index s.pages.items p x =
+    record { home = record { paged = s.paged; from = page_from k; to = page_to k; page = t.page; there = t.there; page_is = c.index_mut.ensures.value }; object_is = c.index_mut-2.ensures.value } in
     let w : Counted g.row.T.Denot = record { count = x.1.count - 1; value = x.1.value } in
-    let p' = with_item p at.index (x.0, w) in
-    record { paged = spot_kept spot p' w refl; spanned = s.spanned }
+    let p' : ℕ × Vec (ℕ × Counted g.row.T.Denot) Global = (p.0, with_item p.1 at.index (x.0, w)) in
+    record { paged = spot_kept spot p' w refl refl; counted = home_recounted spot.home is_blank p' refl ∙ s.counted; few = s.few }
 
 pub returns-then-object-gt1-clause-exact : goal.returns-then-object-gt1-clause-exact
 returns-then-object-gt1-clause-exact g c =
@@ -31,8 +31,8 @@ returns-then-object-gt1-clause-exact g c =
     let at = c.place-place.result in
     let p = c.index_mut.result.now in
     let x = c.index_mut-2.result.now in
-    let spot : IsSpot objects_in s.next k at.page at.index s.pages.items p x =
-    record { home = record { paged = s.paged; from = t.from; to = t.to; page = t.page; there = t.there; page_is = c.index_mut.ensures.value }; object_is = c.index_mut-2.ensures.value } in
+    let spot : IsSpot objects_in s.next k (k / 64) at.page at.index s.pages.items p x =
+    record { home = record { paged = s.paged; from = page_from k; to = page_to k; page = t.page; there = t.there; page_is = c.index_mut.ensures.value }; object_is = c.index_mut-2.ensures.value } in
     let read = ap count_of (read_at (λ (o : Counted g.row.T.Denot). o.count) (entries_of s) k x.1 (spot_found spot)) in
     sym (ap (λ n. nat_lt 1 n) read ∙ lt-ltb 1 x.1.count (omega (arith, c.if-object-gt1.true)))
 
@@ -44,10 +44,10 @@ returns-then-object-gt1-clause-counts g c =
     let at = c.place-place.result in
     let p = c.index_mut.result.now in
     let x = c.index_mut-2.result.now in
-    let spot : IsSpot objects_in s.next k at.page at.index s.pages.items p x =
-    record { home = record { paged = s.paged; from = t.from; to = t.to; page = t.page; there = t.there; page_is = c.index_mut.ensures.value }; object_is = c.index_mut-2.ensures.value } in
+    let spot : IsSpot objects_in s.next k (k / 64) at.page at.index s.pages.items p x =
+    record { home = record { paged = s.paged; from = page_from k; to = page_to k; page = t.page; there = t.there; page_is = c.index_mut.ensures.value }; object_is = c.index_mut-2.ensures.value } in
     let w : Counted g.row.T.Denot = record { count = x.1.count - 1; value = x.1.value } in
-    let p' = with_item p at.index (x.0, w) in
+    let p' : ℕ × Vec (ℕ × Counted g.row.T.Denot) Global = (p.0, with_item p.1 at.index (x.0, w)) in
     by_key-less (entries_of s) _ k x.1 w (spot_found spot) (spot_written spot p' w refl) (λ (o : Counted g.row.T.Denot). o.count) refl
 
 pub returns-then-object-gt1-clause-values : goal.returns-then-object-gt1-clause-values
@@ -58,10 +58,10 @@ returns-then-object-gt1-clause-values g c =
     let at = c.place-place.result in
     let p = c.index_mut.result.now in
     let x = c.index_mut-2.result.now in
-    let spot : IsSpot objects_in s.next k at.page at.index s.pages.items p x =
-    record { home = record { paged = s.paged; from = t.from; to = t.to; page = t.page; there = t.there; page_is = c.index_mut.ensures.value }; object_is = c.index_mut-2.ensures.value } in
+    let spot : IsSpot objects_in s.next k (k / 64) at.page at.index s.pages.items p x =
+    record { home = record { paged = s.paged; from = page_from k; to = page_to k; page = t.page; there = t.there; page_is = c.index_mut.ensures.value }; object_is = c.index_mut-2.ensures.value } in
     let w : Counted g.row.T.Denot = record { count = x.1.count - 1; value = x.1.value } in
-    let p' = with_item p at.index (x.0, w) in
+    let p' : ℕ × Vec (ℕ × Counted g.row.T.Denot) Global = (p.0, with_item p.1 at.index (x.0, w)) in
     by_key-kept (entries_of s) _ k x.1 w (spot_found spot) (spot_written spot p' w refl) (λ (o : Counted g.row.T.Denot). o.value) refl
 
 pub invariant_of-self-else-object-gt1 : goal.invariant_of-self-else-object-gt1
@@ -72,11 +72,11 @@ invariant_of-self-else-object-gt1 g c =
     let at = c.place-place.result in
     let p = c.index_mut.result.now in
     let x = c.index_mut-2.result.now in
-    let spot : IsSpot objects_in s.next k at.page at.index s.pages.items p x =
-    record { home = record { paged = s.paged; from = t.from; to = t.to; page = t.page; there = t.there; page_is = c.index_mut.ensures.value }; object_is = c.index_mut-2.ensures.value } in
+    let spot : IsSpot objects_in s.next k (k / 64) at.page at.index s.pages.items p x =
+    record { home = record { paged = s.paged; from = page_from k; to = page_to k; page = t.page; there = t.there; page_is = c.index_mut.ensures.value }; object_is = c.index_mut-2.ensures.value } in
     let w : Counted g.row.T.Denot = x.1 in
-    let p' = with_item p at.index (x.0, w) in
-    record { paged = spot_kept spot p' w refl; spanned = s.spanned }
+    let p' : ℕ × Vec (ℕ × Counted g.row.T.Denot) Global = (p.0, with_item p.1 at.index (x.0, w)) in
+    record { paged = spot_kept spot p' w refl refl; counted = home_recounted spot.home is_blank p' refl ∙ s.counted; few = s.few }
 
 pub returns-clause-exact : goal.returns-clause-exact
 returns-clause-exact g c =
@@ -86,8 +86,8 @@ returns-clause-exact g c =
     let at = c.place-place.result in
     let p = c.index_mut.result.now in
     let x = c.index_mut-2.result.now in
-    let spot : IsSpot objects_in s.next k at.page at.index s.pages.items p x =
-    record { home = record { paged = s.paged; from = t.from; to = t.to; page = t.page; there = t.there; page_is = c.index_mut.ensures.value }; object_is = c.index_mut-2.ensures.value } in
+    let spot : IsSpot objects_in s.next k (k / 64) at.page at.index s.pages.items p x =
+    record { home = record { paged = s.paged; from = page_from k; to = page_to k; page = t.page; there = t.there; page_is = c.index_mut.ensures.value }; object_is = c.index_mut-2.ensures.value } in
     let read = ap count_of (read_at (λ (o : Counted g.row.T.Denot). o.count) (entries_of s) k x.1 (spot_found spot)) in
     sym (ap (λ n. nat_lt 1 n) read ∙ le-ltb 1 x.1.count (omega (arith, c.if-object-gt1.false)))
 
@@ -99,10 +99,10 @@ returns-clause-counts g c =
     let at = c.place-place.result in
     let p = c.index_mut.result.now in
     let x = c.index_mut-2.result.now in
-    let spot : IsSpot objects_in s.next k at.page at.index s.pages.items p x =
-    record { home = record { paged = s.paged; from = t.from; to = t.to; page = t.page; there = t.there; page_is = c.index_mut.ensures.value }; object_is = c.index_mut-2.ensures.value } in
+    let spot : IsSpot objects_in s.next k (k / 64) at.page at.index s.pages.items p x =
+    record { home = record { paged = s.paged; from = page_from k; to = page_to k; page = t.page; there = t.there; page_is = c.index_mut.ensures.value }; object_is = c.index_mut-2.ensures.value } in
     let w : Counted g.row.T.Denot = x.1 in
-    let p' = with_item p at.index (x.0, w) in
+    let p' : ℕ × Vec (ℕ × Counted g.row.T.Denot) Global = (p.0, with_item p.1 at.index (x.0, w)) in
     by_key-kept (entries_of s) _ k x.1 w (spot_found spot) (spot_written spot p' w refl) (λ (o : Counted g.row.T.Denot). o.count) refl
 
 pub returns-clause-values : goal.returns-clause-values
@@ -113,8 +113,8 @@ returns-clause-values g c =
     let at = c.place-place.result in
     let p = c.index_mut.result.now in
     let x = c.index_mut-2.result.now in
-    let spot : IsSpot objects_in s.next k at.page at.index s.pages.items p x =
-    record { home = record { paged = s.paged; from = t.from; to = t.to; page = t.page; there = t.there; page_is = c.index_mut.ensures.value }; object_is = c.index_mut-2.ensures.value } in
+    let spot : IsSpot objects_in s.next k (k / 64) at.page at.index s.pages.items p x =
+    record { home = record { paged = s.paged; from = page_from k; to = page_to k; page = t.page; there = t.there; page_is = c.index_mut.ensures.value }; object_is = c.index_mut-2.ensures.value } in
     let w : Counted g.row.T.Denot = x.1 in
-    let p' = with_item p at.index (x.0, w) in
+    let p' : ℕ × Vec (ℕ × Counted g.row.T.Denot) Global = (p.0, with_item p.1 at.index (x.0, w)) in
     by_key-kept (entries_of s) _ k x.1 w (spot_found spot) (spot_written spot p' w refl) (λ (o : Counted g.row.T.Denot). o.value) refl

@@ -1,11 +1,11 @@
-use Rattle.std.proofs.Common.{refl, ap, arith, ◌+◌}
+use Rattle.std.proofs.Common.{refl, ap, arith, ◌+◌, ◌/◌, ◌∙◌, ℕ, Vec, Global}
 use Rattle.std.specs.Vec.{with_item}
 use Rattle.ang_host.specs.State.{count_of}
 use Rattle.ang_drivers.specs.declared.pages.Counted.{Counted}
-use Rattle.ang_drivers.specs.Pages.{objects_in}
+use Rattle.ang_drivers.specs.Pages.{objects_in, is_blank}
 use Rattle.ang_drivers.specs.PagesHeld.{entries_of}
 use Rattle.ang_drivers.proofs.Ledgers.{by_key-kept, by_key-more, read_at}
-use Rattle.ang_drivers.proofs.Paging.{IsSpot, spot_found, spot_written, spot_kept}
+use Rattle.ang_drivers.proofs.Paging.{IsSpot, page_from, page_to, spot_found, spot_written, spot_kept, home_recounted}
 use Rattle.ang_drivers.proofs.pages.Pages.count_up.Goals as goal
 
 pub overflow_add-index_mut : goal.overflow_add-index_mut
@@ -16,8 +16,8 @@ overflow_add-index_mut g c =
     let at = c.place-place.result in
     let p = c.index_mut.result.now in
     let x = c.index_mut-2.result.now in
-    let spot : IsSpot objects_in s.next k at.page at.index s.pages.items p x =
-    record { home = record { paged = s.paged; from = t.from; to = t.to; page = t.page; there = t.there; page_is = c.index_mut.ensures.value }; object_is = c.index_mut-2.ensures.value } in
+    let spot : IsSpot objects_in s.next k (k / 64) at.page at.index s.pages.items p x =
+    record { home = record { paged = s.paged; from = page_from k; to = page_to k; page = t.page; there = t.there; page_is = c.index_mut.ensures.value }; object_is = c.index_mut-2.ensures.value } in
     let read = ap count_of (read_at (λ (o : Counted g.row.T.Denot). o.count) (entries_of s) k x.1 (spot_found spot)) in
     omega (arith, c.requires.room, read)
 
@@ -29,11 +29,11 @@ invariant_of-self g c =
     let at = c.place-place.result in
     let p = c.index_mut.result.now in
     let x = c.index_mut-2.result.now in
-    let spot : IsSpot objects_in s.next k at.page at.index s.pages.items p x =
-    record { home = record { paged = s.paged; from = t.from; to = t.to; page = t.page; there = t.there; page_is = c.index_mut.ensures.value }; object_is = c.index_mut-2.ensures.value } in
+    let spot : IsSpot objects_in s.next k (k / 64) at.page at.index s.pages.items p x =
+    record { home = record { paged = s.paged; from = page_from k; to = page_to k; page = t.page; there = t.there; page_is = c.index_mut.ensures.value }; object_is = c.index_mut-2.ensures.value } in
     let w : Counted g.row.T.Denot = record { count = x.1.count + 1; value = x.1.value } in
-    let p' = with_item p at.index (x.0, w) in
-    record { paged = spot_kept spot p' w refl; spanned = s.spanned }
+    let p' : ℕ × Vec (ℕ × Counted g.row.T.Denot) Global = (p.0, with_item p.1 at.index (x.0, w)) in
+    record { paged = spot_kept spot p' w refl refl; counted = home_recounted spot.home is_blank p' refl ∙ s.counted; few = s.few }
 
 pub returns-clause-counts : goal.returns-clause-counts
 returns-clause-counts g c =
@@ -43,10 +43,10 @@ returns-clause-counts g c =
     let at = c.place-place.result in
     let p = c.index_mut.result.now in
     let x = c.index_mut-2.result.now in
-    let spot : IsSpot objects_in s.next k at.page at.index s.pages.items p x =
-    record { home = record { paged = s.paged; from = t.from; to = t.to; page = t.page; there = t.there; page_is = c.index_mut.ensures.value }; object_is = c.index_mut-2.ensures.value } in
+    let spot : IsSpot objects_in s.next k (k / 64) at.page at.index s.pages.items p x =
+    record { home = record { paged = s.paged; from = page_from k; to = page_to k; page = t.page; there = t.there; page_is = c.index_mut.ensures.value }; object_is = c.index_mut-2.ensures.value } in
     let w : Counted g.row.T.Denot = record { count = x.1.count + 1; value = x.1.value } in
-    let p' = with_item p at.index (x.0, w) in
+    let p' : ℕ × Vec (ℕ × Counted g.row.T.Denot) Global = (p.0, with_item p.1 at.index (x.0, w)) in
     by_key-more (entries_of s) _ k x.1 w (spot_found spot) (spot_written spot p' w refl) (λ (o : Counted g.row.T.Denot). o.count) refl
 
 pub returns-clause-values : goal.returns-clause-values
@@ -57,8 +57,8 @@ returns-clause-values g c =
     let at = c.place-place.result in
     let p = c.index_mut.result.now in
     let x = c.index_mut-2.result.now in
-    let spot : IsSpot objects_in s.next k at.page at.index s.pages.items p x =
-    record { home = record { paged = s.paged; from = t.from; to = t.to; page = t.page; there = t.there; page_is = c.index_mut.ensures.value }; object_is = c.index_mut-2.ensures.value } in
+    let spot : IsSpot objects_in s.next k (k / 64) at.page at.index s.pages.items p x =
+    record { home = record { paged = s.paged; from = page_from k; to = page_to k; page = t.page; there = t.there; page_is = c.index_mut.ensures.value }; object_is = c.index_mut-2.ensures.value } in
     let w : Counted g.row.T.Denot = record { count = x.1.count + 1; value = x.1.value } in
-    let p' = with_item p at.index (x.0, w) in
+    let p' : ℕ × Vec (ℕ × Counted g.row.T.Denot) Global = (p.0, with_item p.1 at.index (x.0, w)) in
     by_key-kept (entries_of s) _ k x.1 w (spot_found spot) (spot_written spot p' w refl) (λ (o : Counted g.row.T.Denot). o.value) refl

@@ -1,12 +1,12 @@
-use Rattle.std.proofs.Common.{refl, sym, ap, ◌∙◌, Some}
+use Rattle.std.proofs.Common.{refl, sym, ap, ◌∙◌, Some, ◌/◌, ℕ, Vec, Global}
 use Rattle.std.specs.Vec.{with_item}
 use Rattle.std.specs.FinMap as map
 use Rattle.ang_drivers.specs.declared.pages.Counted.{Counted}
-use Rattle.ang_drivers.specs.Pages.{objects_in}
+use Rattle.ang_drivers.specs.Pages.{objects_in, is_blank}
 use Rattle.ang_drivers.specs.Objects.{by_key}
 use Rattle.ang_drivers.specs.PagesHeld.{entries_of}
 use Rattle.ang_drivers.proofs.Ledgers.{by_key-kept, by_key-inserted, read_at}
-use Rattle.ang_drivers.proofs.Paging.{IsSpot, spot_found, spot_written, spot_kept}
+use Rattle.ang_drivers.proofs.Paging.{IsSpot, page_from, page_to, spot_found, spot_written, spot_kept, home_recounted}
 use Rattle.ang_drivers.proofs.pages.Pages.exchange.Goals as goal
 
 pub invariant_of-self : goal.invariant_of-self
@@ -17,11 +17,11 @@ invariant_of-self g c =
     let at = c.place-place.result in
     let p = c.index_mut.result.now in
     let x = c.index_mut-2.result.now in
-    let spot : IsSpot objects_in s.next k at.page at.index s.pages.items p x =
-    record { home = record { paged = s.paged; from = t.from; to = t.to; page = t.page; there = t.there; page_is = c.index_mut.ensures.value }; object_is = c.index_mut-2.ensures.value } in
+    let spot : IsSpot objects_in s.next k (k / 64) at.page at.index s.pages.items p x =
+    record { home = record { paged = s.paged; from = page_from k; to = page_to k; page = t.page; there = t.there; page_is = c.index_mut.ensures.value }; object_is = c.index_mut-2.ensures.value } in
     let w : Counted g.row.T.Denot = record { count = x.1.count; value = c.replace.new.dest } in
-    let p' = with_item p at.index (x.0, w) in
-    record { paged = spot_kept spot p' w refl; spanned = s.spanned }
+    let p' : ℕ × Vec (ℕ × Counted g.row.T.Denot) Global = (p.0, with_item p.1 at.index (x.0, w)) in
+    record { paged = spot_kept spot p' w refl refl; counted = home_recounted spot.home is_blank p' refl ∙ s.counted; few = s.few }
 
 pub returns-clause-exact : goal.returns-clause-exact
 returns-clause-exact g c =
@@ -31,8 +31,8 @@ returns-clause-exact g c =
     let at = c.place-place.result in
     let p = c.index_mut.result.now in
     let x = c.index_mut-2.result.now in
-    let spot : IsSpot objects_in s.next k at.page at.index s.pages.items p x =
-    record { home = record { paged = s.paged; from = t.from; to = t.to; page = t.page; there = t.there; page_is = c.index_mut.ensures.value }; object_is = c.index_mut-2.ensures.value } in
+    let spot : IsSpot objects_in s.next k (k / 64) at.page at.index s.pages.items p x =
+    record { home = record { paged = s.paged; from = page_from k; to = page_to k; page = t.page; there = t.there; page_is = c.index_mut.ensures.value }; object_is = c.index_mut-2.ensures.value } in
     read_at (λ (o : Counted g.row.T.Denot). o.value) (entries_of s) k x.1 (spot_found spot) ∙ ap Some (sym c.replace.ensures.value)
 
 pub returns-clause-counts : goal.returns-clause-counts
@@ -43,10 +43,10 @@ returns-clause-counts g c =
     let at = c.place-place.result in
     let p = c.index_mut.result.now in
     let x = c.index_mut-2.result.now in
-    let spot : IsSpot objects_in s.next k at.page at.index s.pages.items p x =
-    record { home = record { paged = s.paged; from = t.from; to = t.to; page = t.page; there = t.there; page_is = c.index_mut.ensures.value }; object_is = c.index_mut-2.ensures.value } in
+    let spot : IsSpot objects_in s.next k (k / 64) at.page at.index s.pages.items p x =
+    record { home = record { paged = s.paged; from = page_from k; to = page_to k; page = t.page; there = t.there; page_is = c.index_mut.ensures.value }; object_is = c.index_mut-2.ensures.value } in
     let w : Counted g.row.T.Denot = record { count = x.1.count; value = c.replace.new.dest } in
-    let p' = with_item p at.index (x.0, w) in
+    let p' : ℕ × Vec (ℕ × Counted g.row.T.Denot) Global = (p.0, with_item p.1 at.index (x.0, w)) in
     by_key-kept (entries_of s) _ k x.1 w (spot_found spot) (spot_written spot p' w refl) (λ (o : Counted g.row.T.Denot). o.count) refl
 
 pub returns-clause-values : goal.returns-clause-values
@@ -57,9 +57,9 @@ returns-clause-values g c =
     let at = c.place-place.result in
     let p = c.index_mut.result.now in
     let x = c.index_mut-2.result.now in
-    let spot : IsSpot objects_in s.next k at.page at.index s.pages.items p x =
-    record { home = record { paged = s.paged; from = t.from; to = t.to; page = t.page; there = t.there; page_is = c.index_mut.ensures.value }; object_is = c.index_mut-2.ensures.value } in
+    let spot : IsSpot objects_in s.next k (k / 64) at.page at.index s.pages.items p x =
+    record { home = record { paged = s.paged; from = page_from k; to = page_to k; page = t.page; there = t.there; page_is = c.index_mut.ensures.value }; object_is = c.index_mut-2.ensures.value } in
     let w : Counted g.row.T.Denot = record { count = x.1.count; value = c.replace.new.dest } in
-    let p' = with_item p at.index (x.0, w) in
+    let p' : ℕ × Vec (ℕ × Counted g.row.T.Denot) Global = (p.0, with_item p.1 at.index (x.0, w)) in
     by_key-inserted (λ (o : Counted g.row.T.Denot). o.value) (entries_of s) _ k w (spot_written spot p' w refl)
     ∙ ap (λ v. map.insert (by_key (λ (o : Counted g.row.T.Denot). o.value) (entries_of s)) k v) c.replace.ensures.after

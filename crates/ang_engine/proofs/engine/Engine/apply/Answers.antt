@@ -1,4 +1,4 @@
-use Rattle.std.proofs.Common.{◌≡◌, ◌≤◌, sym, subst, length}
+use Rattle.std.proofs.Common.{◌≡◌, ◌≤◌, [], false, sym, subst, length}
 use Rattle.std.specs.Prelude.{All, max}
 use Rattle.ang_host.specs.Events.{DriversFollow}
 use Rattle.ang_engine_modules.specs.declared.reply.Reply.{Reply}
@@ -7,6 +7,8 @@ use Rattle.ang_engine.specs.Engines.{registrations, world_in, drivers_in, limits
 use Rattle.ang_engine.specs.Replies.{reply_in}
 use Rattle.ang_engine.specs.Outcomes.{IfRefusedAtOnce}
 use Rattle.ang_engine.specs.Step.{Takes, IsEntitled}
+use Rattle.ang_engine_modules.specs.Ended.{is_fault, may_have_run}
+use Rattle.ang_engine.specs.Trace.{trace_in, ticks_in}
 use Rattle.ang_engine.proofs.engine.Engine.apply.Goals as goal
 
 -- what is said of the command that has finished is said of its reply
@@ -39,3 +41,12 @@ returns-clause-few_events g c =
 
 pub returns-clause-due : goal.returns-clause-due
 returns-clause-due g c = c.finish.ensures.sound.kept.due
+
+pub returns-clause-no_trace : goal.returns-clause-no_trace
+returns-clause-no_trace g c = subst (λ (r : Reply). is_fault r.outcome ≡ false → trace_in c.finish.new.self ≡ []) (sym c.heard_reply.ensures.exact) c.finish.ensures.no_trace
+
+pub returns-clause-no_ticks : goal.returns-clause-no_ticks
+returns-clause-no_ticks g c = subst (λ (r : Reply). may_have_run r.outcome ≡ false → ticks_in c.finish.new.self ≡ 0) (sym c.heard_reply.ensures.exact) c.finish.ensures.no_ticks
+
+pub returns-clause-ticks : goal.returns-clause-ticks
+returns-clause-ticks g c = c.finish.ensures.ticks

@@ -1,36 +1,67 @@
-use Rattle.std.proofs.Common.{[], length, sym, ap, subst}
+use Rattle.std.proofs.Common.{◌≤◌, [], length, refl, sym, ap, subst}
 use Rattle.ang_host.specs.Boxes.{members}
 use Rattle.ang_meaning.specs.Counting.{IsCounted}
 use Rattle.ang_heap.specs.Globals.{values_in}
 use Rattle.ang_heap.specs.Stores.{world_of}
 use Rattle.ang_engine_modules.specs.Sound.{HaveGlobals}
-use Rattle.ang_engine_modules.specs.States.{states_in}
+use Rattle.ang_engine_modules.specs.States.{places_of, states_in}
 use Rattle.ang_engine_modules.specs.World.{left_to}
+use Rattle.ang_engine_modules.proofs.Keeping.{same_modules}
 use Rattle.ang_engine.specs.Applied.{Applied}
 use Rattle.ang_engine.specs.Engines.{registrations, world_in, drivers_in}
 use Rattle.ang_engine.specs.Limited.{StaysWithin}
 use Rattle.ang_engine.specs.Replies.{reply_in}
-use Rattle.ang_engine.specs.Sound.{HaveDrivers}
+use Rattle.ang_engine.specs.Sound.{IsBuiltBy, HaveDrivers}
 use Rattle.ang_engine.proofs.engine.Engine.finish.Goals as goal
 
 -- a command that has begun is over the same world
-pub dispatch-requires : goal.dispatch-requires
-dispatch-requires g c = record {
-  sound = record {
-    modules = c.requires.sound.modules;
-    globals = subst (λ gs. HaveGlobals c.args.self.now.modules gs) (sym (ap (λ s. values_in s.globals) c.begin_command.ensures.set)) c.requires.sound.globals;
-    in_list = subst (λ bs. HaveDrivers (registrations c.args.self.now) (length bs)) (sym (ap (λ s. members s.drivers) c.begin_command.ensures.set)) c.requires.sound.in_list;
-    kept = c.begin_command.ensures.kept;
-    counted = subst (λ w. IsCounted [] w) (sym c.begin_command.ensures.world) c.requires.sound.counted;
-  };
-}
+pub dispatch-finished-requires : goal.dispatch-finished-requires
+dispatch-finished-requires g c =
+    let R = registrations c.args.self.now in
+    let x = c.args.self.now.modules in
+    let globals = subst (λ gs. HaveGlobals x gs) (sym (ap (λ s. values_in s.globals) c.begin_command.ensures.set)) c.requires.sound.globals in
+    record {
+      sound = record {
+        modules = same_modules (IsBuiltBy R) x (record x { code = c.forget_failed.new.self }) refl c.forget_failed.ensures.same refl c.requires.sound.modules;
+        globals = record { count = globals.count; none = globals.none };
+        in_list = subst (λ bs. HaveDrivers R (length bs)) (sym (ap (λ s. members s.drivers) c.begin_command.ensures.set)) c.requires.sound.in_list;
+        kept = c.begin_command.ensures.kept;
+        counted = subst (λ w. IsCounted [] w) (sym c.begin_command.ensures.world) c.requires.sound.counted;
+      };
+    }
 
 pub returns-clause-applied : goal.returns-clause-applied
 returns-clause-applied g c =
-    subst (λ s. Applied (λ v. (g.dyn-1.0.entry v).1) (registrations c.args.self.now) (left_to (states_in c.args.self.now.modules) (world_of (λ v. (g.dyn-1.0.entry v).1) s)) (members s.drivers) c.args.command (reply_in c.dispatch.result) (world_in (λ v. (g.dyn-1.0.entry v).1) c.dispatch.new.self) (drivers_in c.dispatch.new.self))
-    c.begin_command.ensures.set c.dispatch.ensures.applied
+    let R = registrations c.args.self.now in
+    let x = c.args.self.now.modules in
+    let t = c.begin_command.new.store in
+    let after = c.dispatch-finished.new.self in
+    subst (λ s. Applied (λ v. (g.dyn-1.0.entry v).1) R (left_to (states_in x) (world_of (λ v. (g.dyn-1.0.entry v).1) s)) (members s.drivers) c.args.command (reply_in c.dispatch-finished.result) (world_in (λ v. (g.dyn-1.0.entry v).1) after) (drivers_in after))
+    c.begin_command.ensures.set
+    (subst (λ k. Applied (λ v. (g.dyn-1.0.entry v).1) R (left_to (record { places = places_of x.places.items k; order = x.order.items }) (world_of (λ v. (g.dyn-1.0.entry v).1) t)) (members t.drivers) c.args.command (reply_in c.dispatch-finished.result) (world_in (λ v. (g.dyn-1.0.entry v).1) after) (drivers_in after))
+    c.forget_failed.ensures.same c.dispatch-finished.ensures.applied)
 
 pub returns-clause-within : goal.returns-clause-within
 returns-clause-within g c =
-    let kept = subst (λ s. StaysWithin (λ v. (g.dyn-1.0.entry v).1) s (reply_in c.dispatch.result).events c.dispatch.new.self.machine.store) c.begin_command.ensures.set c.dispatch.ensures.within in
+    let kept = subst (λ s. StaysWithin (λ v. (g.dyn-1.0.entry v).1) s (reply_in c.dispatch-finished.result).events c.dispatch-finished.new.self.machine.store) c.begin_command.ensures.set c.dispatch-finished.ensures.within in
     record { limits = kept.limits; limited = kept.limited }
+
+pub returns-clause-sound : goal.returns-clause-sound
+returns-clause-sound g c =
+    let s = c.dispatch-finished.ensures.sound in
+    record { modules = s.modules; globals = s.globals; in_list = s.in_list; kept = s.kept; counted = s.counted }
+
+pub returns-clause-heard : goal.returns-clause-heard
+returns-clause-heard g c = c.dispatch-finished.ensures.heard
+
+pub returns-clause-registrations : goal.returns-clause-registrations
+returns-clause-registrations g c = c.dispatch-finished.ensures.registrations
+
+pub returns-clause-no_trace : goal.returns-clause-no_trace
+returns-clause-no_trace g c = c.end_last-ticks.ensures.frames
+
+pub returns-clause-ticks : goal.returns-clause-ticks
+returns-clause-ticks g c = subst (λ n. c.end_last-ticks.result ≤ n) c.budget_of-budget.ensures.exact c.end_last-ticks.ensures.within
+
+pub returns-clause-no_ticks : goal.returns-clause-no_ticks
+returns-clause-no_ticks g c = c.end_last-ticks.ensures.none

@@ -10,14 +10,14 @@ use Rattle.ang_engine.proofs.engine.Engine.new.Goals as goal
 
 pub returns-in-Ok-clause-world : goal.returns-in-Ok-clause-world
 returns-in-Ok-clause-world g c =
-    let x : ModuleList = record { places = c.new.result; code = c.new-in-Ok.result; order = c.in-Ok.order } in
+    let x : ModuleList = record { places = c.new.result; code = c.new-in-Ok.result; order = c.in-Ok.order; builds = 0 } in
     world_begun x (world_of (λ v. (g.dyn-1.0.entry v).1) c.machine_of.result.store) c.new.ensures.items c.in-Ok.ensures.items
     c.machine_of.ensures.world
 
 pub returns-in-Ok-clause-sound : goal.returns-in-Ok-clause-sound
 returns-in-Ok-clause-sound g c =
     let R = c.args.registry.entries in
-    let x : ModuleList = record { places = c.new.result; code = c.new-in-Ok.result; order = c.in-Ok.order } in
+    let x : ModuleList = record { places = c.new.result; code = c.new-in-Ok.result; order = c.in-Ok.order; builds = 0 } in
     let yes : c.have_drivers.result ≡ true = search rules in
     let have : HaveDrivers R (length (members c.args.drivers)) = subst (λ n. HaveDrivers R n) c.len.ensures.exact (c.have_drivers.ensures.exact.0 yes) in
     record {

@@ -14,15 +14,15 @@ generate-requires c =
 pub invariant_of-self : goal.invariant_of-self
 invariant_of-self c =
     let x = c.self.inside in
-    let e = c.in_ok-code.ensures in
+    let e = c.in-Ok-code_of.ensures in
     let parts = c.into_parts-loaded in
     let b : LoadedModule = parts.result.0 in
     let p = parts.result.1 in
     let same : b ≡ c.args.loaded = parts.ensures.loaded in
     let unbound = subst (λ (l : LoadedModule). l.links ≡ list_map (λ h. None) l.tree.imports) (sym same) c.requires.unbound in
-    loaded_put x.table _ x.loaded.items _ c.self.invariant c.args.home c.in_ok-code.code b c.put_code.ensures.put c.put_loaded.ensures.put
-    (coded_by c.args.home c.in_ok-code.code b p c.in_ok-generated.generated (parts.ensures.tree ∙ ap (λ (l : LoadedModule). l.tree) (sym same))
-    (e.name ∙ c.as_slice.ensures.same) e.bodies e.imports e.bound e.entities e.classes e.slots
-    c.in_ok-generated.ensures.params c.in_ok-generated.ensures.results c.in_ok-generated.ensures.code
+    loaded_put x.table _ x.loaded.items _ c.self.invariant c.args.home c.in-Ok-code_of.code b c.put_code.ensures.put c.put_loaded.ensures.put
+    (coded_by c.args.home c.in-Ok-code_of.code b p c.in-Ok.generated (parts.ensures.tree ∙ ap (λ (l : LoadedModule). l.tree) (sym same))
+    (e.name ∙ c.as_slice-name.ensures.same) e.bodies e.imports e.bound e.entities e.classes e.slots
+    c.in-Ok.ensures.params c.in-Ok.ensures.results c.in-Ok.ensures.code
     (subst (λ (l : LoadedModule). SoundProgram l.view (view_typed l.tree)) (sym same) c.requires.sound) unbound)
     (ap (λ l. loaded_at l c.args.home) c.self.view_is ∙ c.requires.empty) unbound

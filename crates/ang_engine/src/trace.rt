@@ -1,0 +1,127 @@
+//! Where the last command faulted, and the ticks that it used.
+ghost use Rattle.std.specs.Prelude.{◌≡◌, ◌≤◌, [], false, Some, IsNone, IfSome, option_map, length, slice_get};
+ghost use Rattle.ang_code.specs.declared.instruction.Frame.{Frame};
+ghost use Rattle.ang_engine_modules.specs.declared.modules.LoadedModule.{LoadedModule};
+ghost use Rattle.ang_engine_modules.specs.Loaded.{loaded_at};
+ghost use Rattle.ang_engine_modules.specs.Traced.{frame_of, frame_in};
+ghost use Rattle.ang_engine_modules.specs.Ended.{is_fault, may_have_run};
+ghost use Rattle.ang_engine.specs.Trace.{frames_of, budget_of};
+
+use crate::engine::Engine;
+use ang_code::Frame;
+use ang_engine_modules::{Command, Modules, Outcome, TraceFrame, is_fault, may_have_run};
+use ang_host::Driver;
+use ang_vm::LastRun;
+
+/// The ticks that a command may take.
+pub fn budget_of(command: &Command) -> u64
+    ensures exact { result ≡ budget_of command.now }
+{
+    match command {
+        Command::NewModule { .. } => 0,
+        Command::SetMask { .. } => 0,
+        Command::AddSection { .. } => 0,
+        Command::Build { budget, .. } => *budget,
+        Command::Bind { .. } => 0,
+        Command::Unbind { .. } => 0,
+        Command::Call { budget, .. } => *budget,
+        Command::Discard { .. } => 0,
+    }
+}
+
+/// A command with this budget has ended so: one that did not end with a fault keeps no frames. Answers the ticks
+/// that it used.
+#[tactic(auto, using(crate::proofs::Tracing::no_frames))]
+pub fn end_last(last: &mut LastRun, budget: u64, outcome: Outcome) -> u64
+    ensures frames { is_fault outcome ≡ false → frames_of last.new ≡ [] }
+    ensures within { result ≤ budget }
+    ensures none { may_have_run outcome ≡ false → result ≡ 0 }
+{
+    if !is_fault(outcome) {
+        last.frames.clear();
+    }
+    if may_have_run(outcome) {
+        budget.saturating_sub(last.left)
+    } else {
+        0
+    }
+}
+
+/// How many bodies were running where it faulted.
+#[tactic(auto, using(crate::proofs::Tracing::frames_count))]
+fn frame_count(last: &LastRun) -> usize
+    ensures exact { result ≡ length (frames_of last.now) }
+{
+    last.frames.len()
+}
+
+/// The frame of that number of these, that of the body that faulted being 0.
+#[tactic(auto, using(crate::proofs::Tracing::frame_there, crate::proofs::Tracing::frame_past))]
+fn frame_at(last: &LastRun, depth: usize) -> Option<Frame>
+    ensures exact { result ≡ slice_get (frames_of last.now) depth }
+{
+    let count = last.frames.len();
+    if depth >= count {
+        return None;
+    }
+    match last.frames.get(count - 1 - depth) {
+        Some(frame) => Some(*frame),
+        None => None,
+    }
+}
+
+/// What the body of that frame is declared as, and the statement in which it stood, where its module is loaded, or
+/// has failed by this command.
+fn trace_at<'a>(code: &'a Modules, last: &LastRun, depth: usize) -> Option<TraceFrame<'a>>
+    ensures past { length (frames_of last.now) ≤ depth → IsNone (option_map frame_of result) }
+    ensures named { (frame : Frame) (l : LoadedModule)
+        → slice_get (frames_of last.now) depth ≡ Some frame
+        → loaded_at code.now frame.of.home ≡ Some l
+        → option_map frame_of result ≡ frame_in l frame.of.number }
+    ensures section { IfSome result (λ f. IfSome f.place (λ p. p.sect ≡ f.declared.sect)) }
+{
+    let frame = frame_at(last, depth)?;
+    code.trace_frame(frame.of, frame.at)
+}
+
+impl Engine {
+    ghost use Rattle.ang_engine.specs.Trace.{trace_in, loaded_in, ticks_in};
+    ghost use Rattle.ang_engine.specs.Sound.{IsSound};
+
+    /// How many bodies were running where the last command ended with a fault: the one that faulted, and those
+    /// that had called it. 0 after any other command, and where there was no memory to keep them. A command that
+    /// ends with a fault is one that answers `Failed` or `InitFailed`; what is no command changes nothing of it.
+    pub fn trace_len(&self) -> usize
+        requires sound { IsSound ⟦<dyn Driver as Driver>⟧ self.now }
+        ensures exact { result ≡ length (trace_in self.now) }
+    {
+        frame_count(&self.machine.last)
+    }
+
+    /// The one of that number of these bodies, with the statement in which it stood: 0 is the one that faulted,
+    /// and each further one had called the one before it. `None` past the last. It takes no memory, and is gone
+    /// with the next command.
+    ///
+    /// A trace names functions of whatever module the fault came to: it is for the host, not for the author of
+    /// a script.
+    pub fn trace(&self, depth: usize) -> Option<TraceFrame<'_>>
+        requires sound { IsSound ⟦<dyn Driver as Driver>⟧ self.now }
+        ensures past { length (trace_in self.now) ≤ depth → IsNone (option_map frame_of result) }
+        ensures named { (frame : Frame) (l : LoadedModule)
+            → slice_get (trace_in self.now) depth ≡ Some frame
+            → loaded_in self.now frame.of.home ≡ Some l
+            → option_map frame_of result ≡ frame_in l frame.of.number }
+        ensures section { IfSome result (λ f. IfSome f.place (λ p. p.sect ≡ f.declared.sect)) }
+    {
+        trace_at(&self.modules.code, &self.machine.last, depth)
+    }
+
+    /// How many ticks of its budget the last command used; 0 where it ran nothing. After a fault it is those
+    /// used until then.
+    pub fn ticks_used(&self) -> u64
+        requires sound { IsSound ⟦<dyn Driver as Driver>⟧ self.now }
+        ensures exact { result ≡ ticks_in self.now }
+    {
+        self.ticks
+    }
+}

@@ -1,0 +1,133 @@
+-- What the bodies of a module are declared as, by number: those of functions, then those of methods and
+-- constructors, then the initializers of globals (docs/CLAIMS.md, "A run of a built module").
+use Rattle.std.specs.Prelude.{ℕ, ◌==◌, ◌+◌, ◌-◌, nat_le, nat_lt, if◌then◌else◌, Bool, true, false, List, [], length, Option, Some, None, is_some, option_map, position, slice_get}
+use Rattle.std.specs.List.{prefix_len}
+use Rattle.std.specs.Option.{option_or, option_and_then}
+use Rattle.ang_kinds.specs.declared.place.Place.{Place}
+use Rattle.ang_kinds.specs.declared.position.Position.{Position}
+use Rattle.ang_code.specs.declared.instruction.Mark.{Mark}
+use Rattle.ang_code.specs.declared.instruction.RoutineCode.{RoutineCode}
+use Rattle.ang_names_known.specs.declared.names.Family.{Family}
+use Rattle.ang_names_known.specs.declared.names.ScriptConstructor.{ScriptConstructor}
+use Rattle.ang_names_known.specs.declared.names.ScriptFunction.{ScriptFunction}
+use Rattle.ang_names_known.specs.declared.names.ScriptGlobal.{ScriptGlobal}
+use Rattle.ang_names_known.specs.declared.names.ScriptMethod.{ScriptMethod}
+use Rattle.ang_engine_modules.specs.declared.modules.LoadedModule.{LoadedModule}
+use Rattle.ang_engine_modules.specs.declared.traced.TraceFrame.{TraceFrame}
+
+-- a body: the name of its module; the class of a method or a constructor, else nothing; the name of the function, or
+-- of the global whose initializer it is; and the place of that name
+pub record Frame : Type 0 where
+  pub own : List ℕ
+  pub class : List ℕ
+  pub name : List ℕ
+  pub is_global : Bool
+  pub declared : Place
+
+-- the frame that is lent
+abbrev pub frame_of : TraceFrame → Frame
+frame_of t = record {
+  own = t.module.now;
+  class = t.class.now;
+  name = t.name.now;
+  is_global = t.is_global;
+  declared = t.declared;
+}
+
+abbrev pub function_frame : List ℕ → List ℕ → ScriptFunction → Frame
+function_frame own class f = record {
+  own = own;
+  class = class;
+  name = f.name;
+  is_global = false;
+  declared = f.place;
+}
+
+abbrev pub global_frame : List ℕ → ScriptGlobal → Frame
+global_frame own g = record {
+  own = own;
+  class = [];
+  name = g.name;
+  is_global = true;
+  declared = g.place;
+}
+
+-- ---- the method or constructor that has the body of number n
+
+abbrev pub is_number : ℕ → Option ℕ → Bool
+is_number n None = false
+is_number n (Some b) = b == n
+
+abbrev pub has_method_body : ℕ → ScriptMethod → Bool
+has_method_body n m = is_number n m.body
+
+abbrev pub has_constructor_body : ℕ → ScriptConstructor → Bool
+has_constructor_body n c = c.body == n
+
+abbrev pub method_of : ℕ → List ScriptMethod → Option ScriptFunction
+method_of n ms =
+    option_and_then (λ i. option_map (λ m. m.function) (slice_get ms i))
+    (position (has_method_body n) ms)
+
+abbrev pub constructor_of : ℕ → List ScriptConstructor → Option ScriptFunction
+constructor_of n cs =
+    option_and_then (λ i. option_map (λ c. c.function) (slice_get cs i))
+    (position (has_constructor_body n) cs)
+
+abbrev pub member_of : ℕ → Family → Option ScriptFunction
+member_of n f = option_or (method_of n f.methods) (constructor_of n f.constructors)
+
+abbrev pub has_member : ℕ → Family → Bool
+has_member n f = is_some (member_of n f)
+
+abbrev pub family_frame : List ℕ → ℕ → Family → Option Frame
+family_frame own n f = option_map (function_frame own f.name) (member_of n f)
+
+abbrev pub member_frame : List ℕ → ℕ → List Family → Option Frame
+member_frame own n fs =
+    option_and_then (λ i. option_and_then (family_frame own n) (slice_get fs i))
+    (position (has_member n) fs)
+
+-- ---- any body
+
+-- that of a global, of whose initializers the first has this number
+abbrev pub initializer_frame : List ℕ → ℕ → ℕ → List ScriptGlobal → Option Frame
+initializer_frame own first n gs =
+    if nat_le first n then option_map (global_frame own) (slice_get gs (n - first)) else None
+
+-- the body of number n of a module
+abbrev pub frame_in : LoadedModule → ℕ → Option Frame
+frame_in l n =
+    option_or (option_map (function_frame l.name []) (slice_get l.names.functions n))
+    (option_or (member_frame l.name n l.names.families)
+    (initializer_frame l.name (length l.tree.functions) n l.names.globals))
+
+-- ---- where a body stands
+
+-- a place within a section, whose lines and columns count from 0
+abbrev pub place_in : ℕ → Position → Place
+place_in section p = record { sect = section; line = p.line + 1; column = p.column + 1 }
+
+-- the marks of a body, if there is one
+abbrev pub marks_in : Option RoutineCode → List Mark
+marks_in None = []
+marks_in (Some c) = c.marks.items
+
+-- whether a statement begins before an instruction
+abbrev pub begins_before : ℕ → Mark → Bool
+begins_before at m = nat_lt m.at at
+
+-- How many of a body's statements begin before an instruction. Marks are in the order of the instructions, so these are
+-- the first ones.
+abbrev pub count_before : List Mark → ℕ → ℕ
+count_before marks at = prefix_len (begins_before at) marks
+
+-- The mark of the statement of which instruction `at - 1` is: the last one that begins at it or before it, so before
+-- instruction `at`.
+abbrev pub mark_before : List Mark → ℕ → Option Mark
+mark_before marks at =
+    if nat_lt 0 (count_before marks at) then slice_get marks (count_before marks at - 1) else None
+
+-- where that statement stands, in the section of its body
+abbrev pub statement_place : List Mark → ℕ → ℕ → Option Place
+statement_place marks at section = option_map (λ m. place_in section m.position) (mark_before marks at)

@@ -1,0 +1,68 @@
+use Rattle.std.proofs.Common.{refl}
+use Rattle.std.proofs.lemmas.Result.{err_from_is_err_and}
+use Rattle.ang_engine.specs.Engines.{builds_in}
+use Rattle.asremote.specs.Talk.{Called, Missed}
+use Rattle.asremote.proofs.Turning.{ok_both, err_turn}
+use Rattle.asremote.proofs.prepared.run_prepared.Goals as goal
+
+pub returns-in_default-clause-obeyed : goal.returns-in_default-clause-obeyed
+returns-in_default-clause-obeyed g c = record {
+  did = Missed c.args.number c.args.args.now;
+  says = refl;
+  budgeted = tt;
+  comes = refl;
+  right = refl;
+  printed = c.in_ok-print_refusal.ensures.whole;
+}
+
+pub returns-in_err-print_refusal-clause-cut : goal.returns-in_err-print_refusal-clause-cut
+returns-in_err-print_refusal-clause-cut g c =
+    let p = err_from_is_err_and c.from_residual.result c.from_residual.ensures.1 in
+    rw p.1 record {
+      did = Missed c.args.number c.args.args.now;
+      says = refl;
+      budgeted = tt;
+      comes = refl;
+      front = c.in_err-print_refusal.ensures.front;
+    }
+
+pub returns-clause-obeyed : goal.returns-clause-obeyed
+returns-clause-obeyed g c = ok_both c.tell_reply.result _ _ _ (λ ok ended told. record {
+  did = Called c.args.number c.args.args.now c.in-Some.function.now c.args.ticks c.call_prepared-reply.result;
+  says = refl;
+  budgeted = refl;
+  comes = record {
+    takes = record {
+      builds = builds_in c.args.engine.now;
+      takes = c.call_prepared-reply.ensures.takes;
+      gone = λ no. (c.call_prepared-reply.ensures.gone no, c.call_prepared-reply.ensures.unchanged no);
+    };
+    follow = c.call_prepared-reply.ensures.follow;
+    within = record {
+      limits = c.call_prepared-reply.ensures.limits;
+      limited = record { few_events = c.call_prepared-reply.ensures.few_events; few_slots = c.call_prepared-reply.ensures.few_slots; few_objects = c.call_prepared-reply.ensures.few_objects };
+    };
+  };
+  right = ended;
+  printed = told;
+}) c.tell_reply.ensures.ended c.tell_reply.ensures.told
+
+pub returns-clause-cut : goal.returns-clause-cut
+returns-clause-cut g c = err_turn c.tell_reply.result _ _ (λ front. record {
+  did = Called c.args.number c.args.args.now c.in-Some.function.now c.args.ticks c.call_prepared-reply.result;
+  says = refl;
+  budgeted = refl;
+  comes = record {
+    takes = record {
+      builds = builds_in c.args.engine.now;
+      takes = c.call_prepared-reply.ensures.takes;
+      gone = λ no. (c.call_prepared-reply.ensures.gone no, c.call_prepared-reply.ensures.unchanged no);
+    };
+    follow = c.call_prepared-reply.ensures.follow;
+    within = record {
+      limits = c.call_prepared-reply.ensures.limits;
+      limited = record { few_events = c.call_prepared-reply.ensures.few_events; few_slots = c.call_prepared-reply.ensures.few_slots; few_objects = c.call_prepared-reply.ensures.few_objects };
+    };
+  };
+  front = front;
+}) c.tell_reply.ensures.front

@@ -1,0 +1,112 @@
+//! Functions that were looked up once, and are called by the number that this gave.
+ghost use Rattle.std.specs.Prelude.{◌≡◌, ℕ, IfOk, IfErr, OnErr};
+ghost use Rattle.ang_engine.specs.Engines.{registrations, world_in, drivers_in};
+ghost use Rattle.ang_engine.specs.Prepared.{looked_up};
+ghost use Rattle.ang_engine.specs.Sound.{IsSound};
+ghost use Rattle.ang_engine_modules.specs.declared.reply.Refusal.TheVariants.{Memory};
+ghost use Rattle.asrun_session.specs.Drivers.{kinds_of};
+ghost use Rattle.asremote.specs.Turns.{IsFound, Obeys, ObeysHalf};
+ghost use Rattle.asremote.specs.declared.own_lines.OwnLine.TheVariants.{Prepare, Run};
+
+use crate::replies::tell_reply;
+use ang_engine::{Engine, Prepared, Refusal};
+use ang_host::Driver;
+use ang_kinds::Value;
+use asrun_session::{ReplyBuffer, SessionError, print_prepared, print_refusal};
+use std::io::Write;
+
+/// Keeps what was looked up, and answers its number, from 0.
+///
+/// # Errors
+/// `Memory`, where there is no room.
+fn keep(prepared: &mut Vec<Prepared>, function: Prepared) -> Result<u64, Refusal>
+    ensures refused { IfErr result (λ why. why ≡ Memory) }
+{
+    let number = prepared.len() as u64;
+    match prepared.push(function) {
+        Ok(()) => Ok(number),
+        Err(_) => Err(Refusal::Memory),
+    }
+}
+
+/// Looks up a function of a module, and keeps it.
+///
+/// # Errors
+/// Those of `Engine::prepare`.
+fn look_up(
+    engine: &Engine,
+    prepared: &mut Vec<Prepared>,
+    name: &[u8],
+    decl: &[u8],
+) -> Result<u64, Refusal>
+    requires sound { IsSound ⟦<dyn Driver as Driver>⟧ engine.now }
+    ensures found { IsFound
+        (looked_up name.now decl.now (world_in ⟦<dyn Driver as Driver>⟧ engine.now)) result }
+{
+    match engine.prepare(name, decl) {
+        Ok(function) => keep(prepared, function),
+        Err(refusal) => Err(refusal),
+    }
+}
+
+/// Looks up a function of a module for later calls, and prints its number, or why there is none. Answers whether there is.
+///
+/// # Errors
+/// A write fault, and want of memory.
+pub fn prepare<W: Write>(
+    engine: &Engine,
+    writer: &mut W,
+    buffer: &mut ReplyBuffer,
+    prepared: &mut Vec<Prepared>,
+    name: &[u8],
+    decl: &[u8],
+) -> Result<bool, SessionError>
+    requires sound { IsSound ⟦<dyn Driver as Driver>⟧ engine.now }
+    ensures obeyed { (ticks : ℕ) → IfOk result (λ ok. Obeys ⟦<dyn Driver as Driver>⟧ engine.now
+        engine.now (W.contents writer.old) (W.contents writer.new) ticks
+        (Prepare name.now decl.now) ok) }
+    ensures cut { (ticks : ℕ) → OnErr result (ObeysHalf ⟦<dyn Driver as Driver>⟧ engine.now
+        engine.now (W.contents writer.old) (W.contents writer.new) ticks
+        (Prepare name.now decl.now)) }
+{
+    match look_up(engine, prepared, name, decl) {
+        Ok(number) => {
+            print_prepared(writer, buffer, number)?;
+            Ok(true)
+        }
+        Err(refusal) => {
+            print_refusal(writer, buffer, refusal)?;
+            Ok(false)
+        }
+    }
+}
+
+/// Calls what has this number, with these values, and prints the reply. Answers whether it ended in `ok`.
+///
+/// # Errors
+/// A write fault, and want of memory.
+pub fn run_prepared<W: Write>(
+    engine: &mut Engine,
+    writer: &mut W,
+    buffer: &mut ReplyBuffer,
+    prepared: &[Prepared],
+    number: u32,
+    args: &[Value],
+    ticks: u64,
+) -> Result<bool, SessionError>
+    requires sound { IsSound ⟦<dyn Driver as Driver>⟧ engine.old }
+    ensures sound { IsSound ⟦<dyn Driver as Driver>⟧ engine.new }
+    ensures registrations { registrations engine.new ≡ registrations engine.old }
+    ensures order { kinds_of (drivers_in engine.new) ≡ kinds_of (drivers_in engine.old) }
+    ensures obeyed { IfOk result (λ ok. Obeys ⟦<dyn Driver as Driver>⟧ engine.old engine.new
+        (W.contents writer.old) (W.contents writer.new) ticks (Run number args.now) ok) }
+    ensures cut { OnErr result (ObeysHalf ⟦<dyn Driver as Driver>⟧ engine.old engine.new
+        (W.contents writer.old) (W.contents writer.new) ticks (Run number args.now)) }
+{
+    let Some(function) = prepared.get(number as usize) else {
+        print_refusal(writer, buffer, Refusal::NoFunction)?;
+        return Ok(false);
+    };
+    let reply = engine.call_prepared(*function, args, ticks);
+    tell_reply(writer, buffer, reply)
+}

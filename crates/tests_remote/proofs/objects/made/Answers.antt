@@ -1,5 +1,0 @@
-use Rattle.tests_remote.proofs.Living.{live_made}
-use Rattle.tests_remote.proofs.objects.made.Goals as goal
-
-pub returns-in-Key : goal.returns-in-Key
-returns-in-Key g c = record { live = live_made g.D.Driver.meaning.fits _ _ _ c.in-Key.key c.in-Key.ensures.law }
