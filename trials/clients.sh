@@ -13,11 +13,11 @@
 #     sessions   each session of crates/examples and crates/asrun, and 1,000 generated ones, over modules, masks, imports,
 #                numbers and objects: with the drivers of asrun written in Python, asremote prints what asrun prints
 #     posts      a host of each client with functions that are posted prints trials/clients/posts.expected
-#     lines      some 160 lines, most of wrong forms: what asremote says to each, and that nothing behind the head of a section runs
+#     lines      some 200 lines, most of wrong forms: what asremote says to each, and that nothing behind the head of a section runs
 #     kills      100 engines of each client are killed at random moments: the host goes on, and the next engine works
 #     limits     a host of each client sets limits, and prints trials/clients/limits.expected
 #     traces     a host of each client prints trials/clients/traces.expected: where faults came, and the lines there
-#     bounds     300 random scripts under random limits: what asremote asks, lists and holds is what a model of limits says
+#     bounds     300 random scripts under random limits: what asremote asks, lists, takes and holds is what a model of limits says
 #     mended     a host of each client does what once went wrong, and prints trials/clients/mended.expected: texts that are
 #                more than a command, numbers of faults, timeouts that pass in a callable and very long ones, a limit of memory,
 #                objects that the engine has no memory to take (refusing.py stands in for it), and an engine that is killed

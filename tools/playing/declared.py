@@ -1,11 +1,11 @@
 """Functions that a script declares, found by their form, and calls of them."""
 
 import re
-from typing import Iterable, List, NamedTuple
+from typing import Iterable, List, Match, NamedTuple
 
 HIDING = re.compile(r"//[^\n]*|/\*.*?(?:\*/|\Z)|\"[^\"\n]*\"", re.DOTALL)
 FUNCTION = re.compile(r"\b((?:const\s+)?[A-Za-z_]\w*(?:\s*@\s*(?:const\b\s*)?|\s+))([A-Za-z_]\w*)\s*\(([^()]*)\)\s*\{")
-IMPORT = re.compile(r"\bimport\s+([^;{}]{1,1000}?)\s*\bfrom\b")
+EXPORTER = re.compile(r'\bfrom\s*"([^"\n]*)"')
 WITH_VALUES = re.compile(r"\(([^()]*)\) ?(.*\(.*\))")
 SHORT = re.compile(r"([A-Za-z_]\w*) ?\((.*)\)")
 
@@ -40,7 +40,11 @@ class NotCalled(Exception):
 
 def bare(text: str) -> str:
     """A script with spaces in the place of comments and texts."""
-    return HIDING.sub(lambda found: re.sub(r"[^\n]", " ", found[0]), text)
+    return HIDING.sub(_blank, text)
+
+
+def _blank(found: Match[str]) -> str:
+    return re.sub(r"[^\n]", " ", found[0])
 
 
 def functions(texts: Iterable[str]) -> List[Declared]:
@@ -66,14 +70,21 @@ def listed(declaration: str) -> Declared:
     return Declared(re.findall(r"\w+", front)[-1], declaration, parameters)
 
 
-def imports(texts: Iterable[str]) -> List[Imported]:
-    """What a script's sections import, in the order of their numbers."""
-    found = []
-    for text in texts:
-        for match in IMPORT.finditer(bare(text)):
-            quoted = re.match(r'\s*"([^"\n]*)"', text[match.end() :])
-            found.append(Imported(" ".join(match[1].split()), quoted[1] if quoted else ""))
-    return found
+def form_of(declaration: str) -> List[str]:
+    """The words and signs of a declaration without the names of its parameters."""
+    front, *parameters = re.split("[(,)]", bare(declaration))
+    kinds = {"const", "in", "out", "inout"}
+    form = re.findall(r"\w+|[^\w\s]", front)
+    for words in (re.findall(r"\w+|[^\w\s]", it) for it in parameters):
+        types = [it for it in words if it.isidentifier() and it not in kinds]
+        form += [",", *(words[:-1] if len(types) > 1 else words)]
+    return form
+
+
+def exporters(texts: Iterable[str]) -> List[str]:
+    """The modules that a script's sections name after `from`, in the order of the imports' numbers."""
+    without_comments = (HIDING.sub(lambda it: it[0] if it[0][0] == '"' else _blank(it), text) for text in texts)
+    return [name for text in without_comments for name in EXPORTER.findall(text)]
 
 
 def is_whole(text: str) -> bool:

@@ -1,6 +1,7 @@
 """Hints beside an error: what a mask hides, what the language leaves out, what there is instead."""
 
 import difflib
+import os
 import re
 from typing import Dict, Iterator, List, NamedTuple, Sequence
 
@@ -15,6 +16,8 @@ ARRAYS = "there are no arrays and no templates: an object of the host, such as a
 NAMESPACES = "there are no namespaces: take longer names, or several modules"
 ENUMERATIONS = "scripts declare no enumerations: the host registers them, or write 'const int A = 0;'"
 DEFAULTS = "there are no default arguments: write an overload that calls the other one"
+LONG = 32  # letters of a name, beyond which none is looked for that is like it
+MOST_COMPARED = 60  # names
 RESERVED = r"(this|super|cast|class|interface|import|from|private|protected|final|override|is|and|or|xor|not|in|out|inout)\b"
 
 
@@ -118,9 +121,10 @@ def _candidates(known: Known, error: BuildError) -> Iterator[str]:
 
 
 def _alike(known: Known, error: BuildError) -> Iterator[str]:
-    if error.kind not in ("UnknownName", "UnknownType"):
+    if error.kind not in ("UnknownName", "UnknownType") or len(error.name) > LONG:
         return
     names = [it for it in known.names if it[:1].lower() == error.name[:1].lower() and abs(len(it) - len(error.name)) < 3]
-    near = difflib.get_close_matches(error.name, set(names[:200]) - {error.name}, 1, 0.7)
+    names.sort(key=lambda it: (-len(os.path.commonprefix([it, error.name])), it))
+    near = difflib.get_close_matches(error.name, set(names[:MOST_COMPARED]) - {error.name}, 1, 0.7)
     if near:
         yield f"did you mean '{near[0]}'?"

@@ -8,13 +8,14 @@ from typing import Any, Dict, List, NamedTuple, Optional, Sequence, Tuple
 from bustlebrick import EngineLost
 from playing import commands, profiles
 from playing.answering import ANSWERING, DRIVERS_OF_ASRUN, LIKE_ASRUN, PLAIN
-from playing.declared import Declared, Imported, imports, listed
+from playing.declared import Declared, Imported, exporters, listed
 from playing.process import Process, with_limits
 from playing.sentences import refusal_sentence
 from playing.traces import frames, shown
 
 BUDGET = 1_000_000  # ticks of a command, as asrun begins
 MOST_SESSION = 1 << 24  # bytes, of which asrun takes no more
+MOST_KEPT = 1_000_000  # lines of replies
 SECONDS_TO_REDO = 30.0
 MOST_DRIVERS = 64
 MOST_WAITING = 64  # sections of a module
@@ -64,9 +65,8 @@ class Module:
         self.built_mask = self.mask if done else None
         self.functions = [listed(it.partition(" ")[2]) for it in has if it.startswith("function ")]
         taken = [it.split(" ", 2)[2] for it in has if it.startswith("import ")]
-        found = imports(self.tried) if taken else []
-        exporters = [it.exporter for it in found] if len(found) == len(taken) else [""] * len(taken)
-        self.imports = list(map(Imported, taken, exporters))
+        named = exporters(self.tried)
+        self.imports = list(map(Imported, taken, named if len(named) == len(taken) else [""] * len(taken)))
 
     def shown(self, name: str) -> Dict[str, Any]:
         """What a page shows of it, but for the texts of its sections."""
@@ -96,7 +96,7 @@ class Page:
         self.modules: Dict[str, Module] = {}
         self.objects: Dict[Tuple[int, int], Thing] = {}
         self.budget = BUDGET
-        self._bytes = 0
+        self._bytes = self._lines = 0
         self._processes: List[Process] = []
         if self.answers not in ANSWERING:
             raise CantOpen(f"host calls are answered as {' or '.join(ANSWERING)}, and not as {self.answers}")
@@ -142,6 +142,8 @@ class Page:
             raise NotTaken("this page's engine has been ended")
         if self._bytes + len(text.encode()) > MOST_SESSION:
             raise NotTaken("the session has as many bytes as asrun takes: begin anew")
+        if self._lines > MOST_KEPT:
+            raise NotTaken(f"the session has more than {MOST_KEPT} lines of replies: begin anew")
         try:
             lines = self._process.command(text).lines
             ticks, trace, has = self._asked(text, lines[-1] if lines else "")
@@ -152,6 +154,7 @@ class Page:
             raise NotTaken(f"no engine takes this line: {text[:80]}")
         self.log.append(Told(text, lines, ticks))
         self._bytes += len(text.encode()) + 1
+        self._lines += len(lines)
         self._heed(text, lines, has)
         if trace:
             self._keep(shown(frames(trace), lambda name: self.modules[name].tried if name in self.modules else []))

@@ -121,9 +121,9 @@ def _add_asked(profile: Profile, word: str, fields: Any, answering: Answering) -
 
 
 def plain(declaration: str) -> str:
-    """A declaration without comments, with single spaces."""
-    bare = re.sub(r"/\*.*?\*/|//.*", " ", declaration, flags=re.DOTALL)
-    return " ".join(bare.split()) or declaration
+    """A declaration without comments, with single spaces. Of one that is nothing else it is the beginning, which is refused."""
+    bare = re.sub(r"/\*.*?(?:\*/|\Z)|//.*", " ", declaration, flags=re.DOTALL)
+    return " ".join(bare.split()) or declaration[:80]
 
 
 def name_of(declaration: str) -> str:
@@ -134,8 +134,9 @@ def name_of(declaration: str) -> str:
 
 def result_of(declaration: str) -> str:
     """The type of a declaration's result or property, without `const`."""
-    front = declaration.partition("(")[0]
-    return re.sub(r"\bconst\b|\s|\+", "", re.sub(r"\w+\s*$", "", front))
+    front = declaration.partition("(")[0].rstrip()
+    name = name_of(front)
+    return re.sub(r"\bconst\b|\s|\+", "", front[: len(front) - len(name)] if name and front.endswith(name) else front)
 
 
 def told(entry: Entry) -> str:

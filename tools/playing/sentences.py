@@ -74,7 +74,7 @@ REFUSALS = {
     "BuildErrors": "the script has errors",
     "InitFailed": "an initializer of a global ended with a fault",
     "BuildMemory": "the build was refused memory, or a statement stands inside 4,000 others",
-    "NoImport": "the module has no import of this number",
+    "NoImport": "the module has no such import",
     "NoFunction": "the script has no function of this declaration",
     "SignatureDiffers": "the import and the function differ in result or parameters",
     "NotCallable": "a function with references, objects or handles is not called from outside",

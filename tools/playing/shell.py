@@ -10,15 +10,19 @@ from bustlebrick import EngineLost, Refused
 from playing import profiles
 from playing.answers import BadHost
 from playing.declared import Declared, NotCalled, call_of, is_whole
+from playing.sentences import refusal_sentence
 from playing.sources import Source, printable
 from playing.stage import CantStart, Part, Stage
 
+BIND = re.compile(r"(?:import )?(\d+|[^()]+\([^()]*\)) (?:from )?\"?([^ \";()]+)\"?(?: ([^()]+\([^()]*\)))?;?")
 HELP = """\
 What does not begin with a colon is script: it is added to the module, which is built anew, once all brackets are closed.
 :call CALL                 int main(), sum(2, 40), or (2,40) int64 sum(int64, int64)
 :mask MASK                 gives the module a mask, of up to eight hexadecimal digits, and builds it
 :module NAME [MASK]        goes on with this module, and makes it where there is none
-:bind NUMBER FROM DECL     binds the module's import of that number, from 0, to a function of the module FROM
+:imports                   what the module imports, with numbers, and what that is bound to
+:bind IMPORT FROM [DECL]   binds an import, named by its declaration or number, to a function of the module FROM: to that
+                           of the same declaration, or to DECL. As :bind int next(int) other
 :load FILE                 adds a file to the module, and builds it
 :reload                    reads the profile, the host file and all scripts again; modules are built and bound anew
 :clear                     drops the module's sections
@@ -111,7 +115,9 @@ class Shell:
             self.stage.revive()
         except OSError as error:
             self.tell("note", message=f"{error.filename}: {error.strerror}" if error.filename is not None else str(error))
-        except (NotCalled, Refused, ValueError, BadHost) as error:
+        except Refused as refused:
+            self.tell("note", message=f"{refusal_sentence(str(refused))} [{refused}]")
+        except (NotCalled, ValueError, BadHost) as error:
             self.tell("note", message=printable(str(error)))
 
     def _take(self, line: str, watch: bool) -> None:
@@ -146,10 +152,10 @@ class Shell:
     def _command(self, line: str) -> None:
         word, _, rest = line[1:].strip().partition(" ")
         known: Dict[str, Callable[[str], Any]] = {
-            "call": self._call, "mask": self._mask, "module": self._module, "bind": self._bind, "load": self._load,
-            "reload": self._reload, "clear": self._clear, "discard": self._discard, "events": self._events,
-            "functions": self._functions, "profile": self._profile, "budget": self._budget, "limits": self._limits,
-            "help": self._help,
+            "call": self._call, "mask": self._mask, "module": self._module, "imports": self._imports, "bind": self._bind,
+            "load": self._load, "reload": self._reload, "clear": self._clear, "discard": self._discard,
+            "events": self._events, "functions": self._functions, "profile": self._profile, "budget": self._budget,
+            "limits": self._limits, "help": self._help,
         }
         if word in known:
             known[word](rest.strip())
@@ -169,11 +175,16 @@ class Shell:
             self.name = name
 
     def _bind(self, text: str) -> None:
-        found = re.fullmatch(r"(\d+) ([^ ]+) (.+)", text)
+        found = BIND.fullmatch(" ".join(text.split()))
         if not found:
-            raise ValueError("wanted: :bind NUMBER FROM DECLARATION, as :bind 0 other int next(int)")
-        if self.stage.bind(self.name, int(found[1]), found[2], found[3]):
-            self.tell("note", message=f"import {found[1]} of {self.name} is bound to {found[3]} of {found[2]}")
+            raise ValueError("wanted: :bind IMPORT FROM [DECLARATION], as :bind int next(int) other, or :bind 0 other")
+        self.stage.bind(self.name, found[1], found[2], found[3] or "")
+
+    def _imports(self, _: str) -> None:
+        bound = self.part.bound
+        imports = enumerate(self.stage.imports(self.name))
+        told = [f"{number} {it}: {_bound_to(bound.get(it))}" for number, it in imports]
+        self._lines(told or ["there are none"])
 
     def _load(self, text: str) -> None:
         self._build_with(read_source(text))
@@ -261,6 +272,10 @@ def _time_of(path: str) -> Optional[int]:
         return os.stat(path).st_mtime_ns
     except OSError:
         return None
+
+
+def _bound_to(to: Optional[Tuple[str, str]]) -> str:
+    return f"{to[1]} of {to[0]}" if to else "not bound"
 
 
 def _limit(text: str) -> Tuple[str, Optional[int]]:

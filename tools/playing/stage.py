@@ -9,7 +9,7 @@ from typing import Any, Callable, Dict, Iterator, List, NamedTuple, Optional, Tu
 from bustlebrick import BuildError, Conversation, Engine, EngineLost, Held, Refused, Reply
 from playing import profiles
 from playing.answers import Host, host_file
-from playing.declared import Called, Declared, functions, listed
+from playing.declared import Called, Declared, form_of, functions, listed
 from playing.hints import Known, hidden, hints
 from playing.sentences import error_sentence, fault_sentence, refusal_sentence
 from playing.sources import Source, printable
@@ -38,7 +38,7 @@ class Part:
         self.mask, self.built_mask = mask, mask
         self.sources: List[Source] = []
         self.built: List[Source] = []  # by the last build, whether that was refused or not
-        self.bound: Dict[int, Tuple[str, str]] = {}
+        self.bound: Dict[str, Tuple[str, str]] = {}  # by the declarations of the imports
 
 
 class Stage:
@@ -204,7 +204,7 @@ class Stage:
     def _forget_bindings(self, name: str) -> None:
         self.parts[name].bound.clear()
         for part in self.parts.values():
-            part.bound = {number: to for number, to in part.bound.items() if to[0] != name}
+            part.bound = {imported: to for imported, to in part.bound.items() if to[0] != name}
 
     def _tell_errors(self, part: Part, reply: Reply) -> None:
         known = Known(profiles.seen(self.engine.profile, part.mask), part.sources, reply.denials)
@@ -226,13 +226,32 @@ class Stage:
             source=shown.text, caret=shown.caret,
         )
 
-    def bind(self, name: str, number: int, exporter: str, declaration: str) -> bool:
-        """Binds an import of a module to a function of another one."""
-        text = f"bind {_field(name)} {number} {_field(exporter)} {' '.join(declaration.split())}"
-        if not self.done(f"bind {number}", text):
+    def imports(self, name: str) -> List[str]:
+        """The declarations of a module's imports, in the order of their numbers."""
+        lines = self.engine.told(f"list {_field(name)}")
+        return [it.split(" ", 2)[2] for it in lines if it.startswith("import ")]
+
+    def bind(self, name: str, imported: str, exporter: str, declaration: str = "") -> bool:
+        """Binds a module's import, of this number or declaration, to a function of another module: to that of the import's
+        declaration, if no other is named."""
+        try:
+            number, own = self._import(name, imported)
+        except Refused as refused:
+            self._tell_refused(f"bind {imported}", Reply(f"refused {refused}", [], [], [], None))
             return False
-        self.parts[name].bound[number] = (exporter, declaration)
+        to = " ".join(declaration.split()) or own
+        if not self.done(f"bind {own}", f"bind {_field(name)} {number} {_field(exporter)} {to}"):
+            return False
+        self.parts[name].bound[own] = (exporter, to)
+        self.tell("note", message=f"{name}'s import {number}, {own}, is bound to {to} of {exporter}")
         return True
+
+    def _import(self, name: str, imported: str) -> Tuple[int, str]:
+        """The number and the declaration of an import that is named by either."""
+        for number, own in enumerate(self.imports(name)):
+            if imported == str(number) or form_of(own) == form_of(imported):
+                return number, own
+        raise Refused("NoImport")
 
     def discard(self, name: str) -> bool:
         """Ends a module."""
@@ -289,13 +308,13 @@ class Stage:
 
     def take(self, parts: Dict[str, Part]) -> None:
         """Makes the modules of another stage, builds and binds them."""
-        bound = [(name, number, *to) for name, part in parts.items() for number, to in part.bound.items()]
+        bound = [(name, imported, *to) for name, part in parts.items() for imported, to in part.bound.items()]
         for name, part in parts.items():
             if self.module(name, part.mask):
                 self.parts[name].sources = part.sources
                 self.build(name)
-        for name, number, exporter, declaration in bound:
-            self.bind(name, number, exporter, declaration)
+        for name, imported, exporter, declaration in bound:
+            self.bind(name, imported, exporter, declaration)
 
     def close(self) -> None:
         self.engine.close()

@@ -6,8 +6,10 @@ import os
 import re
 import secrets
 import shutil
+import socket
 import sys
 import threading
+import time
 import traceback
 from http.server import BaseHTTPRequestHandler, ThreadingHTTPServer
 from typing import Any, Dict, Tuple
@@ -18,6 +20,7 @@ ADDRESS = "127.0.0.1"
 MOST_BYTES = 4 << 20  # of a request
 SECONDS = 30.0  # that a request may take to come
 SECONDS_OF_LOOKING = 15.0
+MOST_STRANGERS = 32  # connections that have not told the token yet
 PAGE = os.path.join(os.path.dirname(os.path.abspath(__file__)), "page")
 TYPES = {".html": "text/html", ".css": "text/css", ".js": "text/javascript", ".svg": "image/svg+xml"}
 HEADERS = {
@@ -45,8 +48,11 @@ class Server(ThreadingHTTPServer):
     """The server, its token, and what pages ask for."""
 
     daemon_threads = True
+    request_queue_size = 64
 
     def __init__(self, port: int, operations: Operations) -> None:
+        self._strangers: Dict[socket.socket, float] = {}  # when each came, the first one first
+        self._lock = threading.Lock()
         super().__init__((ADDRESS, port), Handler)
         self.operations, self.token = operations, secrets.token_urlsafe(24)
         self.host = f"{ADDRESS}:{self.server_address[1]}"
@@ -55,6 +61,37 @@ class Server(ThreadingHTTPServer):
     @property
     def link(self) -> str:
         return f"http://{self.host}/{self.token}/"
+
+    def process_request(self, request: Any, client_address: Any) -> None:
+        """Answers a connection. Until it has told the token it is one of a few: the oldest of them has to go for it."""
+        with self._lock:
+            self._strangers[request] = time.monotonic()
+            while len(self._strangers) > MOST_STRANGERS:
+                self._turn_away(next(iter(self._strangers)))
+        super().process_request(request, client_address)
+
+    def know(self, connection: socket.socket) -> None:
+        """A connection has told the token, or is closed."""
+        with self._lock:
+            self._strangers.pop(connection, None)
+
+    def turn_away_late(self) -> None:
+        """Ends connections that have not told the token for long, whatever they send meanwhile."""
+        with self._lock:
+            for connection, came in list(self._strangers.items()):
+                if time.monotonic() - came > SECONDS:
+                    self._turn_away(connection)
+
+    def _turn_away(self, connection: socket.socket) -> None:
+        del self._strangers[connection]
+        try:
+            connection.shutdown(socket.SHUT_RDWR)
+        except OSError:
+            pass  # it has gone by itself
+
+    def shutdown_request(self, request: Any) -> None:
+        self.know(request)
+        super().shutdown_request(request)
 
     def handle_error(self, request: Any, client_address: Any) -> None:
         """A connection that ends early is nothing to tell; anything else is a mistake of ours."""
@@ -103,6 +140,7 @@ class Handler(BaseHTTPRequestHandler):
         token, _, path = self.path[1:].partition("/")
         if not hmac.compare_digest(token.encode("utf-8", "replace"), self.server.token.encode()):
             raise Refused(403, "the link has a token, which is wanted")
+        self.server.know(self.connection)
         return path
 
     def _file(self, path: str) -> Tuple[str, bytes]:
@@ -150,14 +188,15 @@ def serve(program: str, timeout: float, port: int, beginning: Beginning) -> None
     operations = Operations(program, timeout, beginning)
     with Server(port, operations) as server:
         print(f"the page is at {server.link}\nIt is for this machine, and for who has the link. Ctrl-C ends it.", flush=True)
-        threading.Thread(target=_end_unheard, args=(operations,), daemon=True).start()
+        threading.Thread(target=_look, args=(server,), daemon=True).start()
         try:
             server.serve_forever()
         finally:
             operations.end()
 
 
-def _end_unheard(operations: Operations) -> None:
+def _look(server: Server) -> None:
     while True:
-        threading.Event().wait(SECONDS_OF_LOOKING)
-        operations.end_unheard()
+        time.sleep(SECONDS_OF_LOOKING)
+        server.turn_away_late()
+        server.operations.end_unheard()

@@ -5,12 +5,12 @@
 
 Each script makes objects of its classes and of the host, in globals, blocks, constructors, initializers and through an
 import, and lets them go; the host answers wrongly at times. Between its calls limits are set, mostly to what is held or
-little above. A model that counts events, slots and objects says what is asked, each line of each reply, and what `used`
-tells; after the modules are discarded nothing is held. Prints the first lines that differ. The status is 0 where none do.
+little above. A model that counts events, objects, ticks and slots, those that one tick makes by themselves too, says what
+is asked, each line of each reply, and what `used` tells; after the modules are discarded nothing is held. Prints the
+first lines that differ. The status is 0 where none do.
 """
 
 import random
-import re
 import subprocess
 import sys
 import tempfile
@@ -31,6 +31,8 @@ class R { Thing@ t; A@ a; R(int n) { @t = Thing(n); @a = A(); } }
 class Q : P { R@ r; bool b; Q(int n) { super(n); @r = R(n); } }
 """
 SLOTS = {"A": 4, "P": 3, "R": 3, "Q": 5}
+# The constructors that run for an object of each class: its own, and with `super` that of the class below.
+CONSTRUCTORS = {"P": 1, "R": 1, "Q": 2}
 TYPES = {"t": "Thing", "a": "A", "p": "P", "q": "Q"}
 GLOBALS = [f"{kind}{n}" for n in range(3) for kind in TYPES]
 # What the host answers to a factory, by its argument: with a number from 1 on, an object.
@@ -61,6 +63,10 @@ class Model:
 
     def begin(self, module):
         self.module, self.events, self.asks = module, [], []
+        self.ticks = self.made = 0  # of this command, and the slots that were made since its last tick
+
+    def tick(self):
+        self.ticks, self.made = self.ticks + 1, 0
 
     def room(self, events):
         if len(self.events) + self.objects + events > self.limits["events"]:
@@ -103,11 +109,14 @@ class Model:
         """An object of a class or of the host. One whose constructor faults is given up."""
         if name == "Thing":
             return self.thing(number)
-        if self.slots + SLOTS[name] > self.limits["slots"]:
+        if max(self.slots, self.made) + SLOTS[name] > self.limits["slots"]:
             raise Fault("Memory")
         self.slots += SLOTS[name]
+        self.made += SLOTS[name]
         held = Held(slots=SLOTS[name])
         fields = {"P": ["Thing", "A"], "R": ["Thing", "A"], "Q": ["Thing", "A", "R"]}.get(name, [])
+        for _ in range(CONSTRUCTORS.get(name, 0)):
+            self.tick()
         try:
             for field in fields:
                 held.fields[field] = self.new(field, number)
@@ -145,10 +154,14 @@ class Model:
         finally:
             self.give_up(held)
 
+    def call(self, statements):
+        self.tick()
+        self.run(statements)
+
     def far(self):
         caller, self.module = self.module, "b"
         try:
-            self.run(FAR)
+            self.call(FAR)
         finally:
             self.module = caller
 
@@ -164,8 +177,10 @@ class Model:
             elif word == "forget":
                 self.put(rest[0], None)
             elif word == "loop":
+                self.tick()
                 for _ in range(rest[0]):
                     self.run(rest[1])
+                    self.tick()
             elif word == "poke":
                 self.poke(self.globals[self.module][rest[0]], rest[1])
             elif word == "drop":
@@ -264,13 +279,13 @@ class Talk:
         for line in [*reply, "done"]:
             self.wants(command, line)
 
-    def used(self, slots, objects):
-        """Asks what is used. Of the ticks the model knows nothing."""
-        self.say("used", ["ticks *", f"slots {slots}", f"objects {objects}", "ok"])
+    def used(self, ticks, slots, objects):
+        """Asks what is used."""
+        self.say("used", [f"ticks {ticks}", f"slots {slots}", f"objects {objects}", "ok"])
 
     def wants(self, command, wanted):
         said = self.line()
-        if said != wanted and not (wanted == "ticks *" and re.fullmatch(r"ticks \d+", said)):
+        if said != wanted:
             raise Differs(f"{command[:2000]}\n  says   {said}\n  wanted {wanted}")
 
 
@@ -286,7 +301,7 @@ class Trial:
         """Says a command of which the model knows the events."""
         self.ends[outcome] += 1
         self.talk.say(command, [*self.model.events, outcome], self.model.asks)
-        self.talk.used(self.model.slots, self.model.objects)
+        self.talk.used(self.model.ticks, self.model.slots, self.model.objects)
 
     def build(self, name, initializers, functions, imported=""):
         model, outcome = self.model, "ok"
@@ -327,7 +342,7 @@ class Trial:
         self.model.begin("a")
         outcome = "ok"
         try:
-            self.model.run(self.functions[name])
+            self.model.call(self.functions[name])
         except Fault as fault:
             outcome = f"fault {fault}"
         self.told(f"call a () void {name}()", outcome)
@@ -346,7 +361,7 @@ class Trial:
             self.model.begin(name)
             self.model.give_up_globals(name)
             self.told(f"discard {name}", "ok")
-        self.talk.used(0, 0)
+        self.talk.used(0, 0, 0)
 
 
 def main():

@@ -4,11 +4,11 @@
     trials/clients/strangers.py ASREMOTE
 
 Each script has at most 64 KiB. It is built, and called three times, with the limits, the budget and the timeout that
-clients/python sets where nothing is said. Another module answers after each call, and the most memory that the process
-had (VmHWM) stays below 64 MB. Each is then built in two other engines with a budget of two ticks, and called in one. In
-the other nothing can be made and nobody asked, so the builds differ by what initializers take. Milliseconds are processor
-time of the engine's process alone, the least of several calls; of a tick, and of initializers that take none, 50 are wanted
-at most.
+clients/python sets where nothing is said; the timeout is longer where more programs run than there are processors.
+Another module answers after each call, and the most memory that the process had (VmHWM) stays below 64 MB. Each is then
+built in two other engines with a budget of two ticks, and called in one. In the other nothing can be made and nobody
+asked, so the builds differ by what initializers take. Milliseconds are processor time of the engine's process alone, the
+least of several calls; of a tick, and of initializers that take none, 50 are wanted at most.
 
 A function that returns takes no tick, so what 200 of them have left is run after the last tick of a call. Each script of
 the second table has them as long as they may be, and is called with a tick less than its functions take, and with all of
@@ -31,7 +31,9 @@ from bustlebrick import Engine, EngineLost, Limits, Module, Profile, Reply  # no
 MOST = 65536  # bytes of a section
 MEMORY = 64_000_000  # bytes, of the process
 TICK = 50.0  # milliseconds
-SECONDS = 100.0  # that a command may take where its processor time is measured
+BUSY = max(1.0, os.getloadavg()[0] / (os.cpu_count() or 1))  # programs that wait for a processor
+TIMEOUT = 10.0 * BUSY  # seconds
+SECONDS = 100.0 * BUSY  # that a command may take where its processor time is measured
 DEPTH = 200  # functions, one inside the other
 WAITING = 2600  # bytes of each, of which each is an instruction at most: all may wait at once (docs/LANGUAGE.md, "Depth")
 ROUNDS = 3  # of which the quickest counts
@@ -298,8 +300,8 @@ class Trial:
             print(f"{what}", flush=True)
 
     def told(self, name: str, text: str) -> List[str]:
-        """Builds a script and calls it three times, with all that a client sets by itself, and gives what came of it."""
-        with Engine(offered(), self.program) as engine:
+        """Builds a script and calls it three times, with what a client sets by itself, and gives what came of it."""
+        with Engine(offered(), self.program, TIMEOUT) as engine:
             other = made(engine, "other", OTHER)
             other.build()
             stranger, pid = made(engine, "stranger", text), engine.pid

@@ -10,7 +10,8 @@ import struct
 import subprocess
 import time
 
-SECONDS = 30.0  # that anything may take
+BUSY = max(1.0, os.getloadavg()[0] / (os.cpu_count() or 1))  # programs that wait for a processor
+SECONDS = 30.0 * BUSY  # that anything may take
 FLAGS = """--headless=new --no-sandbox --disable-gpu --disable-dev-shm-usage --no-first-run --no-default-browser-check
  --disable-extensions --disable-background-networking --disable-component-update --disable-sync --hide-scrollbars --mute-audio
  --remote-debugging-port=0 --window-size=1280,900""".split()

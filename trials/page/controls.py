@@ -1,9 +1,35 @@
 """Tries controls: each is reached by Tab, has a name, and works by the keyboard; and that nothing overflows."""
 
+import json
+
 from running import SAMPLES
 from tabs import bit, column, opened
 
 ROLES = {"button", "checkbox", "radio", "textbox", "searchbox", "combobox", "link", "region", "spinbutton", "DisclosureTriangle", "listbox", "menuitem"}
+EXPORTER, IMPORTER, DENIED, TYPE, CALLED, HIDDEN, MADE = (letter * 240 for letter in "ABCTFGM")
+LONG_PROFILE = f"""mask 00000001
+type {TYPE} 1
+factory {TYPE} 1 {TYPE}@ f(int)
+function 0 0 void {CALLED}(int64)
+mask 00000002
+function 0 1 int64 {HIDDEN}(int64, int64)
+"""
+LONG_SESSION = f"""module {EXPORTER} 00000001
+section {EXPORTER} 2
+{TYPE}@ {MADE};
+int {MADE}{'x' * 9}() {{ @{MADE} = {TYPE}(7); {CALLED}(1); {CALLED}(1 / 0); return 1; }}
+build {EXPORTER}
+call {EXPORTER} () int {MADE}{'x' * 9}()
+module {IMPORTER} 00000001
+section {IMPORTER} 1
+import int {MADE}{'x' * 9}() from "{EXPORTER}"; int f() {{ return {MADE}{'x' * 9}(); }}
+build {IMPORTER}
+bind {IMPORTER} 0 {EXPORTER} int {MADE}{'x' * 9}()
+module {DENIED} 00000001
+section {DENIED} 1
+void f() {{ {HIDDEN}(1, 2); }}
+build {DENIED}
+"""
 OPEN_ALL = "document.querySelectorAll('details').forEach(it => { it.open = true; })"
 CONTROLS = """(() => { const all = [...document.querySelectorAll('a[href],button,input,select,textarea,summary,[tabindex]')];
     window.controls = all.filter(it => !it.disabled && it.checkVisibility() && !(it.type === 'radio' && !it.checked));
@@ -16,9 +42,11 @@ OVER = """(() => { const wide = document.documentElement.clientWidth, over = [];
     for (const it of document.querySelectorAll('body *')) { const box = it.getBoundingClientRect();
         if (box.width && (box.right > wide + 1 || box.left < -1) && !scrolls(it)) over.push(it.tagName + '#' + it.id + '.' + it.className);
         const style = getComputedStyle(it);
-        if (style.overflowX === 'visible' && it.clientWidth && it.scrollWidth > it.clientWidth + 1 && style.display !== 'inline')
+        if (style.overflowX === 'visible' && !it.closest('svg') && it.clientWidth && it.scrollWidth > it.clientWidth + 1 && style.display !== 'inline')
             over.push('in ' + it.tagName + '#' + it.id + '.' + it.className); }
     return [document.documentElement.scrollWidth - wide, over]; })()"""
+WIDE_TEXTS = """[...document.querySelectorAll('.arrows text')].map(it => [it.textContent, it.getBBox().width])
+    .filter(([text, wide], number, all) => wide > (document.querySelectorAll('.arrows text')[number].matches('.box') ? 150 : 312))"""
 CONTRAST = """(() => { const parts = (text) => (text.match(/[\\d.]+/g) || [0, 0, 0, 0]).map(Number);
     const light = (c) => { const [r, g, b] = c.map(v => { v /= 255; return v <= 0.03928 ? v / 12.92 : ((v + 0.055) / 1.055) ** 2.4; });
         return 0.2126 * r + 0.7152 * g + 0.0722 * b; };
@@ -87,6 +115,7 @@ def try_keyboard(trial, served):
 
 def try_overflow(trial):
     with trial.served() as served:
+        try_long_names(trial, served)
         for name in SAMPLES:
             tab = opened(trial, served, name)
             tab.value(OPEN_ALL)
@@ -106,3 +135,21 @@ def try_overflow(trial):
                 dark,
             )
             tab.close()
+
+
+def try_long_names(trial, served):
+    """Names as long as a script can have them."""
+    tab = opened(trial, served)
+    for selector, text in (("#share-profile", LONG_PROFILE), ("#share-session", LONG_SESSION)):
+        tab.value(f"document.querySelector('{selector}').value = {json.dumps(text)}")
+    tab.click("#load")
+    trial.that("long names are opened", tab.wait("document.querySelector('#registrations-sum').innerText === '4 entries, 3 modules'"), tab.text("#message"))
+    for module in (EXPORTER, IMPORTER, DENIED):
+        tab.click(f"input[name=module][value={module}]")
+        tab.value(OPEN_ALL)
+        for width in (1280, 400):
+            tab.size(width, 900)
+            trial.same(f"what overflows of {module[:2]}.. at {width}", tab.value(OVER), [0, []])
+    trial.same("texts that are wider than their place in the drawing", tab.value(WIDE_TEXTS), [])
+    trial.picture(tab, "long-names-400")
+    tab.close()

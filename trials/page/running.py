@@ -92,8 +92,8 @@ def lit(tab):
 
 
 def is_declared(tab):
-    """Whether the engine tells the places of functions' names alone, and not those of statements."""
-    return "declared there" in tab.text("#result .stack")
+    """Whether the engine tells the places of functions' names alone, and not those of statements. Of globals it always does."""
+    return "declared there" in tab.text("#result .stack li:first-child")
 
 
 def try_traces(trial):

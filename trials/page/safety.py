@@ -5,11 +5,29 @@ import os
 import socket
 import time
 
-from browser import is_here
-from tabs import choose, opened, use_profile
+from browser import BUSY, SECONDS, is_here
+from tabs import call, choose, column, opened, use_profile
 
 HURT = "<img src=x onerror='window.hurt=1'><script>window.hurt=1</script>"
 MANY = 9
+CROWD, HALVES = 400, 20  # connections, and those that tell the token
+HEAVY = [
+    ("a profile of comments that are never closed", "function 0 0 " + "/* " * 300_000 + "\n", ""),
+    ("a profile of one long name", "function 0 0 " + "a" * 900_000 + "!\n", ""),
+    ("an import with much space", "", "import" + " " * 30_000 + "int f(" + " " * 1100 + ') from "m";'),
+    ("a script of quotes", "", '"' * 60_000),
+    ("a script of brackets", "", "f(" * 30_000),
+    ("long names that are much alike", "", "".join(f"int {'ab' * 110}{number:03}() {{ return {'ba' * 110}{number:03}; }}\n" for number in range(140))),
+]
+FULL_PROFILE = "mask 00000001\nfunction 0 0 void print(int64)\ntype Counter 1\nfactory Counter 1 Counter@ f(int)\n"
+FULL = f"""void events() {{ for (int i = 0; i < 20000; i++) {{ print(i); }} }}
+void objects(int n) {{ {''.join(f'Counter c{number}(n); ' for number in range(6))}if (n > 0) {{ objects(n - 1); }} }}
+class Box {{ {''.join(f'int a{number}; ' for number in range(60))}}}
+void slots(int n) {{ {''.join(f'Box b{number}; ' for number in range(10))}if (n > 0) {{ slots(n - 1); }} }}
+void ticks() {{ while (true) {{}} }}
+void depth(int n) {{ depth(n); }}
+int fine() {{ return 1; }}
+"""
 FOREIGN = {
     "another origin": {"Origin": "http://evil.example"},
     "an origin of another port": {"Origin": "http://127.0.0.1:1"},
@@ -29,6 +47,10 @@ def try_safety(trial):
         try_addresses(trial, served)
         try_fetched(trial, served)
         try_hostile(trial, served)
+        try_crowd(trial, served)
+        try_heavy(trial, served)
+        try_long(trial, served)
+        try_full(trial, served)
     try_engines(trial)
 
 
@@ -145,6 +167,66 @@ def try_hostile(trial, served):
     trial.that("with sections of its own", tab.wait("document.querySelector('#problems')?.innerText.includes(\"'constructor'\")"))
     found = tab.value("[window.hurt, document.querySelectorAll('script, img, iframe').length]")
     trial.same("nothing of it became a part of the page", found, [None, counted])
+    tab.close()
+
+
+def try_crowd(trial, served):
+    """Many connections at once that say nothing, or never end what they say. Those with the token are answered meanwhile."""
+    half = f"POST {served.path}begin HTTP/1.1\r\nHost: {served.address}\r\nContent-Type: application/json\r\nContent-Length: 9\r\n\r\n{{".encode()
+    crowd = [socket.create_connection(("127.0.0.1", served.port), SECONDS) for _ in range(CROWD)]
+    for number, it in enumerate(crowd):
+        try:
+            it.sendall(half if number < HALVES else b"GET /" if number % 2 else b"")
+        except OSError:
+            pass  # it had to go for others
+    trial.same("who has the token is answered in a crowd", served.asked("POST", served.path + "begin", {})[0], 200)
+    tab = opened(trial, served)
+    trial.same("and a page is opened", tab.text("#registrations-sum"), "4 entries, 2 modules")
+    tab.close()
+    with open(f"/proc/{served.process.pid}/status", encoding="utf-8") as file:
+        threads = int(next(it.split()[1] for it in file if it.startswith("Threads:")))
+    trial.that("few of the crowd are kept", threads < HALVES + 50, threads)
+    for it in crowd:
+        it.close()
+
+
+def try_heavy(trial, served):
+    """Texts that are much work for who reads them carelessly: each is answered soon."""
+    for name, profile, script in HEAVY:
+        began = time.monotonic()
+        session = f"module a 00000001\nsection a {script.count(chr(10)) + 1}\n{script}\nbuild a\n"
+        status, data, _ = served.asked("POST", served.path + "open", {"profile": profile, "session": session})
+        took = time.monotonic() - began
+        trial.that(f"{name} is answered soon", status == 200 and took < 5 * BUSY, (status, took, data[:100]))
+
+
+def try_long(trial, served):
+    """A session of ten million bytes."""
+    path = served.path + "open"
+    trial.same("it is not taken", served.asked("POST", path, {"profile": "", "session": "#" * 10_000_000})[0], 413)
+    tab = opened(trial, served)
+    tab.value("document.querySelector('#share-session').value = '#'.repeat(10_000_000)")
+    tab.click("#load")
+    trial.that("which is told", tab.wait("document.querySelector('#message').innerText.startsWith('These texts are too long')"), tab.text("#message"))
+    trial.same("what was there stays", tab.text("#registrations-sum"), "4 entries, 2 modules")
+    trial.same("and is worked with", column(tab, "guest"), ["seen", "seen", "hidden", "hidden"])
+    tab.close()
+
+
+def try_full(trial, served):
+    """A script that comes to each limit. The page goes on."""
+    tab = opened(trial, served)
+    use_profile(tab, FULL_PROFILE)
+    tab.wait("document.querySelector('#registrations-sum').innerText.startsWith('3 entries')")
+    choose(tab, "guest")
+    tab.write("#section-0", FULL)
+    tab.click("#build")
+    tab.wait("document.querySelector('#module-state').innerText.startsWith('built')")
+    found = [call(tab, name, *values) for name, *values in (("events",), ("objects", "199"), ("slots", "199"), ("ticks",), ("depth", "1"))]
+    trial.same("each ends with its fault", found, ["fault Memory"] * 3 + ["fault Budget", "fault Depth"])
+    trial.same("the next call is as any other", call(tab, "fine"), "ok 1")
+    trial.same("nothing is held", tab.text("#objects"), "0 objects of 1,000; 0 slots of 100,000 of scripts' own objects.")
+    trial.same("the console was told no error", tab.complaints(), [])
     tab.close()
 
 

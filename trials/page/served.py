@@ -6,6 +6,8 @@ import os
 import subprocess
 import sys
 
+from browser import SECONDS
+
 TOP = os.path.dirname(os.path.dirname(os.path.dirname(os.path.abspath(__file__))))
 PLAY = os.path.join(TOP, "tools", "play.py")
 SAMPLES = os.path.join(TOP, "tools", "playing", "samples")
@@ -31,7 +33,7 @@ class Served:
 
     def asked(self, method, path, body=None, **headers):
         """The status and the answer of a request, of which some headers are as they are said; None leaves one out."""
-        talk = http.client.HTTPConnection("127.0.0.1", self.port, timeout=20)
+        talk = http.client.HTTPConnection("127.0.0.1", self.port, timeout=SECONDS)
         sent = {"Host": self.address, "Content-Type": "application/json", **{k.replace("_", "-"): v for k, v in headers.items()}}
         talk.putrequest(method, path, skip_host=True, skip_accept_encoding=True)
         data = body if isinstance(body, bytes) else json.dumps(body).encode() if body is not None else b""
@@ -63,6 +65,13 @@ def children(parent):
         if int(after[1]) == parent and after[0] != "Z":
             found.append(int(name))
     return found
+
+
+def seconds_of(process):
+    """The seconds of a processor that a process has taken so far."""
+    with open(f"/proc/{process}/stat", encoding="utf-8", errors="replace") as file:
+        after = file.read().rpartition(")")[2].split()
+    return (int(after[11]) + int(after[12])) / os.sysconf("SC_CLK_TCK")
 
 
 def sample(name):

@@ -4,9 +4,11 @@ import json
 import os
 import time
 
+from browser import BUSY
+from served import seconds_of
 from tabs import bit, choose, opened
 
-ENTRIES, MODULES, MOST = 1000, 64, 100.0  # milliseconds
+ENTRIES, MODULES, MOST, MOST_OPENING = 1000, 64, 100.0, 2000.0  # milliseconds
 BITS = [0, 1, 2, 3, 5, 8, 13, 21, 30, 31]
 TRIES = 3
 WATCH = """(() => { window.clicks = []; window.frames = {};
@@ -15,6 +17,7 @@ WATCH = """(() => { window.clicks = []; window.frames = {};
     new PerformanceObserver((list) => list.getEntries().forEach(it => {
         window.frames[it.startTime] = Math.max(window.frames[it.startTime] || 0, it.duration); }))
         .observe({ type: 'event', durationThreshold: 16 }); })()"""
+OPENED = "document.querySelector('#share-note').innerText.includes('64 commands')"
 LIT = """[...document.querySelectorAll('#table tbody tr')].filter(row =>
     row.querySelectorAll('td.cell')[{column}].className === 'cell seen').length"""
 
@@ -36,9 +39,7 @@ def try_speed(trial):
         profile, session = many()
         for selector, text in (("#share-profile", profile), ("#share-session", session)):
             tab.value(f"document.querySelector('{selector}').value = {json.dumps(text)}")
-        tab.click("#load")
-        ready = f"document.querySelector('#registrations-sum').innerText === '1,000 entries, {MODULES} modules'"
-        trial.that("1,000 entries and 64 modules are shown", tab.wait(ready, 60), tab.text("#registrations-sum"))
+        try_opening(trial, served, tab)
         choose(tab, "m40")
         seen = "(() => { const it = document.querySelector('.of-module.chosen').getBoundingClientRect(); return it.right <= innerWidth && it.left > 0; })()"
         trial.that("the chosen module's column is in view", tab.value(seen))
@@ -49,10 +50,26 @@ def try_speed(trial):
         tab.close()
 
 
+def try_opening(trial, served, tab):
+    """Opens it. Where more programs run than there are processors, the time of page, server and engine counts alone."""
+    tab.do("Performance.enable", timeDomain="threadTicks")
+    before, of_page, of_server = served.engines(), worked_so_far(tab), seconds_of(served.process.pid)
+    began = time.monotonic()
+    tab.click("#load")
+    shown = tab.wait(f"{OPENED} && document.querySelector('#registrations-sum').innerText === '1,000 entries, {MODULES} modules'", 60 * BUSY)
+    took = (time.monotonic() - began) * 1000
+    trial.that("1,000 entries and 64 modules are shown", shown, tab.text("#registrations-sum"))
+    of_page, of_server = worked_so_far(tab) - of_page, (seconds_of(served.process.pid) - of_server) * 1000
+    of_engine = sum(seconds_of(it) for it in served.engines() if it not in before) * 1000
+    print(f"opened in {took:.0f} ms; work for it: {of_page:.0f} ms in the page, {of_server:.0f} in the server, {of_engine:.0f} in the engine")
+    trial.that(f"opening takes {MOST_OPENING:.0f} ms of work at most", of_page + of_server + of_engine <= MOST_OPENING)
+    if os.getloadavg()[0] < (os.cpu_count() or 1):
+        trial.that(f"opening takes {MOST_OPENING:.0f} ms at most", took <= MOST_OPENING, took)
+
+
 def try_bits(trial, tab, mask):
     """Flips bits of the module m40, each time with as many cells lit as have to be. Each is flipped three times, of which the
     least time counts. Where more programs run than there are processors, the time of the page's own thread counts alone."""
-    tab.do("Performance.enable", timeDomain="threadTicks")
     frames, threads, times = [], [], []
     for number in BITS:
         tried = []
@@ -124,4 +141,4 @@ def try_newcomer(trial):
         tab.close()
     took = time.monotonic() - began
     print(f"from the command to a call of what was denied: {took:.1f} seconds")
-    trial.that("a program does that in less than 30 seconds", took < 30, took)
+    trial.that("a program does that in less than 30 seconds", took < 30 * BUSY, took)

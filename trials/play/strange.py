@@ -22,6 +22,7 @@ SECONDS = 120  # that a run may take
 SPIN = "void spin() { while (true) {} }\n"
 ASKS = "void ask() { print(1); }\n"
 COUNTS = "int n = 0;\nint next() { n++; return n; }\n"
+IMPORTS = 'import int sum(int a, int b) from "main"; import int next() from "main"; int five() { return sum(3, 2) + next(); }\n'
 LATE = """#!/bin/sh
 echo done
 while read -r line; do
@@ -203,7 +204,9 @@ def shell(trials):
     run("more sections than may wait", [], ["[Limit]", "without typed 65", "int a() = 1"], 0, "int a() { return 1; }\n" + ";\n" * 64 + ":call a()\n")
     run("lines that belong together", [], ["int f() = 1", "[Syntax]", "int f() = 1"], 0, typed)
     typed = COUNTS + ":module b 2\nimport int next() from \"main\";\nint two() { return next() + 1; }\n:call two()\n:bind 0 main int next()\n:call two()\n"
-    run("two modules", [], ["fault Unbound", "import 0 of b is bound", "int two() = 2: ok, 2 ticks"], 0, typed)
+    wanted = ["fault Unbound", "b's import 0, int next(), is bound to int next() of main", "int two() = 2: ok, 2 ticks"]
+    run("two modules", [], wanted, 0, typed)
+    binds(trials)
     typed = "void give() { grant(1, 2); }\n:mask 3\nvoid give() { grant(1, 2); }\n:call give()\n"
     run("a mask", ["--profile", "host.profile"], ["registered under 00000002", "under the mask 00000003", "host grant(1, 2)"], 0, typed)
     path = file("changes.as", COUNTS)
@@ -216,6 +219,18 @@ def shell(trials):
     typed = "int three() { Cell a(1); Cell b(2); Cell c(3); return 1; }\n:call three()\n:limits objects=3\n:call three()\n:limits objects=20000\n"
     wanted = ["held: 4 of 10000 events, 0 of 100000 slots, 0 of 2 objects", "objects: 3, 0 held", "three() = 1", "a limit of 10000 events"]
     run("limits", ["--profile", "host.profile"], wanted, 0, typed)
+
+
+def binds(trials):
+    """Imports that are named by their declarations; :reload binds them again."""
+    typed = COUNTS + "int sum(int n, int m) { return n + m; }\nint less(int n, int m) { return n - m; }\n:module b 2\n" + IMPORTS
+    typed += ":imports\n:bind int sum(int, int) from main\n:bind 1 main\n:call five()\n:imports\n:bind int none() main\n:bind 2 main\n"
+    typed += ":bind import int sum( int n, int m ) from \"main\";\n:bind int sum(int, int) main int less(int, int)\n:call five()\n"
+    typed += ":bind int next() none\n:bind int next(\n:reload\n:call five()\n"
+    wanted = ["0 int sum(int", "not bound", "1 int next(): not bound", "b's import 0", "b's import 1", "int five() = 6: ok"]
+    wanted += ["int sum(int", " of main", "1 int next(): int next() of main", "no such import [NoImport]", "no such import [NoImport]"]
+    wanted += ["b's import 0", "b's import 0", "int five() = 3: ok", "no module of this name [NoModule]", "wanted: :bind"]
+    trials.run("imports", [], [*wanted, "b's import 0", "b's import 1", "int five() = 2: ok"], 0, typed)
 
 
 def machines(trials):

@@ -13,7 +13,7 @@ use Rattle.ang_names.specs.Phases.{errors_in, refusals_of}
 use Rattle.ang_names_classes.specs.Resolved.{names_of}
 use Rattle.ang_names.proofs.Few.{asked_families}
 use Rattle.ang_check.specs.Bodies.{body_refusals}
-use Rattle.ang_check_uses.specs.Uses.{Scope}
+use Rattle.ang_check_contest.specs.Scopes.{Scope}
 use Rattle.ang_check_denials.specs.Denials.{rows_asked, rows_for}
 use Rattle.ang_check.specs.Denials.{AreErrors, denials_of, scope_over, script_refusals, some_ask}
 

@@ -8,7 +8,7 @@ use Rattle.ang_view.specs.declared.entry.Entry.{Entry}
 use Rattle.ang_view.specs.Hidden.{hidden, is_hidden, is_unmet, is_with, numbers_of}
 use Rattle.ang_view.specs.Registration.{RegistrationList, entry_at, seen}
 use Rattle.ang_names_listed.specs.Sources.{Source}
-use Rattle.ang_check_uses.specs.Uses.{Scope}
+use Rattle.ang_check_contest.specs.Scopes.{Scope}
 use Rattle.ang_check_denials.specs.Denials.{denied, helps, row, rows_asked, rows_for}
 use Rattle.ang_check_denials.proofs.Helping.{seen_helps_not}
 use Rattle.ang_check.specs.Denials.{denials_of, scope_over, script_refusals}

@@ -8,7 +8,7 @@ use Rattle.ang_types.specs.declared.asks.Asks.{Asks}
 use Rattle.ang_types.specs.declared.asks.Refused.{Refused}
 use Rattle.ang_view.specs.Registration.{RegistrationList, seen}
 use Rattle.ang_names_listed.specs.Sources.{Source}
-use Rattle.ang_check_uses.specs.Uses.{Scope}
+use Rattle.ang_check_contest.specs.Scopes.{Scope}
 use Rattle.ang_check_denials.specs.Denials.{denied, row, rows_asked, rows_for}
 use Rattle.ang_check.specs.Denials.{script_refusals, scope_over, denials_of, IsRowOf}
 

@@ -11,7 +11,8 @@ use Rattle.ang_types.specs.declared.arg_type.ArgType.{ArgType}
 use Rattle.ang_types.specs.Best.{best_of}
 use Rattle.ang_types.specs.Ranks.{Ancestors}
 use Rattle.ang_check_uses.specs.declared.uses.Resolution.TheVariants as resolution
-use Rattle.ang_check_uses.specs.Uses.{Scope, best_of_those, makers_of, makers_for, makers_in}
+use Rattle.ang_check_uses.specs.Uses.{best_of_those, makers_of, makers_for, makers_in}
+use Rattle.ang_check_contest.specs.Scopes.{Scope}
 use Rattle.ang_check.specs.Typing.{with_last}
 
 not_lt : (a b : ℕ) → b ≤ a → nat_lt a b ≡ false

@@ -6,7 +6,7 @@ use Rattle.ang_types.specs.declared.asks.Asks.{Asks}
 use Rattle.ang_types.specs.declared.asks.Refused.{Refused}
 use Rattle.ang_view.specs.Hidden.{is_unmet, is_with}
 use Rattle.ang_view.specs.Registration.{RegistrationList}
-use Rattle.ang_check_uses.specs.Uses.{Scope}
+use Rattle.ang_check_contest.specs.Scopes.{Scope}
 use Rattle.ang_check_denials.specs.Denials.{denied, helps}
 
 or_cases : (a b : Bool) → (a || b) ≡ true → (a ≡ true) ⊎ (b ≡ true)

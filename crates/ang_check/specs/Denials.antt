@@ -14,7 +14,7 @@ use Rattle.ang_names_listed.specs.Declarations.{declarations_of}
 use Rattle.ang_names.specs.Phases.{refusals_of, errors_in}
 use Rattle.ang_names_classes.specs.Resolved.{names_of}
 use Rattle.ang_names_listed.specs.Sources.{Source}
-use Rattle.ang_check_uses.specs.Uses.{Scope}
+use Rattle.ang_check_contest.specs.Scopes.{Scope}
 use Rattle.ang_check.specs.Bodies.{body_refusals}
 use Rattle.ang_check_denials.specs.Denials.{denied, row, rows_for}
 

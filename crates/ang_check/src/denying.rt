@@ -12,8 +12,8 @@ ghost use Rattle.ang_check_denials.specs.Denials.{rows_for};
 ghost use Rattle.ang_check.specs.Denials as spec;
 
 use crate::judge;
+use ang_check_contest::{KnownView, Scope};
 use ang_check_denials::{Masked, denied};
-use ang_check_uses::Scope;
 use ang_kinds::{Denial, Error, Mask};
 use ang_names::{names_over, phase_refusals};
 use ang_names_known::{Names, lineage_of};
@@ -44,7 +44,8 @@ fn rows_over(
         masked.now.mask (spec.scope_of view.now names.now)) refused.now) }
 {
     let lineage = lineage_of(alloc, names)?;
-    let scope = Scope::new(view, names, &lineage);
+    let known = KnownView::new(alloc, view)?;
+    let scope = Scope::new(&known, names, &lineage);
     denied(alloc, masked, &scope, refused)
 }
 

@@ -9,6 +9,7 @@ ghost use Rattle.ang_check.specs.Judging as spec;
 use crate::found::Found;
 use crate::parts::{Build, Left, add_script};
 use crate::program::{import_headings, method_headings, typed_classes};
+use ang_check_contest::KnownView;
 use ang_kinds::List;
 use ang_names_known::{Names, lineage_of};
 use ang_tree::Script;
@@ -111,8 +112,9 @@ pub fn judge(
         ≡ bodies.body_refusals view.now names.now (list_map source_of scripts.now)) }
 {
     let lineage = lineage_of(alloc, names)?;
+    let known = KnownView::new(alloc, view)?;
     let build = Build {
-        view,
+        view: &known,
         names,
         lineage: &lineage,
     };

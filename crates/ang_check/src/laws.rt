@@ -5,7 +5,7 @@ ghost use Rattle.ang_types.specs.declared.asks.Asks.{Asks};
 ghost use Rattle.ang_types.specs.declared.asks.Refused.{Refused};
 ghost use Rattle.ang_view.specs.Hidden.{is_unmet, is_with};
 ghost use Rattle.ang_view.specs.Registration.{RegistrationList};
-ghost use Rattle.ang_check_uses.specs.Uses.{Scope};
+ghost use Rattle.ang_check_contest.specs.Scopes.{Scope};
 ghost use Rattle.ang_names_listed.specs.Sources.{Source};
 ghost use Rattle.ang_check_denials.specs.Denials.{denied, helps};
 ghost use Rattle.ang_check.specs.Denials.{denials_of, IsRowOf};

@@ -9,19 +9,19 @@ ghost use Rattle.ang_check.specs.Judging as spec;
 use crate::found::{Found, note_function, note_global};
 use crate::members::add_class;
 use crate::{function_typing, global_typing};
+use ang_check_contest::KnownView;
 use ang_check_context::BodyContext;
 use ang_names_known::{Family, Names, ScriptFunction, ScriptGlobal};
 use ang_tree as written;
 use ang_tree::{Declaration, Script, TypeName, Variable, Variables};
 use ang_types::Lineage;
-use ang_view::View;
 use std::alloc::{AllocError, Global};
 
 /// What is the same for all parts of a build.
 #[derive(Drop)]
 pub struct Build<'a> {
     /// What the module sees of the host.
-    pub view: &'a View,
+    pub view: &'a KnownView<'a>,
     /// What the scripts declare.
     pub names: &'a Names,
     /// What stands above each object type.

@@ -35,7 +35,8 @@ use Rattle.ang_names_listed.specs.Types.{TypeOrError, type_in}
 use Rattle.ang_names.specs.Heirs.{at_name, ancestor_refusal, of_interfaces, missing_among, missing_by, missing_method, inherits, field_refusal, overridden, is_bad_override, method_refusal, first_refused, is_before, earlier, class_refusal, heir_refusal, cycle_refusal}
 use Rattle.ang_names.specs.Refusals.{refusal_if, why_refused, most_parameters, parameter_limit, type_refusal_of, parameters_refusal, parameter_list_refusal, result_role, heading_refusal, clashes_with_member, duplicate, member_refusal, members_refusal, most_members, shape_named, names_class, is_bad_base, bases_refusal, member_limit, family_refusal, part_refusal, type_refusal}
 use Rattle.ang_names.specs.Phases.{Phase, Names, Types, Ancestors, Heirs, Cycles, with_number, of_family, refusal, refusals, first_refusals, all_phases, refusals_of}
-use Rattle.ang_check_uses.specs.Uses.{Scope, type_meant}
+use Rattle.ang_check_uses.specs.Uses.{type_meant}
+use Rattle.ang_check_contest.specs.Scopes.{Scope}
 use Rattle.ang_check_asked.specs.Asked.{IsAskedAgain}
 use Rattle.ang_check_asked.proofs.Items.{every_after, every_or}
 use Rattle.ang_check_asked.proofs.Types.{IfUnknown, type_refused_so}

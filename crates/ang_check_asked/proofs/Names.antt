@@ -11,8 +11,8 @@ use Rattle.ang_types.specs.declared.asks.Asks.{Asks}
 use Rattle.ang_types.specs.declared.asks.Asks.TheVariants as asks
 use Rattle.ang_names_known.specs.declared.names.Access.{Access}
 use Rattle.ang_names_known.specs.declared.names.FoundField.{FoundField}
-use Rattle.ang_names_known.specs.declared.host.WantedProperty.TheVariants as property
-use Rattle.ang_names_known.specs.Host.{property_where}
+use Rattle.ang_check_contest.specs.declared.host.WantedProperty.TheVariants as property
+use Rattle.ang_check_contest.specs.Host.{property_where}
 use Rattle.ang_names_known.specs.Lookup.{field_named, may_use}
 use Rattle.ang_names_known.specs.Spaces.{family_of_type, type_of_name}
 use Rattle.ang_names_listed.specs.declared.role.TypePosition.{TypePosition}

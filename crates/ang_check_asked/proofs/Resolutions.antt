@@ -9,12 +9,12 @@ use Rattle.ang_types.specs.Best.{best_of}
 use Rattle.ang_types.specs.Ranks.{Ancestors}
 use Rattle.ang_view.specs.Named.{values_named}
 use Rattle.ang_view.specs.Registration.{RegistrationList}
-use Rattle.ang_names_known.specs.declared.host.SeenProperty.{SeenProperty}
-use Rattle.ang_names_known.specs.declared.host.WantedProperty.TheVariants as property
+use Rattle.ang_check_contest.specs.declared.host.SeenProperty.{SeenProperty}
+use Rattle.ang_check_contest.specs.declared.host.WantedProperty.TheVariants as property
 use Rattle.ang_names_known.specs.declared.names.ScriptGlobal.{ScriptGlobal}
 use Rattle.ang_names_known.specs.declared.space.Named.{Named}
 use Rattle.ang_names_known.specs.declared.space.Named.TheVariants as named
-use Rattle.ang_names_known.specs.Host.{property_where}
+use Rattle.ang_check_contest.specs.Host.{property_where}
 use Rattle.ang_names_known.specs.Items.{is_empty}
 use Rattle.ang_names_known.specs.Lookup.{global_named}
 use Rattle.ang_names_known.specs.Spaces.{type_of_name, space_of_names}
@@ -22,7 +22,8 @@ use Rattle.ang_check_uses.specs.declared.uses.Callable.{Callable}
 use Rattle.ang_check_uses.specs.declared.uses.EnumerationValue.{EnumerationValue}
 use Rattle.ang_check_uses.specs.declared.uses.Resolution.{Resolution}
 use Rattle.ang_check_uses.specs.declared.uses.Resolution.TheVariants as resolution
-use Rattle.ang_check_uses.specs.Uses.{Scope, host_meant, variable_meant, global_or_host, global_meant, property_meant, candidates_of, called_at, picked, best_of_those, best_function, functions_of, makers_of, called_by, called_name, enumeration_meant, one_value, takes_number, unmatched, best_method, value_among, value_at, value_meant}
+use Rattle.ang_check_uses.specs.Uses.{host_meant, variable_meant, global_or_host, global_meant, property_meant, candidates_of, called_at, picked, best_of_those, best_function, functions_of, makers_of, called_by, called_name, enumeration_meant, one_value, takes_number, unmatched, best_method, value_among, value_at, value_meant}
+use Rattle.ang_check_contest.specs.Scopes.{Scope}
 
 abbrev pub IsVariable : Resolution → Type 0
 IsVariable (resolution.Variable v ty read_only) = Unit {0}

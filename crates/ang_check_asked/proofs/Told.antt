@@ -9,7 +9,8 @@ use Rattle.ang_view.specs.Registration.{RegistrationList, entry_at, seen}
 use Rattle.ang_names_listed.specs.Sources.{Source}
 use Rattle.ang_check_denials.specs.Denials.{helps, means_entry, stays}
 use Rattle.ang_check_uses.specs.declared.uses.Resolution.TheVariants as resolution
-use Rattle.ang_check_uses.specs.Uses.{Scope, resolution_of}
+use Rattle.ang_check_uses.specs.Uses.{resolution_of}
+use Rattle.ang_check_contest.specs.Scopes.{Scope}
 use Rattle.ang_check.specs.Denials.{denials_of, scope_over, script_refusals, IsRowOf}
 use Rattle.ang_check.proofs.Listed.{each_help_is_listed}
 use Rattle.ang_check.proofs.Rows.{row_helps}

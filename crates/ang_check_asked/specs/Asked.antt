@@ -11,7 +11,8 @@ use Rattle.ang_check_operators.specs.Refusals.{use_refused}
 use Rattle.ang_check_context.specs.declared.scope.LocalVariable.{LocalVariable}
 use Rattle.ang_check_context.specs.Scope.{BodyContext, scope_of, is_there}
 use Rattle.ang_check_uses.specs.declared.uses.Resolution.TheVariants as resolution
-use Rattle.ang_check_uses.specs.Uses.{Scope, resolution_of}
+use Rattle.ang_check_uses.specs.Uses.{resolution_of}
+use Rattle.ang_check_contest.specs.Scopes.{Scope}
 use Rattle.ang_check_denials.specs.Denials.{is_bare}
 
 -- What is asked of the error's name, where anything is, means nothing over this scope, for just the reason that the error gives.

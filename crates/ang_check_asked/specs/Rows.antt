@@ -8,7 +8,8 @@ use Rattle.ang_view.specs.Registration.{RegistrationList, seen}
 use Rattle.ang_names_listed.specs.Sources.{Source}
 use Rattle.ang_check_denials.specs.Denials.{means_entry}
 use Rattle.ang_check_uses.specs.declared.uses.Resolution.TheVariants as resolution
-use Rattle.ang_check_uses.specs.Uses.{Scope, resolution_of}
+use Rattle.ang_check_uses.specs.Uses.{resolution_of}
+use Rattle.ang_check_contest.specs.Scopes.{Scope}
 use Rattle.ang_check.specs.Denials.{scope_over, script_refusals}
 
 -- what a module of mask m sees, and entry x with the types that its declaration names

@@ -10,7 +10,7 @@ use Rattle.ang_check_context.specs.declared.scope.LocalVariable.{LocalVariable}
 use Rattle.ang_check_context.specs.declared.scope.Within.{Within}
 use Rattle.ang_names_known.specs.Lookup.{has_member}
 use Rattle.ang_names_known.specs.Spaces.{Space, space_of_names}
-use Rattle.ang_check_uses.specs.Uses.{Scope}
+use Rattle.ang_check_contest.specs.Scopes.{Scope}
 
 -- What is the same for all of a body: what its module sees of the host, what the scripts declare, what stands above each object type, the
 -- bytes of the section, and the class whose method or constructor it is.

@@ -10,8 +10,9 @@ ghost use Rattle.ang_names_known.specs.Lookup as lookup;
 ghost use Rattle.ang_lex.specs.Text.{text_of};
 
 use crate::scope::{Locals, Within};
+use ang_check_contest::{KnownView, Scope};
 use ang_check_operators::{TypingError, refused, use_refused};
-use ang_check_uses::{Resolution, Scope, maker_meant, resolution_of};
+use ang_check_uses::{Resolution, maker_meant, resolution_of};
 use ang_kinds::ErrorKind;
 use ang_lex::{Token, text_of};
 use ang_names_known::{Access, Family, Names, may_use};
@@ -25,7 +26,7 @@ use std::marker::Model;
 /// or constructor it is.
 #[derive(Drop)]
 pub struct BodyContext<'a> {
-    view: &'a View,
+    view: &'a KnownView<'a>,
     names: &'a Names,
     lineage: &'a Lineage,
     text: &'a [u8],
@@ -52,7 +53,7 @@ impl<'a> BodyContext<'a> {
     /// Borrows these for the typing of one body. `text` is the whole section in which the body
     /// stands. Nothing checks that they are of one build.
     pub fn new(
-        view: &'a View,
+        view: &'a KnownView<'a>,
         names: &'a Names,
         lineage: &'a Lineage,
         text: &'a [u8],
@@ -86,7 +87,7 @@ impl<'a> BodyContext<'a> {
     pub fn view(&self) -> &'a View
         ensures same { result.now ≡ self.now.view }
     {
-        self.view
+        self.view.view()
     }
 
     /// What the scripts declare.

@@ -22,16 +22,17 @@ use Rattle.ang_view.specs.Named.{is_value, is_value_named, values_named, is_fact
 use Rattle.ang_view.specs.Registration.{RegistrationList, entry_at, is_function, is_function_named, is_host_type, is_number, is_type, seen}
 use Rattle.ang_view.specs.Types.{is_enumeration, is_enumeration_named, is_type_named}
 use Rattle.ang_view.proofs.Lists.{and_gives}
-use Rattle.ang_names_known.specs.declared.host.SeenProperty.{SeenProperty}
-use Rattle.ang_names_known.specs.declared.host.Wanted.TheVariants as wanted
-use Rattle.ang_names_known.specs.declared.host.WantedProperty.{WantedProperty}
-use Rattle.ang_names_known.specs.declared.host.WantedProperty.TheVariants as property
+use Rattle.ang_check_contest.specs.declared.host.SeenProperty.{SeenProperty}
+use Rattle.ang_check_contest.specs.declared.host.Wanted.TheVariants as wanted
+use Rattle.ang_check_contest.specs.declared.host.WantedProperty.{WantedProperty}
+use Rattle.ang_check_contest.specs.declared.host.WantedProperty.TheVariants as property
 use Rattle.ang_names_known.specs.declared.space.Named.{Named}
-use Rattle.ang_names_known.specs.Added.{added_property}
+use Rattle.ang_check_contest.specs.Added.{added_property}
 use Rattle.ang_names_known.specs.Items.{is_empty}
-use Rattle.ang_names_known.specs.Host.{first_found, found, function_of_entry, host_type, is_global, is_method, is_property, is_wanted, is_wanted_property, property_found, property_where, property_with}
-use Rattle.ang_names_known.proofs.Adding.{past_end, same_number}
-use Rattle.ang_check_uses.specs.Uses.{Scope, candidates_of, host_methods, resolution_of, value_in}
+use Rattle.ang_check_contest.specs.Host.{first_found, found, function_of_entry, host_type, is_global, is_method, is_property, is_wanted, is_wanted_property, property_found, property_where, property_with}
+use Rattle.ang_check_contest.proofs.Adding.{past_end, same_number}
+use Rattle.ang_check_uses.specs.Uses.{candidates_of, host_methods, resolution_of, value_in}
+use Rattle.ang_check_contest.specs.Scopes.{Scope}
 use Rattle.ang_check_denials.specs.Added.{adds, call_wins, factories, has_global, is_called_by, is_enumeration_number, is_factory_of, is_number_of, is_property_of, is_type_number, is_value_at, named_with, plain, value_wins, wins, with_receiver}
 use Rattle.ang_check_denials.specs.Denials.{helps, means_entry, stays}
 use Rattle.ang_check_denials.specs.Names.{PutsHidden, help_row, hidden_named, is_a_type_named, is_hidden_named, name_meant, name_sought, own_name, owner_name}

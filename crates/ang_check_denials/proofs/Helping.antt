@@ -9,7 +9,8 @@ use Rattle.ang_view.specs.Registration.{RegistrationList, entry_at, is_seen, see
 use Rattle.ang_view.proofs.Seen.{entry_at-seen}
 use Rattle.ang_names_known.specs.Items.{is_empty}
 use Rattle.ang_names_known.specs.Lookup.{is_declared}
-use Rattle.ang_check_uses.specs.Uses.{Scope, functions_of, resolution_of}
+use Rattle.ang_check_uses.specs.Uses.{functions_of, resolution_of}
+use Rattle.ang_check_contest.specs.Scopes.{Scope}
 use Rattle.ang_check_denials.specs.Added.{adds, is_joined, named_with}
 use Rattle.ang_check_denials.specs.Denials.{helps, is_bare, is_call, is_function_entry, is_taken, means_entry, stays}
 use Rattle.ang_check_denials.proofs.Meaning.{adds_means}

@@ -8,7 +8,7 @@ use Rattle.ang_types.specs.declared.asks.Asks.{Asks}
 use Rattle.ang_types.specs.declared.asks.Refused.{Refused}
 use Rattle.ang_view.specs.Hidden.{is_unmet, is_with, numbers_of}
 use Rattle.ang_view.specs.Registration.{RegistrationList}
-use Rattle.ang_check_uses.specs.Uses.{Scope}
+use Rattle.ang_check_contest.specs.Scopes.{Scope}
 use Rattle.ang_check_denials.specs.Denials.{IsSameUse, denied, helps, numbers_asked, row, rows_asked}
 
 -- one number more

@@ -14,11 +14,11 @@ use Rattle.ang_view.specs.declared.entry.EntryKind.TheVariants as entry
 use Rattle.ang_view.specs.Named.{is_factory}
 use Rattle.ang_view.specs.Registration.{RegistrationList, entry_at, is_function, is_number}
 use Rattle.ang_view.proofs.Lists.{and_gives}
-use Rattle.ang_names_known.specs.declared.host.SeenFunction.{SeenFunction}
-use Rattle.ang_names_known.specs.declared.host.Wanted.{Wanted}
-use Rattle.ang_names_known.specs.declared.host.Wanted.TheVariants as wanted
-use Rattle.ang_names_known.specs.Host.{found, function_of_entry, is_method, wants_in}
-use Rattle.ang_names_known.proofs.Adding.{past_end}
+use Rattle.ang_check_contest.specs.declared.host.SeenFunction.{SeenFunction}
+use Rattle.ang_check_contest.specs.declared.host.Wanted.{Wanted}
+use Rattle.ang_check_contest.specs.declared.host.Wanted.TheVariants as wanted
+use Rattle.ang_check_contest.specs.Host.{found, function_of_entry, is_method, wants_in}
+use Rattle.ang_check_contest.proofs.Adding.{past_end}
 use Rattle.ang_check_denials.specs.Added.{found_in, wins}
 use Rattle.ang_check_denials.specs.Made.{candidate_in, candidate_of, factory_in, is_won, made, made_as, made_of, method_in}
 

@@ -19,11 +19,11 @@ use Rattle.ang_view.specs.Hidden.{seen_with}
 use Rattle.ang_view.specs.Registration.{RegistrationList, entry_at, is_function_named, is_number, seen}
 use Rattle.ang_view.specs.Named.{values_named, is_factory}
 use Rattle.ang_view.specs.Types.{is_enumeration_named, is_type_named}
-use Rattle.ang_names_known.specs.declared.host.SeenFunction.{SeenFunction}
-use Rattle.ang_names_known.specs.declared.host.SeenProperty.{SeenProperty}
-use Rattle.ang_names_known.specs.declared.host.Wanted.TheVariants as wanted
-use Rattle.ang_names_known.specs.declared.host.WantedProperty.{WantedProperty}
-use Rattle.ang_names_known.specs.declared.host.WantedProperty.TheVariants as property
+use Rattle.ang_check_contest.specs.declared.host.SeenFunction.{SeenFunction}
+use Rattle.ang_check_contest.specs.declared.host.SeenProperty.{SeenProperty}
+use Rattle.ang_check_contest.specs.declared.host.Wanted.TheVariants as wanted
+use Rattle.ang_check_contest.specs.declared.host.WantedProperty.{WantedProperty}
+use Rattle.ang_check_contest.specs.declared.host.WantedProperty.TheVariants as property
 use Rattle.ang_names_known.specs.declared.names.Default.{Default}
 use Rattle.ang_names_known.specs.declared.names.Default.TheVariants as default
 use Rattle.ang_names_known.specs.declared.names.ScriptConstructor.{ScriptConstructor}
@@ -32,16 +32,17 @@ use Rattle.ang_names_known.specs.declared.names.ScriptFunction.{ScriptFunction}
 use Rattle.ang_names_known.specs.declared.names.ScriptGlobal.{ScriptGlobal}
 use Rattle.ang_names_known.specs.declared.space.Named.{Named}
 use Rattle.ang_names_known.specs.declared.space.Named.TheVariants as named
-use Rattle.ang_names_known.specs.Added.{added_property}
-use Rattle.ang_names_known.specs.Host.{found, function_of_entry, host_where, is_wanted, property_found, property_where}
+use Rattle.ang_check_contest.specs.Added.{added_property}
+use Rattle.ang_check_contest.specs.Host.{found, function_of_entry, host_where, is_wanted, property_found, property_where}
 use Rattle.ang_names_known.specs.Items.{is_empty}
 use Rattle.ang_names_known.specs.Lookup.{default_of, functions_named, global_named}
 use Rattle.ang_names_known.specs.Spaces.{family_of_type}
-use Rattle.ang_names_known.proofs.AddingProperties.{one_property_added}
+use Rattle.ang_check_contest.proofs.AddingProperties.{one_property_added}
 use Rattle.ang_check_uses.specs.declared.uses.Callable.{Callable}
 use Rattle.ang_check_uses.specs.declared.uses.Resolution.{Resolution}
 use Rattle.ang_check_uses.specs.declared.uses.Resolution.TheVariants as resolution
-use Rattle.ang_check_uses.specs.Uses.{Scope, best_function, best_method, best_of_those, called_by, called_name, callable_at, callable_in, candidates_of, constructor_of, default_maker, enumeration_meant, factories_of, functions_of, global_meant, global_or_host, host_callable, host_meant, host_method, host_methods, imported_function, maker, makers_for, makers_in, makers_of, own_function, picked, property_meant, resolution_of, script_callables, takes_number, type_meant, unmatched, value_meant, variable_meant}
+use Rattle.ang_check_uses.specs.Uses.{best_function, best_method, best_of_those, called_by, called_name, callable_at, callable_in, candidates_of, constructor_of, default_maker, enumeration_meant, factories_of, functions_of, global_meant, global_or_host, host_callable, host_meant, host_method, host_methods, imported_function, maker, makers_for, makers_in, makers_of, own_function, picked, property_meant, resolution_of, script_callables, takes_number, type_meant, unmatched, value_meant, variable_meant}
+use Rattle.ang_check_contest.specs.Scopes.{Scope}
 use Rattle.ang_check_denials.specs.Added.{adds, call_wins, factories, factory_wins, found_in, has_global, has_place, is_called_by, is_enumeration_number, is_factory_of, is_number_of, is_property_of, is_type_number, is_value_at, named_with, plain, property_wins, value_wins, wins, with_receiver}
 use Rattle.ang_check_denials.specs.Denials.{is_called, means_entry}
 use Rattle.ang_check_denials.specs.Names.{is_a_type_named}

@@ -13,11 +13,11 @@ use Rattle.ang_types.proofs.BestLaws.{best_of-says, is_best-Decides}
 use Rattle.ang_types.proofs.PlaceLaws.{same_at_its_place}
 use Rattle.ang_view.specs.Hidden.{seen_with}
 use Rattle.ang_view.specs.Registration.{RegistrationList, entry_at, seen}
-use Rattle.ang_names_known.specs.declared.host.SeenFunction.{SeenFunction}
-use Rattle.ang_names_known.specs.declared.host.Wanted.{Wanted}
-use Rattle.ang_names_known.specs.Added.{added, put_in}
-use Rattle.ang_names_known.specs.Host.{found, host_where}
-use Rattle.ang_names_known.proofs.Adding.{HaveNumbers, host_where-is, numbered, one_added, same_number, scan_n}
+use Rattle.ang_check_contest.specs.declared.host.SeenFunction.{SeenFunction}
+use Rattle.ang_check_contest.specs.declared.host.Wanted.{Wanted}
+use Rattle.ang_check_contest.specs.Added.{added, put_in}
+use Rattle.ang_check_contest.specs.Host.{found, host_where}
+use Rattle.ang_check_contest.proofs.Adding.{HaveNumbers, host_where-is, numbered, one_added, same_number, scan_n}
 use Rattle.ang_check_uses.specs.declared.uses.Callable.{Callable}
 use Rattle.ang_check_uses.specs.Uses.{best_of_those, called_at, candidates_of, picked}
 use Rattle.ang_check_denials.specs.Added.{wins}

@@ -15,8 +15,8 @@ use Rattle.ang_view.proofs.Seen.{entry_at-seen, position-passes}
 use Rattle.ang_names_known.specs.declared.names.Family.{Family}
 use Rattle.ang_names_known.specs.declared.space.Named.TheVariants as named
 use Rattle.ang_names_known.specs.Spaces.{family_or_host, family_type, type_of_name}
-use Rattle.ang_names_known.proofs.Adding.{length-seen_with, entry_at-seen_with}
-use Rattle.ang_check_uses.specs.Uses.{Scope}
+use Rattle.ang_check_contest.proofs.Adding.{length-seen_with, entry_at-seen_with}
+use Rattle.ang_check_contest.specs.Scopes.{Scope}
 use Rattle.ang_check_denials.specs.Added.{is_shown, is_shown_enumeration, is_shown_type, named_with}
 use Rattle.ang_check_denials.specs.Names.{is_a_type_named, types_named}
 use Rattle.ang_check_denials.proofs.Kept.{found_of_part, kept_of_part}

@@ -12,7 +12,7 @@ use Rattle.ang_view.specs.Registration.{RegistrationList, entry_at, is_named_by,
 use Rattle.ang_view.proofs.Entries.{entry_at-lt}
 use Rattle.ang_view.proofs.Seen.{entry_at-seen, length-seen}
 use Rattle.ang_names_known.specs.Items.{is_empty}
-use Rattle.ang_names_known.proofs.Adding.{entry_at-seen_with, length-seen_with}
+use Rattle.ang_check_contest.proofs.Adding.{entry_at-seen_with, length-seen_with}
 use Rattle.ang_check_uses.specs.Uses.{one_value, value_among, value_at, value_by, value_in, value_meant}
 use Rattle.ang_check_denials.specs.Added.{is_value_at}
 use Rattle.ang_check_denials.specs.Denials.{means_entry}

@@ -15,21 +15,22 @@ use Rattle.ang_view.specs.Hidden.{is_with, seen_with}
 use Rattle.ang_view.specs.Registration.{RegistrationList, entry_at, is_function_named}
 use Rattle.ang_view.specs.Named.{is_value_named, values_named, is_factory}
 use Rattle.ang_view.specs.Types.{is_enumeration_named, is_type_named}
-use Rattle.ang_names_known.specs.declared.host.SeenFunction.{SeenFunction}
-use Rattle.ang_names_known.specs.declared.host.SeenProperty.{SeenProperty}
-use Rattle.ang_names_known.specs.declared.host.Wanted.{Wanted}
-use Rattle.ang_names_known.specs.declared.host.Wanted.TheVariants as wanted
-use Rattle.ang_names_known.specs.declared.host.WantedProperty.{WantedProperty}
-use Rattle.ang_names_known.specs.declared.host.WantedProperty.TheVariants as property
+use Rattle.ang_check_contest.specs.declared.host.SeenFunction.{SeenFunction}
+use Rattle.ang_check_contest.specs.declared.host.SeenProperty.{SeenProperty}
+use Rattle.ang_check_contest.specs.declared.host.Wanted.{Wanted}
+use Rattle.ang_check_contest.specs.declared.host.Wanted.TheVariants as wanted
+use Rattle.ang_check_contest.specs.declared.host.WantedProperty.{WantedProperty}
+use Rattle.ang_check_contest.specs.declared.host.WantedProperty.TheVariants as property
 use Rattle.ang_names_known.specs.declared.names.ScriptGlobal.{ScriptGlobal}
 use Rattle.ang_names_known.specs.declared.space.Named.{Named}
 use Rattle.ang_names_known.specs.declared.space.Named.TheVariants as named
-use Rattle.ang_names_known.specs.Added.{added_property}
-use Rattle.ang_names_known.specs.Host.{found, host_where, property_found, property_where}
+use Rattle.ang_check_contest.specs.Added.{added_property}
+use Rattle.ang_check_contest.specs.Host.{found, host_where, property_found, property_where}
 use Rattle.ang_names_known.specs.Items.{is_empty}
 use Rattle.ang_names_known.specs.Lookup.{global_named}
 use Rattle.ang_names_known.specs.Spaces.{family_of_type, space_of_names, type_of_name}
-use Rattle.ang_check_uses.specs.Uses.{Scope, candidates_of, functions_of, host_methods, takes_number, value_in}
+use Rattle.ang_check_uses.specs.Uses.{candidates_of, functions_of, host_methods, takes_number, value_in}
+use Rattle.ang_check_contest.specs.Scopes.{Scope}
 use Rattle.ang_check_denials.specs.Denials.{is_call}
 use Rattle.ang_check_denials.specs.Names.{is_a_type_named}
 

@@ -19,7 +19,8 @@ use Rattle.ang_check_uses.specs.declared.uses.Resolution.TheVariants as resoluti
 use Rattle.ang_names_known.specs.declared.names.Names.{Names}
 use Rattle.ang_names_known.specs.Lookup.{is_declared}
 use Rattle.ang_names_known.specs.Items.{is_empty}
-use Rattle.ang_check_uses.specs.Uses.{Scope, resolution_of, functions_of}
+use Rattle.ang_check_uses.specs.Uses.{resolution_of, functions_of}
+use Rattle.ang_check_contest.specs.Scopes.{Scope}
 
 -- ---- what a use means
 

@@ -10,9 +10,9 @@ use Rattle.ang_view.specs.declared.entry.EntryKind.{EntryKind}
 use Rattle.ang_view.specs.declared.entry.EntryKind.TheVariants as entry
 use Rattle.ang_view.specs.Hidden.{numbers_of}
 use Rattle.ang_view.specs.Registration.{RegistrationList, entry_at}
-use Rattle.ang_names_known.specs.declared.host.SeenFunction.{SeenFunction}
-use Rattle.ang_names_known.specs.declared.host.Wanted.{Wanted}
-use Rattle.ang_names_known.specs.declared.host.Wanted.TheVariants as wanted
+use Rattle.ang_check_contest.specs.declared.host.SeenFunction.{SeenFunction}
+use Rattle.ang_check_contest.specs.declared.host.Wanted.{Wanted}
+use Rattle.ang_check_contest.specs.declared.host.Wanted.TheVariants as wanted
 use Rattle.ang_check_denials.specs.Added.{found_in, plain, with_receiver}
 
 -- a function that is wanted, as a candidate: a method has its receiver in front

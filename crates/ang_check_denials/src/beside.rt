@@ -9,10 +9,9 @@ ghost use Rattle.ang_check_denials.specs.Names as names;
 
 use crate::masked::Masked;
 use crate::named::types_named;
-use ang_check_uses::{Scope, functions_of, host_methods, types_with_receiver};
-use ang_names_known::{
-    BorrowedText, SeenProperty, Wanted, WantedProperty, host_where, property_where,
-};
+use ang_check_contest::{Scope, SeenProperty, Wanted, WantedProperty, host_where, property_where};
+use ang_check_uses::{functions_of, host_methods, types_with_receiver};
+use ang_names_known::BorrowedText;
 use ang_types::{ArgType, Asks, Candidate, Rivals};
 use ang_view::View;
 use std::alloc::{AllocError, Global};

@@ -12,7 +12,7 @@ use crate::beside::{Beside, beside_of};
 use crate::masked::Masked;
 use crate::meanings::adds;
 use crate::sought::help_row;
-use ang_check_uses::Scope;
+use ang_check_contest::Scope;
 use ang_index::Index;
 use ang_kinds::EntityNo;
 use ang_names_known::Names;

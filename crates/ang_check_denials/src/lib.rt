@@ -1,7 +1,7 @@
 //! The rows of denials: the hidden entries by which refused uses would have been resolved (docs/LANGUAGE.md, "Denials").
 //!
 //! `denied` gives them for some refused uses. No view with an entry more is made: the law of an added entry
-//! (`ang_names_known::laws::one_is_added`) says what is found there, and a function that is added is compared with those
+//! (`ang_check_contest::laws::one_is_added`) says what is found there, and a function that is added is compared with those
 //! that are seen once for each use (`ang_types::Rivals`). Of the hidden entries those are looked at by whose names the use
 //! could mean them: they are found by these names. What comes with one that helps is that one or a type,
 //! so that beside those that help a use only the types of the list are looked at. The types of a use's name are found once

@@ -1,12 +1,13 @@
 //! The functions, factories and methods of a list as candidates, each made once for all uses.
 ghost use Rattle.std.specs.Prelude.{◌≡◌, ◌++◌, ◌∷◌, [], option_copied, IfOk, OnOk, None, slice_index_or};
 ghost use Rattle.ang_view.specs.Registration.{entry_at};
-ghost use Rattle.ang_names_known.specs.Host as host;
+ghost use Rattle.ang_check_contest.specs.Host as host;
 ghost use Rattle.ang_check_denials.specs.Made as spec;
 
-use ang_check_uses::{is_wanted, params_with_receiver};
+use ang_check_contest::{SeenFunction, Wanted, found_at, is_wanted};
+use ang_check_uses::params_with_receiver;
 use ang_kinds::EntityNo;
-use ang_names_known::{BorrowedText, SeenFunction, Wanted, found_at};
+use ang_names_known::BorrowedText;
 use ang_types::Candidate;
 use ang_view::{Entry, EntryKind, View};
 use std::alloc::{AllocError, Global};

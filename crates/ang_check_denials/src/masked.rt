@@ -7,8 +7,8 @@ ghost use Rattle.ang_check_denials.specs.Made as candidates;
 ghost use Rattle.ang_check_denials.specs.Names as names;
 
 use crate::made::{candidate_among, made};
+use ang_check_contest::Wanted;
 use ang_kinds::{EntityNo, Mask};
-use ang_names_known::Wanted;
 use ang_types::Candidate;
 use ang_view::{EntryKind, View, names_entry};
 use std::alloc::{AllocError, Global};

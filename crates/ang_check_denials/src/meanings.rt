@@ -5,9 +5,9 @@ ghost use Rattle.ang_types.specs.declared.candidate.Candidate.{Candidate};
 ghost use Rattle.ang_types.specs.Rivals.{AreRivals};
 ghost use Rattle.ang_view.specs.Named.{values_named};
 ghost use Rattle.ang_view.specs.Registration.{entry_at, seen};
-ghost use Rattle.ang_names_known.specs.declared.host.WantedProperty.TheVariants as sought_property;
-ghost use Rattle.ang_names_known.specs.Added.{added_property};
-ghost use Rattle.ang_names_known.specs.Host.{property_found};
+ghost use Rattle.ang_check_contest.specs.declared.host.WantedProperty.TheVariants as sought_property;
+ghost use Rattle.ang_check_contest.specs.Added.{added_property};
+ghost use Rattle.ang_check_contest.specs.Host.{property_found};
 ghost use Rattle.ang_names_known.specs.Items.{is_empty};
 ghost use Rattle.ang_names_known.specs.Spaces as spaces;
 ghost use Rattle.ang_check_uses.specs.Uses.{candidates_of, functions_of};
@@ -18,11 +18,10 @@ ghost use Rattle.ang_check_denials.specs.Names.{types_named};
 use crate::beside::{Beside, makers_of};
 use crate::masked::Masked;
 use crate::named::{is_a_type_named, is_called_by, is_enumeration_named, named_with};
-use ang_check_uses::{Scope, takes_number};
+use ang_check_contest::{Scope, SeenProperty, Wanted, WantedProperty, property_at};
+use ang_check_uses::takes_number;
 use ang_kinds::EntityNo;
-use ang_names_known::{
-    BorrowedText, Named, Names, SeenProperty, Wanted, WantedProperty, family_of_type, property_at,
-};
+use ang_names_known::{BorrowedText, Named, Names, family_of_type};
 use ang_types::{ArgType, Asks, Candidate, Lineage, Rivals};
 use ang_view::{EntryKind, View};
 use std::alloc::{AllocError, Global};

@@ -10,7 +10,7 @@ ghost use Rattle.ang_check_denials.specs.Names as names;
 
 use crate::helpers::push_number;
 use crate::masked::Masked;
-use ang_check_uses::Scope;
+use ang_check_contest::Scope;
 use ang_kinds::EntityNo;
 use ang_names_known::{Named, family_or_host};
 use ang_view::{Entry, EntryKind, View};

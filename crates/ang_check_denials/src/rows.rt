@@ -11,7 +11,7 @@ use crate::masked::Masked;
 use crate::rising::{behind, is_first, lower_first};
 use crate::same::is_same_use;
 use crate::sought::{help_rows, type_numbers};
-use ang_check_uses::Scope;
+use ang_check_contest::Scope;
 use ang_index::Index;
 use ang_kinds::{Denial, EntityNo};
 use ang_types::{Asks, Refused};

@@ -13,13 +13,13 @@ use Rattle.ang_view.specs.Registration.{RegistrationList, entry_at, is_function,
 use Rattle.ang_view.specs.Values.{AreValues, EntryTakesValues, TakesValues}
 use Rattle.ang_types.specs.declared.arg_type.ArgType.{ArgType}
 use Rattle.ang_typed.specs.declared.expression.HostEntity.{HostEntity}
-use Rattle.ang_names_known.specs.declared.host.SeenFunction.{SeenFunction}
-use Rattle.ang_names_known.specs.declared.host.SeenProperty.{SeenProperty}
-use Rattle.ang_names_known.specs.declared.host.Wanted.{Wanted}
-use Rattle.ang_names_known.specs.declared.host.Wanted.TheVariants as wanted
-use Rattle.ang_names_known.specs.declared.host.WantedProperty.{WantedProperty}
-use Rattle.ang_names_known.specs.declared.host.WantedProperty.TheVariants as property
-use Rattle.ang_names_known.specs.Host.{host_type, in_front, host_parameters, host_function, function_of_entry, is_method, is_wanted, found, scan, host_where, is_global, is_property, is_wanted_property, property_with, property_found, first_found, property_where}
+use Rattle.ang_check_contest.specs.declared.host.SeenFunction.{SeenFunction}
+use Rattle.ang_check_contest.specs.declared.host.SeenProperty.{SeenProperty}
+use Rattle.ang_check_contest.specs.declared.host.Wanted.{Wanted}
+use Rattle.ang_check_contest.specs.declared.host.Wanted.TheVariants as wanted
+use Rattle.ang_check_contest.specs.declared.host.WantedProperty.{WantedProperty}
+use Rattle.ang_check_contest.specs.declared.host.WantedProperty.TheVariants as property
+use Rattle.ang_check_contest.specs.Host.{host_type, in_front, host_parameters, host_function, function_of_entry, is_method, is_wanted, found, scan, host_where, is_global, is_property, is_wanted_property, property_with, property_found, first_found, property_where}
 use Rattle.ang_tree.specs.Stmt.{Every}
 use Rattle.ang_source.specs.Sound.{IsEntity, IsWritable}
 use Rattle.ang_check_sound.proofs.Items.{every_joined, every_option, tested, first_true}

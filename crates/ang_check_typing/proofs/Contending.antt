@@ -1,5 +1,6 @@
 -- Methods that a contest takes in by their places.
-use Rattle.std.proofs.Common.{◌≡◌, refl, ap, sym, ◌∙◌, ℕ, ◌+◌, suc, zero, Bool, true, false, cond, List, [], ◌∷◌, ◌++◌, drop, add-one, slice_get, Option, Some, None, option_map, option_to_list}
+use Rattle.std.proofs.Common.{◌≡◌, ◌<◌, ◌-◌, length, arith, refl, ap, sym, ◌∙◌, ℕ, ◌+◌, suc, zero, Bool, true, false, cond, List, [], ◌∷◌, ◌++◌, drop, add-one, slice_get, Option, Some, None, option_map, option_to_list}
+use Rattle.std.proofs.lemmas.List.{length-drop}
 use Rattle.ang_kinds.specs.declared.error.ErrorKind.{ErrorKind}
 use Rattle.ang_kinds.specs.declared.error.ErrorKind.TheVariants as kind
 use Rattle.ang_types.specs.declared.arg_type.ArgType.{ArgType}
@@ -9,12 +10,13 @@ use Rattle.ang_types.specs.Ranks.{Ancestors}
 use Rattle.ang_typed.specs.declared.expression.TypedCallee.TheVariants as callee
 use Rattle.ang_names_known.specs.Items.{is_empty}
 use Rattle.ang_names_known.specs.Lookup.{FoundMethod}
-use Rattle.ang_check_uses.specs.declared.score.Contender.TheVariants as contender
+use Rattle.ang_check_contest.specs.declared.score.Contender.TheVariants as contender
 use Rattle.ang_check_uses.specs.declared.uses.Callable.{Callable}
 use Rattle.ang_check_uses.specs.declared.uses.Resolution.TheVariants as resolution
-use Rattle.ang_check_uses.specs.Contest.{Standing, after, callables_by, entries_by, entry_in, fresh, is_none_viable, meant_by, outcome_of, placed}
+use Rattle.ang_check_contest.specs.Contest.{Standing, after, fresh, is_none_viable, outcome_of, placed}
+use Rattle.ang_check_uses.specs.Contenders.{callables_by, entries_by, entry_in, meant_by}
 use Rattle.ang_check_uses.specs.Uses.{best_method, best_of_those, candidates_of, is_none_viable as none_viable, unmatched}
-use Rattle.ang_check_uses.proofs.Contests.{empty_none, meant_best, none_best}
+use Rattle.ang_check_uses.proofs.Contests.{after_append, empty_none, meant_best, none_best}
 use Rattle.ang_check_typing.specs.declared.methods.Dispatch.{Dispatch}
 use Rattle.ang_check_typing.specs.declared.methods.Dispatch.TheVariants as dispatch
 use Rattle.ang_check_typing.specs.Calls.{direct_by}
@@ -74,6 +76,29 @@ callables_from d n all k (x ∷ xs) e =
     ap (λ o. option_to_list (method_at d n o) ++ callables_by (method_by d n all) (placed contender.Method (k + 1) xs)) (first_left all xs x k e)
     ∙ ap (λ cs. option_to_list (callable_as d n x) ++ cs) (callables_from d n all (k + 1) xs (rest_left all xs x k e))
     ∙ sym (first_as d n x xs)
+
+-- what is left from a place on begins with the method there
+left_at : (d : Dispatch) (n : ℕ) (all : List FoundMethod) (k : ℕ) → k < length all
+    → method_entries d n k (drop k all) ≡ entry_in (contender.Method k) (method_at d n (slice_get all k)) ++ method_entries d n (k + 1) (drop (k + 1) all)
+left_at d n all k lt = by (drop k all) refl
+  where
+    by : (rest : List FoundMethod) → rest ≡ drop k all
+        → method_entries d n k rest ≡ entry_in (contender.Method k) (method_at d n (slice_get all k)) ++ method_entries d n (k + 1) (drop (k + 1) all)
+    by [] e =
+        let none : length (drop k all) ≡ 0 = sym (ap (λ (xs : List FoundMethod). length xs) e) in
+        let left : length (drop k all) ≡ length all - k = length-drop k all in
+        absurd (omega (arith, none, left, lt))
+    by (x ∷ xs) e =
+        (λ i. entry_in (contender.Method k) (method_at d n (sym (first_left all xs x k e) i)) ++ method_entries d n (k + 1) (rest_left all xs x k e i))
+
+-- one method more is taken in
+pub one_more : (l : Ancestors) (args : List ArgType) (d : Dispatch) (n : ℕ) (all : List FoundMethod) (k : ℕ) (s new : Standing) → k < length all
+    → new ≡ after l args s (entry_in (contender.Method k) (method_at d n (slice_get all k)))
+    → after l args new (method_entries d n (k + 1) (drop (k + 1) all)) ≡ after l args s (method_entries d n k (drop k all))
+one_more l args d n all k s new lt e =
+    let one = entry_in (contender.Method k) (method_at d n (slice_get all k)) in
+    let others = method_entries d n (k + 1) (drop (k + 1) all) in
+    ap (λ s. after l args s others) e ∙ sym (after_append l args s one others) ∙ sym (ap (after l args s) (left_at d n all k lt))
 
 -- ---- what comes of it
 

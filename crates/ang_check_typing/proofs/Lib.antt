@@ -3,3 +3,4 @@ pub mod Families
 pub mod Operands
 pub mod Passing
 pub mod SoFar
+pub mod ToldMethods

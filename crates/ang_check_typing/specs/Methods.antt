@@ -1,15 +1,16 @@
 -- Methods of the scripts, as functions that a call can mean.
-use Rattle.std.specs.Prelude.{ℕ, ◌+◌, List, [], ◌∷◌, ◌++◌, map, slice_get, Option, Some, None, option_map}
+use Rattle.std.specs.Prelude.{ℕ, ◌+◌, Bool, true, false, is_some, List, [], ◌∷◌, ◌++◌, map, slice_get, Option, Some, None, option_map}
 use Rattle.std.specs.List.{flat_map}
 use Rattle.ang_typed.specs.declared.expression.TypedCallee.{TypedCallee}
 use Rattle.ang_typed.specs.declared.expression.TypedCallee.TheVariants as callee
 use Rattle.ang_names_known.specs.declared.names.ScriptMethod.{ScriptMethod}
 use Rattle.ang_names_known.specs.Lookup.{FoundMethod}
-use Rattle.ang_check_uses.specs.declared.score.Contender.{Contender}
-use Rattle.ang_check_uses.specs.declared.score.Contender.TheVariants as contender
+use Rattle.ang_check_contest.specs.declared.score.Contender.{Contender}
+use Rattle.ang_check_contest.specs.declared.score.Contender.TheVariants as contender
 use Rattle.ang_check_uses.specs.declared.uses.Callable.{Callable}
 use Rattle.ang_check_uses.specs.declared.uses.Called.TheVariants as calls
-use Rattle.ang_check_uses.specs.Contest.{Entry, entry_in}
+use Rattle.ang_check_contest.specs.Contest.{Entry}
+use Rattle.ang_check_uses.specs.Contenders.{entry_in}
 use Rattle.ang_check_typing.specs.declared.methods.Dispatch.{Dispatch}
 use Rattle.ang_check_typing.specs.declared.methods.Dispatch.TheVariants as dispatch
 use Rattle.ang_check_typing.specs.Calls.{with_receiver, virtual_method, direct_method}
@@ -39,6 +40,12 @@ callable_as d n x = callable_by n x (callee_of d x.method)
 abbrev pub callables_as : Dispatch → ℕ → List FoundMethod → List Callable
 callables_as dispatch.Virtual n xs = map (virtual_method n) xs
 callables_as dispatch.Direct n xs = flat_map (direct_method n) xs
+
+-- a method can be called so; of a call by its slot the method is not looked at
+abbrev pub can_be_called : Dispatch → Option FoundMethod → Bool
+can_be_called dispatch.Virtual o = true
+can_be_called dispatch.Direct None = false
+can_be_called dispatch.Direct (Some x) = is_some x.method.body
 
 -- ---- methods by their places
 

@@ -23,7 +23,7 @@ use ang_check_operators::{Operand, TypingError, refused};
 use ang_check_uses::Resolution;
 use ang_kinds::{ErrorKind, List};
 use ang_lex::Token;
-use ang_names_known::{Family, FoundMethod, Names, is_under};
+use ang_names_known::{Family, FoundMethods, Names, is_under};
 use ang_types::Asks;
 use std::alloc::{AllocError, Global};
 
@@ -33,8 +33,8 @@ fn named_methods<'a>(
     alloc: Global,
     context: &BodyContext<'a>,
     name: &[u8],
-) -> Result<Option<(Within, Vec<FoundMethod<'a>>)>, AllocError>
-    ensures exact { IfOk result (λ found. option_map (λ m. (m.0, m.1.items)) found
+) -> Result<Option<(Within, FoundMethods<'a>)>, AllocError>
+    ensures exact { IfOk result (λ found. option_map (λ m. (m.0, m.1.methods)) found
         ≡ spec.named_methods context.now context.now.within name.now) }
     ensures few { IfOk result (λ found. IfSome found (λ m. m.0.family < 256)) }
 {
@@ -102,7 +102,7 @@ fn method_of_this(
     alloc: Global,
     context: &BodyContext<'_>,
     within: Within,
-    methods: &[FoundMethod<'_>],
+    methods: &FoundMethods<'_>,
     name: &Token,
     operands: Vec<Operand>,
 ) -> Result<Operand, TypingError>
@@ -110,7 +110,7 @@ fn method_of_this(
     ensures exact { Gives view_operand result (spec.called_own context.now name.now.place name.now
         (own_operand name.now.place within ∷ view_operands operands.items)
         (uses.best_method context.now.ancestors
-        (list_map (spec.virtual_method (spaces.family_type within.family)) methods.now)
+        (list_map (spec.virtual_method (spaces.family_type within.family)) methods.now.methods)
         (spaces.family_type within.family) within.read_only
         (all_types (view_operands operands.items)))) }
 {
@@ -137,7 +137,7 @@ pub fn call(
     match named_methods(alloc, context, name)? {
         None => function_call(alloc, context, locals, token, operands),
         Some((within, methods)) => {
-            method_of_this(alloc, context, within, methods.as_slice(), token, operands)
+            method_of_this(alloc, context, within, &methods, token, operands)
         }
     }
 }
@@ -190,7 +190,7 @@ fn method_above(
     let methods = context
         .names()
         .methods_named(alloc, family, context.text_of(name))?;
-    direct_meant(alloc, context.lineage(), methods.as_slice(), on, operands)
+    direct_meant(alloc, context.lineage(), &methods, on, operands)
 }
 
 /// A method of a class above the body's, as that class has it, called on `this`.

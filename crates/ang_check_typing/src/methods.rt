@@ -6,18 +6,21 @@ ghost use Rattle.ang_check_operators.specs.View.{view_operand, view_operands};
 ghost use Rattle.ang_check_typing.specs.Calls as spec;
 ghost use Rattle.ang_check_typing.specs.Methods as methods_spec;
 ghost use Rattle.ang_check_context.specs.Operands.{types_of as all_types};
-ghost use Rattle.ang_check_uses.specs.Contest as contests;
+ghost use Rattle.ang_names_known.specs.Kinds.{numbered};
+ghost use Rattle.ang_check_contest.specs.Contest as contests;
+ghost use Rattle.ang_check_uses.specs.Contenders as contenders;
 ghost use Rattle.ang_check_uses.specs.Uses as uses;
 ghost use Rattle.ang_types.specs.Best.{best_of};
 ghost use Rattle.ang_types.specs.declared.arg_type.ArgType.TheVariants.{Object};
 
 use crate::called::{CallSite, called_own, with_receiver};
+use ang_check_contest::{Contender, Contest, Outcome, ToldContest, is_worth_telling};
 use ang_check_context::{BodyContext, Receiver, types_of};
 use ang_check_operators::{Operand, TypingError};
-use ang_check_uses::{Callable, Called, Contender, Contest, Outcome, Reach, Resolution, called_at};
+use ang_check_uses::{Callable, Called, Reach, Resolution, called_at, types_with_receiver};
 use ang_kinds::{ErrorKind, List, Pass};
 use ang_lex::Token;
-use ang_names_known::{FoundMethod, ScriptMethod, parameters_of};
+use ang_names_known::{FoundMethod, FoundMethods, ScriptMethod, parameters_of};
 use ang_typed::TypedCallee;
 use ang_types::{ArgType, Candidate, Lineage};
 use std::alloc::{AllocError, Global};
@@ -110,7 +113,7 @@ fn enter(
     found: &FoundMethod<'_>,
 ) -> Result<(), AllocError>
     ensures entered { OnOk result (contest.new ≡ contests.after lineage.now args.now contest.old
-        (contests.entry_in (Contender.Method place)
+        (contenders.entry_in (Contender.Method place)
         (methods_spec.callable_as dispatch number found.now))) }
 {
     let method = found.method();
@@ -125,62 +128,171 @@ fn enter(
     contest.enter_method(alloc, lineage, args, contender, receiver, &method.function)
 }
 
-/// These methods, as they are taken in for arguments of these types. The receiver's is the first of these.
-fn methods_entered(
+/// The same by the place alone.
+fn enter_alone(
+    alloc: Global,
+    contest: &mut Contest,
+    lineage: &Lineage,
+    args: &[ArgType],
+    methods: &FoundMethods<'_>,
+    dispatch: Dispatch,
+    number: u32,
+    place: usize,
+) -> Result<(), AllocError>
+    ensures entered { OnOk result (contest.new ≡ contests.after lineage.now args.now contest.old
+        (contenders.entry_in (Contender.Method place)
+        (methods_spec.method_at dispatch number (slice_get methods.now.methods place)))) }
+{
+    match methods.get(place) {
+        None => Ok(()),
+        Some(found) => enter(
+            alloc, contest, lineage, args, dispatch, number, place, &found,
+        ),
+    }
+}
+
+/// These methods, as each is taken in by itself for arguments of these types.
+#[tactic(auto, using(crate::proofs::Contending::one_more))]
+fn methods_one_by_one(
     alloc: Global,
     lineage: &Lineage,
-    methods: &[FoundMethod<'_>],
+    methods: &FoundMethods<'_>,
     dispatch: Dispatch,
     number: u32,
     args: &[ArgType],
 ) -> Result<Contest, AllocError>
     ensures entered { IfOk result (λ contest. contest ≡ contests.after lineage.now args.now
-        contests.fresh (methods_spec.method_entries dispatch number 0 methods.now)) }
+        contests.fresh (methods_spec.method_entries dispatch number 0 methods.now.methods)) }
 {
     let mut contest = Contest::new(alloc);
     for place in 0..methods.len() {
-        let found = &methods[place];
-        enter(
+        enter_alone(
             alloc,
             &mut contest,
             lineage,
             args,
+            methods,
             dispatch,
             number,
             place,
-            found,
         )?;
     }
     Ok(contest)
 }
 
+/// Whether the method of a place can be called so.
+#[inline(always)]
+fn can_be_called(methods: &FoundMethods<'_>, dispatch: Dispatch, place: usize) -> bool
+    ensures exact { result
+        ≡ methods_spec.can_be_called dispatch (slice_get methods.now.methods place) }
+{
+    match dispatch {
+        Dispatch::Virtual => true,
+        Dispatch::Direct => match methods.get(place) {
+            None => false,
+            Some(found) => found.method().body.is_some(),
+        },
+    }
+}
+
+/// Takes in the method of a place, where it can be called so, by the ranks that are told.
+#[inline(always)]
+#[tactic(auto, using(crate::proofs::ToldMethods::not_called))]
+fn enter_told(
+    alloc: Global,
+    contest: &mut ToldContest<'_>,
+    methods: &FoundMethods<'_>,
+    dispatch: Dispatch,
+    number: u32,
+    place: usize,
+) -> Result<(), AllocError>
+    requires kinds { contest.old.telling.kinds ≡ numbered number methods.now.kinds }
+    ensures same { OnOk result (contest.new.telling ≡ contest.old.telling) }
+    ensures entered { OnOk result (contest.new.standing ≡ contests.after
+        contest.old.telling.ancestors contest.old.telling.args contest.old.standing
+        (contenders.entry_in (Contender.Method place)
+        (methods_spec.method_at dispatch number (slice_get methods.now.methods place)))) }
+{
+    if !can_be_called(methods, dispatch, place) {
+        return Ok(());
+    }
+    let Some(row) = methods.row(place) else {
+        return Ok(());
+    };
+    if contest.passes(row) {
+        return Ok(());
+    }
+    contest.enter(alloc, Contender::Method(place), row)?;
+    Ok(())
+}
+
+/// These methods, as they are taken in by ranks that are found out at once.
+#[tactic(auto, using(crate::proofs::Contending::one_more))]
+fn methods_at_once(
+    alloc: Global,
+    lineage: &Lineage,
+    methods: &FoundMethods<'_>,
+    dispatch: Dispatch,
+    number: u32,
+    args: &[ArgType],
+) -> Result<Contest, AllocError>
+    ensures entered { IfOk result (λ contest. contest ≡ contests.after lineage.now args.now
+        contests.fresh (methods_spec.method_entries dispatch number 0 methods.now.methods)) }
+{
+    let fresh = Contest::new(alloc);
+    let mut contest = ToldContest::new(alloc, fresh, lineage, number, methods.kinds(), args)?;
+    for place in 0..methods.len() {
+        enter_told(alloc, &mut contest, methods, dispatch, number, place)?;
+    }
+    Ok(contest.into_contest())
+}
+
+/// These methods, as they are taken in for arguments of these types. The receiver's is the first of these.
+fn methods_entered(
+    alloc: Global,
+    lineage: &Lineage,
+    methods: &FoundMethods<'_>,
+    dispatch: Dispatch,
+    number: u32,
+    args: &[ArgType],
+) -> Result<Contest, AllocError>
+    ensures entered { IfOk result (λ contest. contest ≡ contests.after lineage.now args.now
+        contests.fresh (methods_spec.method_entries dispatch number 0 methods.now.methods)) }
+{
+    if is_worth_telling(methods.len(), methods.kinds().len()) {
+        methods_at_once(alloc, lineage, methods, dispatch, number, args)
+    } else {
+        methods_one_by_one(alloc, lineage, methods, dispatch, number, args)
+    }
+}
+
 /// The method of a place as a function that a call can mean.
 fn method_at(
     alloc: Global,
-    methods: &[FoundMethod<'_>],
+    methods: &FoundMethods<'_>,
     dispatch: Dispatch,
     number: u32,
     place: usize,
 ) -> Result<Option<Callable>, AllocError>
     ensures exact { IfOk result
-        (λ c. c ≡ methods_spec.method_at dispatch number (slice_get methods.now place)) }
+        (λ c. c ≡ methods_spec.method_at dispatch number (slice_get methods.now.methods place)) }
 {
     match methods.get(place) {
         None => Ok(None),
-        Some(found) => callable_as(alloc, dispatch, number, found),
+        Some(found) => callable_as(alloc, dispatch, number, &found),
     }
 }
 
 /// The method that a contender names, as a function that a call can mean.
 fn method_named(
     alloc: Global,
-    methods: &[FoundMethod<'_>],
+    methods: &FoundMethods<'_>,
     dispatch: Dispatch,
     number: u32,
     contender: Contender,
 ) -> Result<Option<Callable>, AllocError>
     ensures exact { IfOk result
-        (λ c. c ≡ methods_spec.method_by dispatch number methods.now contender) }
+        (λ c. c ≡ methods_spec.method_by dispatch number methods.now.methods contender) }
 {
     match contender {
         Contender::Method(place) => method_at(alloc, methods, dispatch, number, place),
@@ -201,9 +313,8 @@ fn types_on(
     ensures exact { IfOk result (λ types. types.items
         ≡ Object number read_only ∷ all_types (view_operands operands.now)) }
 {
-    let mut types = types_of(alloc, operands)?;
-    types.insert(0, ArgType::Object { number, read_only })?;
-    Ok(types)
+    let types = types_of(alloc, operands)?;
+    types_with_receiver(alloc, number, read_only, types.as_slice())
 }
 
 /// Whether no method takes the operands on a receiver that may be changed.
@@ -211,13 +322,13 @@ fn types_on(
 fn takes_none_changed(
     alloc: Global,
     lineage: &Lineage,
-    methods: &[FoundMethod<'_>],
+    methods: &FoundMethods<'_>,
     dispatch: Dispatch,
     number: u32,
     operands: &[Operand],
 ) -> Result<bool, AllocError>
     ensures exact { IfOk result (λ none. none ≡ uses.is_none_viable (best_of lineage.now
-        (uses.candidates_of (methods_spec.callables_as dispatch number methods.now))
+        (uses.candidates_of (methods_spec.callables_as dispatch number methods.now.methods))
         (Object number false ∷ all_types (view_operands operands.now)))) }
 {
     let types = types_on(alloc, number, false, operands)?;
@@ -229,13 +340,13 @@ fn takes_none_changed(
 fn unmatched(
     alloc: Global,
     lineage: &Lineage,
-    methods: &[FoundMethod<'_>],
+    methods: &FoundMethods<'_>,
     dispatch: Dispatch,
     on: Receiver,
     operands: &[Operand],
 ) -> Result<ErrorKind, AllocError>
     ensures exact { IfOk result (λ kind. kind ≡ uses.unmatched lineage.now
-        (methods_spec.callables_as dispatch on.number methods.now) on.number on.read_only
+        (methods_spec.callables_as dispatch on.number methods.now.methods) on.number on.read_only
         (all_types (view_operands operands.now))) }
 {
     if !on.read_only {
@@ -252,15 +363,15 @@ fn unmatched(
 fn picked(
     alloc: Global,
     lineage: &Lineage,
-    methods: &[FoundMethod<'_>],
+    methods: &FoundMethods<'_>,
     dispatch: Dispatch,
     on: Receiver,
     operands: &[Operand],
     outcome: Outcome,
 ) -> Result<Resolution, AllocError>
     ensures exact { IfOk result (λ r. r
-        ≡ contests.meant_by (methods_spec.method_by dispatch on.number methods.now)
-        (uses.unmatched lineage.now (methods_spec.callables_as dispatch on.number methods.now)
+        ≡ contenders.meant_by (methods_spec.method_by dispatch on.number methods.now.methods)
+        (uses.unmatched lineage.now (methods_spec.callables_as dispatch on.number methods.now.methods)
         on.number on.read_only (all_types (view_operands operands.now))) outcome) }
 {
     match outcome {
@@ -281,13 +392,13 @@ fn picked(
 fn best_on(
     alloc: Global,
     lineage: &Lineage,
-    methods: &[FoundMethod<'_>],
+    methods: &FoundMethods<'_>,
     dispatch: Dispatch,
     on: Receiver,
     operands: &[Operand],
 ) -> Result<Resolution, AllocError>
     ensures exact { IfOk result (λ r. r ≡ uses.best_method lineage.now
-        (methods_spec.callables_as dispatch on.number methods.now) on.number on.read_only
+        (methods_spec.callables_as dispatch on.number methods.now.methods) on.number on.read_only
         (all_types (view_operands operands.now))) }
 {
     let Receiver { number, read_only } = on;
@@ -305,12 +416,12 @@ fn best_on(
 pub fn direct_meant(
     alloc: Global,
     lineage: &Lineage,
-    methods: &[FoundMethod<'_>],
+    methods: &FoundMethods<'_>,
     on: Receiver,
     operands: &[Operand],
 ) -> Result<Resolution, AllocError>
     ensures exact { IfOk result (λ r. r ≡ uses.best_method lineage.now
-        (flat_map (spec.direct_method on.number) methods.now) on.number on.read_only
+        (flat_map (spec.direct_method on.number) methods.now.methods) on.number on.read_only
         (all_types (view_operands operands.now))) }
 {
     best_on(alloc, lineage, methods, Dispatch::Direct, on, operands)
@@ -343,7 +454,7 @@ pub fn called_on(
 pub fn own_method(
     alloc: Global,
     context: &BodyContext<'_>,
-    methods: &[FoundMethod<'_>],
+    methods: &FoundMethods<'_>,
     on: Receiver,
     name: &Token,
     receiver: Operand,
@@ -352,7 +463,7 @@ pub fn own_method(
     ensures exact { Gives view_operand result (spec.called_own context.now receiver.place name.now
         (view_operand receiver ∷ view_operands operands.items)
         (uses.best_method context.now.ancestors
-        (list_map (spec.virtual_method on.number) methods.now)
+        (list_map (spec.virtual_method on.number) methods.now.methods)
         on.number on.read_only (all_types (view_operands operands.items)))) }
 {
     let resolution = best_on(

@@ -50,15 +50,7 @@ fn script_method(
 {
     let text = context.text_of(name);
     let methods = context.names().methods_named(alloc, family, text)?;
-    own_method(
-        alloc,
-        context,
-        methods.as_slice(),
-        on,
-        name,
-        object,
-        operands,
-    )
+    own_method(alloc, context, &methods, on, name, object, operands)
 }
 
 /// A method of an object, which is its first argument.

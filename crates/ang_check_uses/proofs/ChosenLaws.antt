@@ -13,28 +13,30 @@ use Rattle.ang_types.specs.Ranks.{Ancestors}
 use Rattle.ang_view.specs.declared.entry.Entry.{Entry as ViewEntry}
 use Rattle.ang_view.specs.Named.{find, makers, owned}
 use Rattle.ang_view.specs.Registration.{RegistrationList, entry_at}
-use Rattle.ang_names_known.specs.declared.host.SeenFunction.{SeenFunction}
-use Rattle.ang_names_known.specs.declared.host.Wanted.{Wanted}
-use Rattle.ang_names_known.specs.declared.host.Wanted.TheVariants as wanted
+use Rattle.ang_check_contest.specs.declared.host.SeenFunction.{SeenFunction}
+use Rattle.ang_check_contest.specs.declared.host.Wanted.{Wanted}
+use Rattle.ang_check_contest.specs.declared.host.Wanted.TheVariants as wanted
 use Rattle.ang_names_known.specs.declared.names.Family.{Family}
 use Rattle.ang_names_known.specs.declared.names.ScriptConstructor.{ScriptConstructor}
 use Rattle.ang_names_known.specs.declared.names.ScriptFunction.{ScriptFunction}
-use Rattle.ang_names_known.specs.Among.{found_among}
-use Rattle.ang_names_known.specs.Host.{found, function_of_entry, host_function, host_parameters, host_type, host_where, in_front, is_wanted}
+use Rattle.ang_check_contest.specs.Among.{found_among}
+use Rattle.ang_check_contest.specs.Host.{found, function_of_entry, host_function, host_parameters, host_type, host_where, in_front, is_wanted}
 use Rattle.ang_names_known.specs.Items.{is_empty}
 use Rattle.ang_names_known.specs.Lookup.{functions_named as numbers_named, default_of, parameters_of}
-use Rattle.ang_names_known.proofs.Among.{functions_in, factories_in, methods_in}
+use Rattle.ang_check_contest.proofs.Among.{functions_in, factories_in, methods_in}
 use Rattle.ang_check_uses.specs.declared.hosts.HostCallKind.{HostCallKind}
 use Rattle.ang_check_uses.specs.declared.hosts.HostCallKind.TheVariants as usage
-use Rattle.ang_check_uses.specs.declared.score.Contender.{Contender}
-use Rattle.ang_check_uses.specs.declared.score.Contender.TheVariants as contender
+use Rattle.ang_check_contest.specs.declared.score.Contender.{Contender}
+use Rattle.ang_check_contest.specs.declared.score.Contender.TheVariants as contender
 use Rattle.ang_check_uses.specs.declared.scripts.FunctionList.{FunctionList}
 use Rattle.ang_check_uses.specs.declared.scripts.FunctionList.TheVariants as declared
 use Rattle.ang_check_uses.specs.declared.uses.Callable.{Callable}
 use Rattle.ang_check_uses.specs.CallableKinds.{function_in, host_callable_as}
 use Rattle.ang_check_uses.specs.Choosing.{is_seen, params_as, function_entry, entry_named, host_entry, host_by, entity, function_by, functions_named, method_by, methods_named, constructor_entries, constructor_in, constructor_by, constructors_in}
-use Rattle.ang_check_uses.specs.Contest.{Entry, Standing, fresh, after, entered, outcome_of, is_none_viable, entry_of, entry_in, entries_by, callables_by, meant_by, placed}
-use Rattle.ang_check_uses.specs.Uses.{Scope, best_of_those, candidates_of, constructor_of, default_maker, factories_of, functions_of, host_methods, makers_in, script_callables, is_none_viable as none_viable}
+use Rattle.ang_check_contest.specs.Contest.{Entry, Standing, fresh, after, entered, outcome_of, is_none_viable, placed}
+use Rattle.ang_check_uses.specs.Contenders.{entry_of, entry_in, entries_by, callables_by, meant_by}
+use Rattle.ang_check_uses.specs.Uses.{best_of_those, candidates_of, constructor_of, default_maker, factories_of, functions_of, host_methods, makers_in, script_callables, is_none_viable as none_viable}
+use Rattle.ang_check_contest.specs.Scopes.{Scope}
 use Rattle.ang_check_uses.proofs.Contests.{after_append, entries_append, callables_append, entries_map, callables_map, empty_none, meant_best, none_best}
 
 split : {A : Type 0} → (xs ys zs : List A) → (xs ++ ys) ++ zs ≡ xs ++ (ys ++ zs)

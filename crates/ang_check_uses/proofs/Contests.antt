@@ -11,11 +11,12 @@ use Rattle.ang_types.specs.Overloads.{Params}
 use Rattle.ang_types.specs.Ranks.{Ancestors}
 use Rattle.ang_types.proofs.BestLaws.{best_of-says}
 use Rattle.ang_names_known.specs.Items.{is_empty}
-use Rattle.ang_check_uses.specs.declared.score.Contender.{Contender}
+use Rattle.ang_check_contest.specs.declared.score.Contender.{Contender}
 use Rattle.ang_check_uses.specs.declared.uses.Callable.{Callable}
-use Rattle.ang_check_uses.specs.Contest.{Entry, Standing, fresh, met, compared, entered_viable, entered_with, entered, after, outcome_of, candidate_of, chosen, chosen_at, is_none_viable, entry_in, entries_by, callables_by, meant_by, ranks_of, has_lower, placed}
+use Rattle.ang_check_contest.specs.Contest.{Entry, Standing, fresh, met, compared, entered_viable, entered_with, entered, after, outcome_of, candidate_of, chosen, chosen_at, is_none_viable, ranks_of, has_lower, placed}
+use Rattle.ang_check_uses.specs.Contenders.{entry_in, entries_by, callables_by, meant_by}
 use Rattle.ang_check_uses.specs.Uses.{best_of_those, called_at, candidates_of, picked, is_none_viable as none_viable}
-use Rattle.ang_check_uses.proofs.ContestLaws.{outcome_best, map_long}
+use Rattle.ang_check_contest.proofs.ContestLaws.{outcome_best, map_long}
 
 -- ---- one list after another
 

@@ -1,5 +1,4 @@
 pub mod Beside
 pub mod ChosenLaws
-pub mod ContestLaws
 pub mod Contests
-pub mod RankLaws
+pub mod ToldChoices

@@ -6,7 +6,7 @@ use Rattle.ang_types.specs.declared.arg_type.ArgType.{ArgType}
 use Rattle.ang_types.specs.declared.arg_type.ArgType.TheVariants as type
 use Rattle.ang_typed.specs.declared.expression.TypedCallee.TheVariants as callee
 use Rattle.ang_typed.specs.declared.expression.HostEntity.{HostEntity}
-use Rattle.ang_names_known.specs.declared.host.SeenFunction.{SeenFunction}
+use Rattle.ang_check_contest.specs.declared.host.SeenFunction.{SeenFunction}
 use Rattle.ang_names_known.specs.declared.names.ScriptFunction.{ScriptFunction}
 use Rattle.ang_names_known.specs.Spaces.{family_type}
 use Rattle.ang_check_uses.specs.declared.hosts.HostCallKind.{HostCallKind}

@@ -1,27 +1,30 @@
 -- What a call can mean, by contenders: for each use which contenders there are, and what one of them names.
-use Rattle.std.specs.Prelude.{ℕ, Bool, if◌then◌else◌, ◌&&◌, is_some, List, [], ◌∷◌, ◌++◌, ◌+◌, map, slice_get, Option, Some, None, option_map}
+use Rattle.std.specs.Prelude.{ℕ, Bool, true, false, if◌then◌else◌, ◌&&◌, is_some, List, [], ◌∷◌, ◌++◌, ◌+◌, map, slice_get, Option, Some, None, option_map}
 use Rattle.ang_kinds.specs.declared.mask.EntityNo.{EntityNo}
 use Rattle.ang_types.specs.Overloads.{Params}
 use Rattle.ang_view.specs.declared.entry.Entry.{Entry as ViewEntry}
 use Rattle.ang_view.specs.Named.{find, owned}
 use Rattle.ang_view.specs.Registration.{RegistrationList, entry_at}
-use Rattle.ang_names_known.specs.declared.host.Wanted.{Wanted}
-use Rattle.ang_names_known.specs.declared.host.Wanted.TheVariants as wanted
+use Rattle.ang_check_contest.specs.declared.host.Wanted.{Wanted}
+use Rattle.ang_check_contest.specs.declared.host.Wanted.TheVariants as wanted
 use Rattle.ang_names_known.specs.declared.names.Family.{Family}
 use Rattle.ang_names_known.specs.declared.names.ScriptConstructor.{ScriptConstructor}
 use Rattle.ang_names_known.specs.declared.names.ScriptFunction.{ScriptFunction}
-use Rattle.ang_names_known.specs.Host.{found, host_type, host_parameters}
+use Rattle.ang_names_known.specs.Known.{KnownFunctions}
+use Rattle.ang_check_contest.specs.Host.{found, host_type, host_parameters}
 use Rattle.ang_names_known.specs.Lookup.{functions_named as numbers_named, parameters_of}
 use Rattle.ang_check_uses.specs.declared.hosts.HostCallKind.{HostCallKind}
 use Rattle.ang_check_uses.specs.declared.hosts.HostCallKind.TheVariants as usage
-use Rattle.ang_check_uses.specs.declared.score.Contender.{Contender}
-use Rattle.ang_check_uses.specs.declared.score.Contender.TheVariants as contender
+use Rattle.ang_check_contest.specs.declared.score.Contender.{Contender}
+use Rattle.ang_check_contest.specs.declared.score.Contender.TheVariants as contender
 use Rattle.ang_check_uses.specs.declared.scripts.FunctionList.{FunctionList}
 use Rattle.ang_check_uses.specs.declared.scripts.FunctionList.TheVariants as declared
 use Rattle.ang_check_uses.specs.declared.uses.Callable.{Callable}
 use Rattle.ang_check_uses.specs.CallableKinds.{function_in, host_callable_as, with_receiver}
-use Rattle.ang_check_uses.specs.Contest.{Entry, entry_in}
-use Rattle.ang_check_uses.specs.Uses.{Scope, callable_in, constructor_of, own_function, imported_function}
+use Rattle.ang_check_contest.specs.Contest.{Entry}
+use Rattle.ang_check_uses.specs.Contenders.{entry_in}
+use Rattle.ang_check_uses.specs.Uses.{callable_in, constructor_of, own_function, imported_function}
+use Rattle.ang_check_contest.specs.Scopes.{Scope}
 
 -- ---- functions of the scripts
 
@@ -32,7 +35,30 @@ contender_in declared.Imports n = contender.Import n
 abbrev pub function_entry : FunctionList → List ScriptFunction → ℕ → List Entry
 function_entry list functions n = entry_in (contender_in list n) (callable_in (function_in list) n (slice_get functions n))
 
+-- those of a list
+abbrev pub functions_in : FunctionList → KnownFunctions → List ScriptFunction
+functions_in declared.Functions k = k.functions
+functions_in declared.Imports k = k.imports
+
 -- ---- functions of the host
+
+-- what is wanted is called so
+abbrev pub is_used_as : HostCallKind → Wanted → Bool
+is_used_as usage.Function (wanted.Function name) = true
+is_used_as usage.Function (wanted.Factory n) = false
+is_used_as usage.Function (wanted.Method n name) = false
+is_used_as (usage.Maker n) (wanted.Function name) = false
+is_used_as (usage.Maker n) (wanted.Factory m) = true
+is_used_as (usage.Maker n) (wanted.Method m name) = false
+is_used_as (usage.Method n) (wanted.Function name) = false
+is_used_as (usage.Method n) (wanted.Factory m) = false
+is_used_as (usage.Method n) (wanted.Method m name) = true
+
+-- the number of the receiver's type, where there is one
+abbrev pub receiver_as : HostCallKind → ℕ
+receiver_as usage.Function = 0
+receiver_as (usage.Maker n) = 0
+receiver_as (usage.Method n) = n
 
 -- all types of an entry are seen
 abbrev pub is_seen : RegistrationList → ViewEntry → Bool

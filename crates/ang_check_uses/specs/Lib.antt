@@ -1,6 +1,5 @@
 pub mod CallableKinds
 pub mod Callables
 pub mod Choosing
-pub mod Contest
-pub mod Scores
+pub mod Contenders
 pub mod Uses

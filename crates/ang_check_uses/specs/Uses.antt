@@ -25,8 +25,8 @@ use Rattle.ang_view.specs.declared.entry.EntryKind.{EntryKind}
 use Rattle.ang_view.specs.declared.entry.EntryKind.TheVariants as entry
 use Rattle.ang_view.specs.Named.{members, values_named}
 use Rattle.ang_view.specs.Registration.{RegistrationList, entry_at}
-use Rattle.ang_names_known.specs.declared.host.SeenFunction.{SeenFunction}
-use Rattle.ang_names_known.specs.declared.host.SeenProperty.{SeenProperty}
+use Rattle.ang_check_contest.specs.declared.host.SeenFunction.{SeenFunction}
+use Rattle.ang_check_contest.specs.declared.host.SeenProperty.{SeenProperty}
 use Rattle.ang_names_known.specs.declared.names.ScriptConstructor.{ScriptConstructor}
 use Rattle.ang_names_known.specs.declared.names.Default.{Default}
 use Rattle.ang_names_known.specs.declared.names.Default.TheVariants as default
@@ -39,20 +39,15 @@ use Rattle.ang_check_uses.specs.declared.uses.Called.TheVariants as called
 use Rattle.ang_check_uses.specs.declared.uses.EnumerationValue.{EnumerationValue}
 use Rattle.ang_check_uses.specs.declared.uses.Resolution.{Resolution}
 use Rattle.ang_check_uses.specs.declared.uses.Resolution.TheVariants as resolution
-use Rattle.ang_names_known.specs.declared.host.Wanted.TheVariants as wanted
-use Rattle.ang_names_known.specs.declared.host.WantedProperty.TheVariants as property
+use Rattle.ang_check_contest.specs.declared.host.Wanted.TheVariants as wanted
+use Rattle.ang_check_contest.specs.declared.host.WantedProperty.TheVariants as property
 use Rattle.ang_names_known.specs.declared.space.Named.{Named}
 use Rattle.ang_names_known.specs.declared.space.Named.TheVariants as named
-use Rattle.ang_names_known.specs.Host.{host_where, property_where}
+use Rattle.ang_check_contest.specs.Host.{host_where, property_where}
+use Rattle.ang_check_contest.specs.Scopes.{Scope}
 use Rattle.ang_names_known.specs.Items.{is_empty}
 use Rattle.ang_names_known.specs.Lookup.{is_read_only, functions_named, global_named, parameters_of, default_of}
 use Rattle.ang_names_known.specs.Spaces.{family_type, family_of_type, type_of_name, space_of_names}
-
--- what a use is asked over: what the module sees of the host, what the scripts declare, and what stands above each object type
-pub record Scope : Type 0 where
-  pub view : RegistrationList
-  pub names : Names
-  pub ancestors : Ancestors
 
 -- why a use means nothing; where it means what can't stand there no such name is known
 abbrev pub why : Resolution → ErrorKind

@@ -1,203 +1,27 @@
 //! The best of what a call can mean. Each candidate is looked at where it lies, and the best alone is copied.
-ghost use Rattle.std.specs.Prelude.{◌≡◌, ◌∷◌, Some, is_some, IfOk, OnOk, slice_get, map as list_map};
+ghost use Rattle.std.specs.Prelude.{◌≡◌, ◌∷◌, true, IfOk, slice_get, map as list_map};
 ghost use Rattle.std.specs.List.{flat_map};
 ghost use Rattle.ang_types.specs.declared.arg_type.ArgType.TheVariants.{Object};
-ghost use Rattle.ang_types.specs.Overloads.{Params};
-ghost use Rattle.ang_names_known.specs.Host as host;
 ghost use Rattle.ang_names_known.specs.Spaces as spaces;
 ghost use Rattle.ang_kinds.specs.declared.error.ErrorKind.TheVariants.{NoMatch};
-ghost use Rattle.ang_check_uses.specs.declared.score.Contender.TheVariants as contender;
 ghost use Rattle.ang_check_uses.specs.Choosing as spec;
-ghost use Rattle.ang_check_uses.specs.Contest as contests;
+ghost use Rattle.ang_check_contest.specs.Contest as contests;
+ghost use Rattle.ang_check_uses.specs.Contenders as contenders;
 ghost use Rattle.ang_check_uses.specs.Uses as uses;
 
-use crate::contest::Contest;
 use crate::hosts::{HostCallKind, callable_as};
 use crate::makers::{constructor_of, makers_in};
 use crate::picking::{best_of_those, called_at, types_with_receiver};
-use crate::scope::Scope;
-use crate::score::{Contender, Outcome};
 use crate::scripts::{FunctionList, script_callable};
+use crate::told_hosts::enter_hosts;
+use crate::told_scripts::enter_scripts;
 use crate::uses::{Callable, Resolution};
-use ang_kinds::{EntityNo, ErrorKind, Param};
-use ang_names_known::{
-    BorrowedText, Family, ScriptConstructor, ScriptFunction, Wanted, family_of_type, found_at,
-    host_type,
-};
+use ang_check_contest::{Contender, Contest, Outcome, Scope, Wanted, found_at};
+use ang_kinds::{EntityNo, ErrorKind};
+use ang_names_known::{BorrowedText, Family, ScriptConstructor, family_of_type};
 use ang_types::{ArgType, Lineage};
-use ang_view::{Entry, EntryKind, View, belongs_to};
+use ang_view::View;
 use std::alloc::{AllocError, Global};
-
-fn contender_in(declared: FunctionList, number: usize) -> Contender
-    ensures exact { result ≡ spec.contender_in declared number }
-{
-    match declared {
-        FunctionList::Functions => Contender::Function(number),
-        FunctionList::Imports => Contender::Import(number),
-    }
-}
-
-/// Takes in the function of this number, where there is one.
-#[tactic(auto, using(crate::proofs::ChosenLaws::function_params))]
-fn enter_function(
-    contest: &mut Contest,
-    alloc: Global,
-    lineage: &Lineage,
-    args: &[ArgType],
-    declared: FunctionList,
-    functions: &[ScriptFunction],
-    number: usize,
-) -> Result<(), AllocError>
-    ensures entered { OnOk result (contest.new ≡ contests.after lineage.now args.now contest.old
-        (spec.function_entry declared functions.now number)) }
-{
-    match functions.get(number) {
-        None => Ok(()),
-        Some(function) => {
-            let contender = contender_in(declared, number);
-            contest.enter(alloc, lineage, args, contender, function)
-        }
-    }
-}
-
-/// Takes in the functions of these numbers.
-#[tactic(auto, using(crate::proofs::Contests::after_append))]
-fn enter_functions(
-    contest: &mut Contest,
-    alloc: Global,
-    lineage: &Lineage,
-    args: &[ArgType],
-    declared: FunctionList,
-    functions: &[ScriptFunction],
-    numbers: &[usize],
-) -> Result<(), AllocError>
-    ensures entered { OnOk result (contest.new ≡ contests.after lineage.now args.now contest.old
-        (flat_map (spec.function_entry declared functions.now) numbers.now)) }
-{
-    for number in numbers {
-        enter_function(contest, alloc, lineage, args, declared, functions, *number)?;
-    }
-    Ok(())
-}
-
-/// Whether an entry is what is wanted. It takes no memory.
-pub fn is_wanted(wanted: &Wanted<'_>, entry: &Entry) -> bool
-    ensures exact { result ≡ host.is_wanted wanted.now entry.now }
-{
-    match wanted {
-        Wanted::Function(name) => {
-            matches!(entry.kind, EntryKind::Function)
-                && entry.signature.name.as_slice() == name.bytes()
-        }
-        Wanted::Factory(number) => {
-            matches!(entry.kind, EntryKind::Factory) && belongs_to(entry.owner, *number as usize)
-        }
-        Wanted::Method(number, name) => {
-            matches!(entry.kind, EntryKind::Method)
-                && belongs_to(entry.owner, *number as usize)
-                && entry.signature.name.as_slice() == name.bytes()
-        }
-    }
-}
-
-/// Whether the types of all parameters of a host's function are seen.
-#[tactic(auto, using(crate::proofs::ChosenLaws::all_seen, crate::proofs::ChosenLaws::none_seen))]
-fn are_seen(view: &View, params: &[Param]) -> bool
-    ensures exact { result ≡ is_some (host.host_parameters view.now params.now) }
-{
-    for param in params {
-        if host_type(view, &param.ty).is_none() {
-            return false;
-        }
-    }
-    true
-}
-
-/// Whether all types of a host's function are seen.
-fn is_seen(view: &View, entry: &Entry) -> bool
-    ensures exact { result ≡ spec.is_seen view.now entry.now }
-{
-    host_type(view, &entry.signature.result).is_some()
-        && are_seen(view, entry.signature.params.as_slice())
-}
-
-/// Takes in a function of the host that is used so, and all of whose types are seen.
-fn enter_seen(
-    contest: &mut Contest,
-    alloc: Global,
-    scope: &Scope<'_>,
-    args: &[ArgType],
-    usage: HostCallKind,
-    number: EntityNo,
-    entry: &Entry,
-) -> Result<(), AllocError>
-    ensures entered { OnOk result ((seen : Params) →
-        host.host_parameters scope.now.view entry.now.signature.params ≡ Some seen → contest.new
-        ≡ contests.entered scope.now.ancestors args.now contest.old (contender.Entry number)
-        (spec.params_as usage entry.now.signature.read_only seen)) }
-{
-    let params = entry.signature.params.as_slice();
-    let contender = Contender::Entry(number);
-    match usage {
-        HostCallKind::Function | HostCallKind::Maker(_) => {
-            contest.enter_host(alloc, scope, args, contender, params)
-        }
-        HostCallKind::Method(number) => {
-            let receiver = ArgType::Object {
-                number,
-                read_only: entry.signature.read_only,
-            };
-            contest.enter_host_method(alloc, scope, args, contender, receiver, params)
-        }
-    }
-}
-
-/// Takes in the entry of this number, where it is wanted and all of its types are seen.
-#[tactic(auto, using(crate::proofs::ChosenLaws::host_entered, crate::proofs::ChosenLaws::not_wanted, crate::proofs::ChosenLaws::not_seen, crate::proofs::ChosenLaws::not_there))]
-fn enter_entry(
-    contest: &mut Contest,
-    alloc: Global,
-    scope: &Scope<'_>,
-    args: &[ArgType],
-    wanted: &Wanted<'_>,
-    usage: HostCallKind,
-    number: EntityNo,
-) -> Result<(), AllocError>
-    ensures entered { OnOk result (contest.new ≡ contests.after scope.now.ancestors args.now
-        contest.old (spec.host_entry usage wanted.now scope.now.view number)) }
-{
-    let Some(entry) = scope.view().get(number) else {
-        return Ok(());
-    };
-    if !is_wanted(wanted, entry) {
-        return Ok(());
-    }
-    if !is_seen(scope.view(), entry) {
-        return Ok(());
-    }
-    enter_seen(contest, alloc, scope, args, usage, number, entry)?;
-    Ok(())
-}
-
-/// Takes in those of these entries that are wanted.
-#[tactic(auto, using(crate::proofs::Contests::after_append))]
-fn enter_entries(
-    contest: &mut Contest,
-    alloc: Global,
-    scope: &Scope<'_>,
-    args: &[ArgType],
-    wanted: &Wanted<'_>,
-    usage: HostCallKind,
-    numbers: &[EntityNo],
-) -> Result<(), AllocError>
-    ensures entered { OnOk result (contest.new ≡ contests.after scope.now.ancestors args.now
-        contest.old (flat_map (spec.host_entry usage wanted.now scope.now.view) numbers.now)) }
-{
-    for number in numbers {
-        enter_entry(contest, alloc, scope, args, wanted, usage, *number)?;
-    }
-    Ok(())
-}
 
 /// The host's function of this entry as one that a call can mean, where it is wanted.
 ///
@@ -252,7 +76,7 @@ fn host_picked(
     unviable: ErrorKind,
     outcome: Outcome,
 ) -> Result<Resolution, AllocError>
-    ensures exact { IfOk result (λ r. r ≡ contests.meant_by
+    ensures exact { IfOk result (λ r. r ≡ contenders.meant_by
         (spec.host_by usage wanted.now view.now) unviable outcome) }
 {
     match outcome {
@@ -299,7 +123,7 @@ fn function_picked(
     name: &[u8],
     outcome: Outcome,
 ) -> Result<Resolution, AllocError>
-    ensures exact { IfOk result (λ r. r ≡ contests.meant_by (spec.function_by scope.now name.now)
+    ensures exact { IfOk result (λ r. r ≡ contenders.meant_by (spec.function_by scope.now name.now)
         NoMatch outcome) }
 {
     match outcome {
@@ -322,42 +146,21 @@ fn functions_entered(
     args: &[ArgType],
 ) -> Result<Contest, AllocError>
     ensures entered { IfOk result (λ contest. contest ≡ contests.after scope.now.ancestors args.now
-        contests.fresh (contests.entries_by (spec.function_by scope.now name.now)
+        contests.fresh (contenders.entries_by (spec.function_by scope.now name.now)
         (spec.functions_named scope.now name.now))) }
 {
-    let names = scope.names();
-    let lineage = scope.lineage();
-    let mut contest = Contest::new(alloc);
-    enter_functions(
-        &mut contest,
-        alloc,
-        lineage,
-        args,
-        FunctionList::Functions,
-        names.functions(),
-        names.functions_named(name),
-    )?;
-    enter_functions(
-        &mut contest,
-        alloc,
-        lineage,
-        args,
-        FunctionList::Imports,
-        names.imports(),
-        names.imports_named(name),
-    )?;
+    let contest = enter_scripts(Contest::new(alloc), alloc, scope, args, name)?;
     let wanted = Wanted::Function(BorrowedText::new(name));
     let numbers = scope.view().find(name);
-    enter_entries(
-        &mut contest,
+    enter_hosts(
+        contest,
         alloc,
         scope,
         args,
         &wanted,
         HostCallKind::Function,
         numbers,
-    )?;
-    Ok(contest)
+    )
 }
 
 /// What a call of the functions of a name means.
@@ -390,12 +193,19 @@ fn hosts_entered(
     usage: HostCallKind,
     numbers: &[EntityNo],
 ) -> Result<Contest, AllocError>
+    requires usage { spec.is_used_as usage wanted.now ≡ true }
     ensures entered { IfOk result (λ contest. contest ≡ contests.after scope.now.ancestors args.now
         contests.fresh (flat_map (spec.host_entry usage wanted.now scope.now.view) numbers.now)) }
 {
-    let mut contest = Contest::new(alloc);
-    enter_entries(&mut contest, alloc, scope, args, wanted, usage, numbers)?;
-    Ok(contest)
+    enter_hosts(
+        Contest::new(alloc),
+        alloc,
+        scope,
+        args,
+        wanted,
+        usage,
+        numbers,
+    )
 }
 
 /// The best factory of a host type for arguments of these types, or this kind of refusal where none takes them.
@@ -433,7 +243,7 @@ fn methods_entered(
     args: &[ArgType],
 ) -> Result<Contest, AllocError>
     ensures entered { IfOk result (λ contest. contest ≡ contests.after scope.now.ancestors
-        (Object number read_only ∷ args.now) contests.fresh (contests.entries_by
+        (Object number read_only ∷ args.now) contests.fresh (contenders.entries_by
         (spec.method_by scope.now.view number name.now)
         (spec.methods_named scope.now.view number name.now))) }
 {
@@ -482,7 +292,7 @@ fn method_picked(
     args: &[ArgType],
     outcome: Outcome,
 ) -> Result<Resolution, AllocError>
-    ensures exact { IfOk result (λ r. r ≡ contests.meant_by
+    ensures exact { IfOk result (λ r. r ≡ contenders.meant_by
         (spec.method_by scope.now.view number name.now)
         (uses.unmatched scope.now.ancestors (uses.host_methods scope.now.view number name.now)
         number read_only args.now) outcome) }
@@ -600,7 +410,7 @@ fn constructor_picked(
     outcome: Outcome,
 ) -> Result<Resolution, AllocError>
     requires same { spaces.family_type family ≡ number }
-    ensures exact { IfOk result (λ r. r ≡ contests.meant_by
+    ensures exact { IfOk result (λ r. r ≡ contenders.meant_by
         (spec.constructor_by family constructors.now) unviable outcome) }
 {
     match outcome {

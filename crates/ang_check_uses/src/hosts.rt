@@ -1,14 +1,14 @@
 //! Functions, factories and methods of the host, as ones that a call can mean.
 ghost use Rattle.std.specs.Prelude.{◌≡◌, ◌++◌, IfOk, OnOk, map as list_map};
-ghost use Rattle.ang_names_known.specs.Host as host;
+ghost use Rattle.ang_check_contest.specs.Host as host;
 ghost use Rattle.ang_check_uses.specs.CallableKinds as kinds;
 ghost use Rattle.ang_check_uses.specs.Uses as spec;
 
 use crate::callables::Callables;
-use crate::scope::Scope;
 use crate::uses::{Callable, Called};
+use ang_check_contest::{Scope, SeenFunction, SeenProperty, Wanted, host_where};
 use ang_kinds::{List, Pass};
-use ang_names_known::{BorrowedText, SeenFunction, SeenProperty, Wanted, host_where};
+use ang_names_known::BorrowedText;
 use ang_typed::HostEntity;
 use ang_types::{ArgType, Candidate};
 use ang_view::View;

@@ -6,26 +6,21 @@
 
 mod callables;
 mod choosing;
-mod contest;
 mod hosts;
 mod makers;
 mod picking;
-mod ranking;
 mod resolving;
-mod scope;
-mod score;
 mod scripts;
+mod told_hosts;
+mod told_scripts;
 mod uses;
 mod values;
 
 pub use callables::{CallTarget, Callables};
-pub use choosing::{is_wanted, maker_meant};
-pub use contest::Contest;
+pub use choosing::maker_meant;
 pub use hosts::{entity_of, host_methods, params_with_receiver};
 pub use picking::{called_at, types_with_receiver};
 pub use resolving::{resolution_of, why};
-pub use scope::Scope;
-pub use score::{Contender, Outcome};
 pub use scripts::functions_of;
 pub use uses::{Callable, Called, EnumerationValue, Reach, Resolution};
 pub use values::{takes_number, value_of};

@@ -1,20 +1,17 @@
 //! What any use means.
 ghost use Rattle.std.specs.Prelude.{◌≡◌, IfOk};
-ghost use Rattle.ang_names_known.specs.declared.host.WantedProperty.TheVariants as property;
-ghost use Rattle.ang_names_known.specs.Host as host;
+ghost use Rattle.ang_check_contest.specs.declared.host.WantedProperty.TheVariants as property;
+ghost use Rattle.ang_check_contest.specs.Host as host;
 ghost use Rattle.ang_names_known.specs.Spaces as spaces;
 ghost use Rattle.ang_check_uses.specs.Uses as spec;
 
 use crate::choosing::{factory_meant, function_meant, host_method_meant, maker_meant};
 use crate::hosts::entity_of;
-use crate::scope::Scope;
 use crate::uses::Resolution;
 use crate::values::{enumeration_called, value_meant};
+use ang_check_contest::{Scope, SeenProperty, WantedProperty, property_where};
 use ang_kinds::ErrorKind;
-use ang_names_known::{
-    BorrowedText, Named, ScriptGlobal, SeenProperty, Space, WantedProperty, is_read_only,
-    property_where,
-};
+use ang_names_known::{BorrowedText, Named, ScriptGlobal, Space, is_read_only};
 use ang_typed::TypedVariable;
 use ang_types::{ArgType, Asks};
 use ang_view::View;

@@ -7,9 +7,9 @@ ghost use Rattle.ang_check_uses.specs.Uses as spec;
 
 use crate::callables::{Callables, push_callable};
 use crate::hosts::{HostCallKind, push_wanted};
-use crate::scope::Scope;
 use crate::uses::{Callable, Called};
-use ang_names_known::{BorrowedText, Names, ScriptFunction, Wanted, parameters_of};
+use ang_check_contest::{Scope, Wanted};
+use ang_names_known::{BorrowedText, Names, ScriptFunction, parameters_of};
 use ang_typed::TypedCallee;
 use ang_types::Candidate;
 use std::alloc::{AllocError, Global};

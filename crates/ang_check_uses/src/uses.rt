@@ -1,6 +1,7 @@
 //! What a use of a name means.
+use ang_check_contest::SeenProperty;
 use ang_kinds::{EntityNo, ErrorKind};
-use ang_names_known::{Access, SeenProperty};
+use ang_names_known::Access;
 use ang_typed::{HostEntity, TypedCallee, TypedVariable};
 use ang_types::{ArgType, Candidate};
 

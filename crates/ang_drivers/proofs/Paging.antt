@@ -15,7 +15,7 @@ use Rattle.std.proofs.lemmas.List.Sorted.{searchable_from_sorted}
 use Rattle.std.proofs.lemmas.List.Sums.{sum_by-cons, sum_by-set, sum_by_push}
 use Rattle.std.proofs.lemmas.Nat.{mod_below, div-add-mod'}
 use Rattle.ang_host.proofs.Steps.{same_test}
-use Rattle.ang_drivers.specs.Pages.{IsRising, ArePages, IsEntryAt}
+use Rattle.ang_drivers.specs.Pages.{IsRising, ArePages, IsEntryAt, HasEachBelow}
 
 -- ---- tests of keys
 
@@ -264,6 +264,65 @@ module _ {O : Type 0} where
         ]);
   }
 
+  -- ---- keys that all have entries
+
+  first_is : (low high : ℕ) (e : ℕ × O) (es : List (ℕ × O)) → IsRising low high (e ∷ es) → IsSome (at low (e ∷ es)) → e.0 ≡ low
+  first_is low high e es h s = elim (cases_eq e.0 low) [
+    | inl same ↦ same
+    | inr ne ↦
+        let from : low ≤ e.0 = h.0 in
+        let missing : at low (e ∷ es) ≡ None = ap (λ b. cond b (Some e.1) (at low es)) (miss low e.0 (λ t. ne (sym t))) ∙ none_below (e.0 + 1) high low es h.2 (omega (arith, from)) in
+        let t : false ≡ true = sym (ap is_some missing) ∙ s in
+        absurd (let z : ⊥ = cc in z)
+  ]
+
+  behind_first : (k : ℕ) (e : ℕ × O) (es : List (ℕ × O)) → (k ≡ e.0 → ⊥) → IsSome (at k (e ∷ es)) → IsSome (at k es)
+  behind_first k e es ne s = sym (ap (λ b. is_some (cond b (Some e.1) (at k es))) (miss k e.0 ne)) ∙ s
+
+  -- where all keys from low up to k have entries, none is missing before that of k
+  pub in_row : (low high k i : ℕ) (es : List (ℕ × O)) → k ≡ low + i → IsRising low high es → ((q : ℕ) → low ≤ q → q ≤ k → IsSome (at q es)) → IsEntryAt es k i
+  in_row low high k i [] e h s =
+      let t : false ≡ true = s k (omega (arith, e)) (omega arith) in
+      absurd (let z : ⊥ = cc in z)
+  in_row low high k zero (x ∷ es) e h s =
+      let first : x.0 ≡ low = first_is low high x es h (s low (omega arith) (omega (arith, e))) in
+      let here : x.0 ≡ k = omega (arith, e, first) in
+      (omega arith, λ d. here)
+  in_row low high k (suc i) (x ∷ es) e h s =
+      let first : x.0 ≡ low = first_is low high x es h (s low (omega arith) (omega (arith, e))) in
+      let rest : IsEntryAt es k i =
+      in_row (x.0 + 1) high k i es (omega (arith, e, first)) h.2
+      (λ q from to. behind_first q x es (λ same. absurd (omega (arith, same, from))) (s q (omega (arith, from, first)) to)) in
+      let lt : i < length es = rest.0 in
+      (omega (arith, lt), rest.1)
+
+  cond_some : (b : Bool) (x : O) (o : Option O) → IsSome o → IsSome (cond b (Some x) o)
+  cond_some true x o s = refl
+  cond_some false x o s = s
+
+  -- the key k has an entry, and those of all others stay
+  pub each_kept : (n k : ℕ) (es ns : List (ℕ × O)) (x : O) → ((q : ℕ) → at q ns ≡ cond (hits k q) (Some x) (at q es)) → HasEachBelow n es → HasEachBelow n ns
+  each_kept n k es ns x u h = λ q lt. ap is_some (u q) ∙ cond_some (hits k q) x (at q es) (h q lt)
+
+  pub each_more : (n k m : ℕ) (es ns : List (ℕ × O)) (x : O) → ((q : ℕ) → at q ns ≡ cond (hits k q) (Some x) (at q es)) → HasEachBelow n ns → m ≡ cond (nat_eq n k) (k + 1) n → HasEachBelow m ns
+  each_more n k m es ns x u h is = elim (cases_eq n k) [
+    | inl e ↦
+        let more : m ≡ k + 1 = is ∙ ap (λ b. cond b (k + 1) n) (eq-eqb n k e) in
+        λ q lt. elim (cases_lt q k) [
+          | inl below ↦ h q (omega (arith, below, e))
+          | inr above ↦ ap is_some (u q ∙ ap (λ b. cond b (Some x) (at q es)) (hit k q (omega (arith, above, lt, more))))
+        ]
+    | inr ne ↦
+        let same : m ≡ n = is ∙ ap (λ b. cond b (k + 1) n) (ne_eqb n k ne) in
+        λ q lt. h q (omega (arith, lt, same))
+  ]
+
+  -- the key k has none any more
+  pub each_before : (n k m : ℕ) (es ns : List (ℕ × O)) → ((q : ℕ) → at q ns ≡ cond (hits k q) None (at q es)) → m ≤ n → m ≤ k → HasEachBelow n es → HasEachBelow m ns
+  each_before n k m es ns u among before h = λ q lt.
+      let ne : k ≡ q → ⊥ = λ e. absurd (omega (arith, e, lt, before)) in
+      ap is_some (u q) ∙ ap (λ b. is_some (cond b None (at q es))) (miss k q ne) ∙ h q (omega (arith, lt, among))
+
   -- ---- the last entry
 
   not_last : (low high i : ℕ) (es : List (ℕ × O)) → length es ≡ suc i → IsRising low (high + 1) es → (IsEntryAt es high i → ⊥) → IsRising low high es
@@ -393,6 +452,21 @@ module _ {O V : Type 0} (f : V → List (ℕ × O)) where
       at-append k (f p.1) (all ps)
       ∙ ap (λ o. either o (at k (all ps))) (above next k p h.2.0 (omega (arith, from, behind)))
       ∙ in_page (p.0 + 1) next k n i ps d h.2.1 from to (lt, t.1)
+
+  -- where each key up to k has an object, k's page and the object in it stand in their own places
+  pub own_page : (next k : ℕ) (ps : List (ℕ × V)) → ArePages f 0 next ps → ((q : ℕ) → q ≤ k → IsSome (at q (all ps))) → IsEntryAt ps (k / 64) (k / 64)
+  own_page next k ps h s =
+      let begins : 64 * (k / 64) ≤ k = page_from k in
+      in_row 0 (next / 64 + 1) (k / 64) (k / 64) ps (omega arith) (numbers 0 next ps h)
+      (λ n from to. page_listed 0 next (64 * n) n ps h (omega arith) (omega arith) (s (64 * n) (omega (arith, to, begins))))
+
+  pub own_place : (next k i : ℕ) (ps : List (ℕ × V)) (d : ℕ × V) → ArePages f 0 next ps → IsEntryAt ps (k / 64) i → ((q : ℕ) → q ≤ k → IsSome (at q (all ps)))
+      → IsEntryAt (f (slice_index_or ps i d).1) k (k % 64)
+  own_place next k i ps d h t s =
+      let parts : k / 64 * 64 + k % 64 ≡ k = div-add-mod' k 64 in
+      let ends : k < 64 * (k / 64) + 64 = page_to k in
+      in_row (64 * (k / 64)) (min (64 * (k / 64) + 64) next) k (k % 64) (f (slice_index_or ps i d).1) (omega (arith, parts)) (page_there 0 next (k / 64) i ps d h t)
+      (λ q from to. ap is_some (sym (in_page 0 next q (k / 64) i ps d h from (omega (arith, to, ends)) t)) ∙ s q to)
 
   -- a page in which a key k of its own has another object or none changes just that of all pages
   pub page_changed : (low next k n i : ℕ) (ps : List (ℕ × V)) (p' : ℕ × V) (s : Option O) → ArePages f low next ps → 64 * n ≤ k → k < 64 * n + 64 → IsEntryAt ps n i

@@ -1,7 +1,10 @@
 -- Objects by key in pages of 64 keys each.
 use mathlib.Core.HLevel.{×_prop, ×₃_prop, Unit-prop}
-use Rattle.std.specs.Prelude.{ℕ, ◌+◌, ◌*◌, ◌≡◌, ◌<◌, ◌≤◌, min, Bool, not, cond, nat_eq, List, [], ◌∷◌, length, slice_index_or, Vec, vec_len}
+use Rattle.std.specs.Prelude.{ℕ, ◌+◌, ◌*◌, ◌≡◌, ◌<◌, ◌≤◌, min, Bool, not, cond, nat_eq, IsSome, List, [], ◌∷◌, length, slice_index_or, Vec, vec_len}
 use Rattle.std.specs.List.{filter}
+use Rattle.std.specs.Map.{lookup}
+use Rattle.std.specs.BTreeMap.{is_at}
+use Rattle.std.specs.Ordering.{nat_cmp}
 use Rattle.std.specs.declared.alloc.Global.{Global}
 use Rattle.std.proofs.Props.{props}
 
@@ -17,6 +20,10 @@ IsRising low high (e ∷ es) = (low ≤ e.0) × (e.0 < high) × IsRising (e.0 + 
 -- an entry of the key k stands at the place i
 abbrev pub IsEntryAt : {E : Type 0} → List (ℕ × E) → ℕ → ℕ → Type 0
 IsEntryAt {E} es k i = (i < length es) × ((d : ℕ × E) → (slice_index_or es i d).0 ≡ k)
+
+-- each key below n has an entry
+abbrev pub HasEachBelow : {E : Type 0} → ℕ → List (ℕ × E) → Type 0
+HasEachBelow n es = (k : ℕ) → k < n → IsSome (lookup (is_at (nat_cmp k)) es)
 
 -- pages by number, from the number low on, of objects whose keys are the page's own and below next; f tells what a page has
 abbrev pub ArePages : {O V : Type 0} → (V → List (ℕ × O)) → ℕ → ℕ → List (ℕ × V) → Type 0

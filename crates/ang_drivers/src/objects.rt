@@ -15,9 +15,10 @@ use std::alloc::{AllocError, Global};
 /// Keys rise from 0 and are not used again: the next key is the number of objects made so far. Each
 /// object that is made takes a host call, so keys never run out before `asked`.
 ///
-/// Objects lie in pages, each for 64 keys that follow one another. A look-up goes to the page and to the object in
-/// it at once where none before them is gone, or where they are the last; else it goes by halves among the pages, and
-/// in the page. The last release of an object moves those behind it in its page, 63 at most.
+/// Objects lie in pages, each for 64 keys that follow one another. A look-up goes to an object at once, by one test,
+/// where all that were made before it live. Else it goes to the page and to the object in it at once where none before
+/// them is gone, or where they are the last, and in all other cases by halves among the pages, and in the page. The last
+/// release of an object moves those behind it in its page, 63 at most.
 ///
 /// An object is 16 bytes and its value. A page of which not all keys are used has room for at most 64
 /// objects. Once all are, it has room for fewer than four times those that live, and none where none

@@ -1,13 +1,13 @@
 //! Live objects by key, in pages of keys that follow one another.
 ghost use Rattle.std.specs.Prelude.{ℕ, ◌+◌, ◌-◌, ◌*◌, ◌/◌, ◌≡◌, ◌<◌, ◌≤◌, ◌^◌, ◌++◌, ◌∷◌, [], Bool, true, false, cond, not, None, Some, IsSome, nat_eq, IfErr, IfOk, OnErr, OnOk, nat_lt, length, vec_len, count_by};
-ghost use Rattle.std.specs.List.{filter, remove};
+ghost use Rattle.std.specs.List.{filter, flat_map, remove};
 ghost use Rattle.std.specs.Ordering.{nat_cmp};
 ghost use Rattle.std.specs.FinMap as map;
 ghost use Rattle.std.specs.Map.{lookup};
 ghost use Rattle.std.specs.BTreeMap.{is_at};
 ghost use Rattle.ang_host.specs.State.{count_at};
 ghost use Rattle.ang_drivers.specs.Objects.{by_key, one_more, one_less_if};
-ghost use Rattle.ang_drivers.specs.Pages.{objects_in, is_blank, IsRising, IsEntryAt, IsThinned, ArePages, ArePages-prop};
+ghost use Rattle.ang_drivers.specs.Pages.{objects_in, is_blank, IsRising, IsEntryAt, IsThinned, HasEachBelow, ArePages, ArePages-prop};
 
 use std::alloc::{AllocError, Global};
 use std::mem;
@@ -36,7 +36,8 @@ type Page<T> = Vec<(u64, Counted<T>)>;
 /// there are more, all of them are taken out, so that a page leaves in a time that does not grow with the others, taken
 /// over all. The list of pages grows and gives back as a page does.
 ///
-/// A look-up finds the page at once where none before it was taken out, or where it is the last, else by halves; and
+/// A look-up finds the object at once where each key below its own is that of a live object: so many keys lead. Of any
+/// other key it finds the page at once where none before it was taken out, or where it is the last, else by halves; and
 /// so the object in its page. Taking an object out moves those behind it in its page. A new object may move the list
 /// of pages to a larger place, as a `Vec` does.
 #[derive(Drop)]
@@ -44,9 +45,11 @@ pub(crate) struct Pages<T> {
     pages: Vec<(u64, Page<T>)>,
     blank: usize,
     next: u64,
+    leading: u64,
     ghost paged: { ArePages objects_in 0 next pages.items } by { ArePages-prop objects_in 0 next pages.items },
     ghost counted: { count_by is_blank pages.items ≡ blank },
     ghost few: { blank ≤ vec_len pages / 2 + 1 },
+    ghost led: { HasEachBelow leading (flat_map (λ e. objects_in e.1) pages.items) },
 }
 
 /// Where a live object is.
@@ -68,6 +71,7 @@ impl<T> Pages<T> {
             pages: Vec::new(alloc),
             blank: 0,
             next: 0,
+            leading: 0,
         }
     }
 
@@ -81,6 +85,21 @@ impl<T> Pages<T> {
     // Where the object of a live key is.
     #[inline(always)]
     fn place(&self, key: u64) -> Place
+        requires held { IsSome (lookup (is_at (nat_cmp key)) (entries_of self.now)) }
+        ensures there { IsPlace self.now key result }
+    {
+        if key < self.leading {
+            return Place {
+                page: (key / KEYS) as usize,
+                index: (key % KEYS) as usize,
+            };
+        }
+        self.place_apart(key)
+    }
+
+    // The same of any live key, whether it leads or not.
+    #[inline(never)]
+    fn place_apart(&self, key: u64) -> Place
         requires held { IsSome (lookup (is_at (nat_cmp key)) (entries_of self.now)) }
         ensures there { IsPlace self.now key result }
     {
@@ -231,6 +250,7 @@ impl<T: Drop> Pages<T> {
     {
         let key = self.next;
         self.add_next(alloc, object)?;
+        self.leading = more_with(self.leading, key);
         Ok(key)
     }
 
@@ -250,7 +270,24 @@ impl<T: Drop> Pages<T> {
         let is_gone = remove_from(&mut self.pages[place.page].1, place.index, is_open);
         let blank = more_if(self.blank, is_gone);
         self.blank = thinned(&mut self.pages, blank);
+        self.leading = least(self.leading, key);
     }
+}
+
+// How many keys lead, so many of those before this one, once an object has it.
+fn more_with(leading: u64, key: u64) -> u64
+    requires room { key + 1 < 2 ^ 64 }
+    ensures exact { result ≡ cond (nat_eq leading key) (key + 1) leading }
+{
+    if leading == key { key + 1 } else { leading }
+}
+
+// How many keys lead, so many before, once none has this one.
+fn least(leading: u64, key: u64) -> u64
+    ensures among { result ≤ leading }
+    ensures before { result ≤ key }
+{
+    if key < leading { key } else { leading }
 }
 
 // One more where it is so.
@@ -330,7 +367,7 @@ fn index_of<E>(entries: &[(u64, E)], key: u64, own: usize) -> usize
 }
 
 // The same elsewhere: most often it is the last.
-#[inline(never)]
+#[inline(always)]
 fn index_apart<E>(entries: &[(u64, E)], key: u64) -> usize
     requires held { IsSome (lookup (is_at (nat_cmp key)) entries.now) }
     requires rises { (low : ℕ) × (high : ℕ) × IsRising low high entries.now }

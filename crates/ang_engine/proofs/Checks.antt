@@ -14,7 +14,7 @@ use Rattle.ang_engine_modules.specs.declared.module.Module.{Module}
 use Rattle.ang_engine_modules.specs.declared.reply.Outcome.TheVariants.{Done, Refused}
 use Rattle.ang_engine_modules.specs.declared.reply.Refusal.TheVariants.{NoModule, BuildMemory}
 use Rattle.ang_engine_modules.specs.World.{ModuleState, World, module_named, module_in, module_at}
-use Rattle.ang_engine_modules.specs.States.{place_of, places_of, build_in}
+use Rattle.ang_engine_modules.specs.States.{place_of, places_of}
 use Rattle.ang_engine_modules.specs.Commands.{reply_of}
 use Rattle.ang_engine_modules.proofs.Finding.{on_module-found, on_module-none, with_places, here, stood}
 use Rattle.ang_engine_modules.proofs.PlaceLists.{set_same, map_set, map_at, map_length}
@@ -36,17 +36,6 @@ judged-errors U no.Memory b h = tt
 pub denied-errors : (A U : Type 0) (e : NoProgram) (ds : List Denial) → HasDenials {A = A} (Err e) ds → HasDenials {A = U} (Err e) ds
 denied-errors A U (no.Errors es denials) ds h = h
 denied-errors A U no.Memory ds h = tt
-
--- ---- numbers of builds
-
--- a module that keeps its number keeps it among the others
-pub builds_set : (ms : List (Option Module)) (i : ℕ) (n : Option Module) → build_in n ≡ build_in (slice_index_or ms i None) → (j : ℕ)
-    → build_in (slice_index_or (slice_set ms i n) j None) ≡ build_in (slice_index_or ms j None)
-builds_set [] i n e j = refl
-builds_set (m ∷ ms) zero n e zero = e
-builds_set (m ∷ ms) zero n e (suc j) = refl
-builds_set (m ∷ ms) (suc i) n e zero = refl
-builds_set (m ∷ ms) (suc i) n e (suc j) = builds_set ms i n e j
 
 -- ---- other modules
 

@@ -24,4 +24,4 @@ pub mod Backwards
 pub mod Limiting
 pub mod Preparing
 pub mod Checks
-pub mod Tracing
+pub mod Moved

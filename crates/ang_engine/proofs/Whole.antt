@@ -33,7 +33,7 @@ use Rattle.ang_engine_modules.specs.Sound.{HaveGlobals}
 use Rattle.ang_engine.specs.Outcomes.{IfRefusedAtOnce, IsCalled, IsDiscarded, binding, building, calling, discarding, reply_to_build, reply_to_call, reply_to_discard}
 use Rattle.ang_engine.specs.Engines.{registrations, drivers_in}
 use Rattle.ang_engine.specs.Sound.{AreSoundModules}
-use Rattle.ang_engine.specs.Sound.{HaveDrivers, IsSound}
+use Rattle.ang_engine.specs.Sound.{HaveDrivers, AreNumbered, IsSound}
 use Rattle.ang_engine.specs.Asked.{HasAsked}
 use Rattle.ang_engine.specs.Applied.{Applied}
 use Rattle.ang_engine.proofs.Asking.{asked-nothing, applied-asked}
@@ -47,8 +47,8 @@ follow_count st kind rule roles xs es ys h = sym (length-map ys st) ∙ h.follow
 
 -- what an engine keeps, after a command that has asked
 pub sound-asked : {V : Type 0} {P : V → Type 0} (m : Meanings P) (e f : Engine V P) (v : World) (es : List HostEvent) → IsSound m e → registrations f ≡ registrations e
-    → AreSoundModules (registrations e) f.modules → HaveGlobals f.modules (values_in f.machine.store.globals) → HasAsked m (registrations e) v es e.machine.store f.machine.store → IsSound m f
-sound-asked m e f v es sound same modules globals asked = record {
+    → AreSoundModules (registrations e) f.modules → HaveGlobals f.modules (values_in f.machine.store.globals) → HasAsked m (registrations e) v es e.machine.store f.machine.store → AreNumbered f.modules → IsSound m f
+sound-asked m e f v es sound same modules globals asked numbered = record {
   modules = subst (λ R. AreSoundModules R f.modules) (sym same) modules;
   globals = globals;
   in_list = subst (λ R. HaveDrivers R (length (drivers_in f))) (sym same)
@@ -56,6 +56,7 @@ sound-asked m e f v es sound same modules globals asked = record {
       (sym (follow_count (λ b. state_in m b) (λ b. b.vtable) (λ x. (m x).meaning.fits) (roles_of (registrations e)) (drivers_in e) es (drivers_in f) asked.follow)) sound.in_list);
   kept = asked.kept;
   counted = asked.counted;
+  numbered = numbered;
 }
 
 module _ {V : Type 0} {P : V → Type 0} (m : Meanings P) (R : RegistrationList) where

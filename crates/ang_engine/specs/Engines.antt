@@ -38,6 +38,10 @@ world_in m e = left_to (states_in e.modules) (world_of m e.machine.store)
 abbrev pub builds_in : {V : Type 0} {P : V → Type 0} → Engine V P → ℕ → Option ℕ
 builds_in e i = build_at e.modules.places.items i
 
+-- the number of the last build that it began, of a module that is gone too; 0 before the first
+abbrev pub last_build : {V : Type 0} {P : V → Type 0} → Engine V P → ℕ
+last_build e = e.modules.builds
+
 -- its boxed drivers, in their order
 abbrev pub drivers_in : {V : Type 0} {P : V → Type 0} → Engine V P → List (DynBox V Global P)
 drivers_in e = members e.machine.store.drivers

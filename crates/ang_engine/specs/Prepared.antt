@@ -1,6 +1,6 @@
 -- Functions of built modules that are looked up once and called by their number (docs/HOST.md, "Besides
 -- commands").
-use Rattle.std.specs.Prelude.{ℕ, ◌≡◌, ◌==◌, Bool, false, if◌then◌else◌, List, [], All, Option, Some, None, Result, Ok, Err, slice_get}
+use Rattle.std.specs.Prelude.{ℕ, ◌≡◌, ◌≢◌, ◌≤◌, ◌==◌, Bool, true, false, if◌then◌else◌, List, [], All, Option, Some, None, Result, Ok, Err, slice_get}
 use Rattle.std.specs.declared.alloc.Global.{Global}
 use Rattle.std.specs.declared.dyn_box.DynBox.{DynBox}
 use Rattle.ang_kinds.specs.declared.value.Value.{Value}
@@ -11,17 +11,19 @@ use Rattle.ang_names_known.specs.declared.names.ScriptFunction.{ScriptFunction}
 use Rattle.ang_meaning.specs.World.{Input}
 use Rattle.ang_engine_call.specs.Named.{function_named_by}
 use Rattle.ang_engine_call.specs.Calls.{is_callable}
-use Rattle.ang_engine_modules.specs.declared.command.Command.TheVariants.{Call}
+use Rattle.ang_engine_modules.specs.declared.command.Command.{Command}
+use Rattle.ang_engine_modules.specs.declared.command.Command.TheVariants.{NewModule, SetMask, AddSection, Build, Bind, Unbind, Call, Discard}
 use Rattle.ang_engine_modules.specs.declared.reply.Reply.{Reply}
-use Rattle.ang_engine_modules.specs.declared.reply.Outcome.TheVariants.{Refused}
+use Rattle.ang_engine_modules.specs.declared.reply.Outcome.{Outcome}
+use Rattle.ang_engine_modules.specs.declared.reply.Outcome.TheVariants.{Done, Failed, Refused}
 use Rattle.ang_engine_modules.specs.declared.reply.Refusal.{Refusal}
-use Rattle.ang_engine_modules.specs.declared.reply.Refusal.TheVariants.{NoModule, NotBuilt, NoFunction, NotCallable}
+use Rattle.ang_engine_modules.specs.declared.reply.Refusal.TheVariants.{BadName, ModuleExists, Limit, NoModule, NotBuilt, BadBudget, BuildMemory, BuildErrors, InitFailed, NoFunction, NoImport, SignatureDiffers, NotCallable, BadArguments, Memory}
 use Rattle.ang_engine_modules.specs.World.{Program, World, module_named, module_at}
 use Rattle.ang_engine_modules.specs.Commands.{Stepped, refused, reply_of}
 use Rattle.ang_engine.specs.declared.engine.Engine.{Engine}
 use Rattle.ang_engine.specs.declared.prepared.Prepared.{Prepared}
 use Rattle.ang_engine.specs.Roles.{roles_of}
-use Rattle.ang_engine.specs.Engines.{registrations, world_in, drivers_in, builds_in}
+use Rattle.ang_engine.specs.Engines.{registrations, world_in, drivers_in, builds_in, last_build}
 use Rattle.ang_engine.specs.Step.{Takes, IsEntitled, of_function, call_chosen}
 use Rattle.ang_engine.specs.Outcomes.{IfRefusedAtOnce}
 
@@ -80,6 +82,54 @@ is_build n (Some b) = b == n
 -- whether its module is there still, and was not built since
 abbrev pub is_there : (ℕ → Option ℕ) → Prepared → Bool
 is_there builds p = is_build (build_in p) (builds (place_in p))
+
+-- ---- what a command does to it
+
+-- whether a build that was answered so had begun, or a discard that was answered so was done
+abbrev pub has_begun : Outcome → Bool
+has_begun (Done v) = true
+has_begun (Failed f) = true
+has_begun (Refused BuildMemory) = true
+has_begun (Refused BuildErrors) = true
+has_begun (Refused (InitFailed f)) = true
+has_begun (Refused BadName) = false
+has_begun (Refused ModuleExists) = false
+has_begun (Refused Limit) = false
+has_begun (Refused NoModule) = false
+has_begun (Refused NotBuilt) = false
+has_begun (Refused BadBudget) = false
+has_begun (Refused NoFunction) = false
+has_begun (Refused NoImport) = false
+has_begun (Refused SignatureDiffers) = false
+has_begun (Refused NotCallable) = false
+has_begun (Refused BadArguments) = false
+has_begun (Refused Memory) = false
+
+-- The number of the module that a command has built anew, left unbuilt or discarded, if there is one.
+abbrev pub replaced : Command → Outcome → World → Option ℕ
+replaced (Build name budget) outcome w = if has_begun outcome then module_named name w else None
+replaced (Discard name) outcome w = if has_begun outcome then module_named name w else None
+replaced (NewModule name mask) outcome w = None
+replaced (SetMask name mask) outcome w = None
+replaced (AddSection name text) outcome w = None
+replaced (Bind name index exporter decl) outcome w = None
+replaced (Unbind name index) outcome w = None
+replaced (Call name decl args budget) outcome w = None
+
+-- What was looked up while n builds had begun, when k have: of the module that was replaced nothing is
+-- there any more, and of every other all is there that was, and nothing else. So what is not there never
+-- comes back.
+pub record HaveMoved (one : Option ℕ) (n : ℕ) (before : ℕ → Option ℕ) (k : ℕ) (after : ℕ → Option ℕ)
+    : Type 0 where
+  pub count : n ≤ k
+  pub lost : (p : Prepared) → one ≡ Some (place_in p) → build_in p ≤ n → is_there after p ≡ false
+  pub kept : (p : Prepared) → one ≢ Some (place_in p) → is_there after p ≡ is_there before p
+
+-- the command, which ended so, took one engine to the other
+abbrev pub HasMovedPrepared : {V : Type 0} {P : V → Type 0} → Meanings P → Engine V P → Command
+    → Outcome → Engine V P → Type 0
+HasMovedPrepared m e c outcome f =
+    HaveMoved (replaced c outcome (world_in m e)) (last_build e) (builds_in e) (last_build f) (builds_in f)
 
 -- ---- a call of it
 

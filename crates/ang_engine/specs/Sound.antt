@@ -1,5 +1,5 @@
 -- What an engine keeps between commands.
-use Rattle.std.specs.Prelude.{ℕ, ◌≡◌, ◌<◌, Bool, true, false, List, [], length, Option, Some}
+use Rattle.std.specs.Prelude.{ℕ, ◌≡◌, ◌<◌, ◌≤◌, Bool, true, false, List, [], length, Option, Some}
 use Rattle.ang_host.specs.Meanings.{Meanings}
 use Rattle.ang_view.specs.declared.entry.Entry.{Entry}
 use Rattle.ang_view.specs.declared.entry.EntryKind.{EntryKind}
@@ -13,6 +13,7 @@ use Rattle.ang_engine_modules.specs.declared.modules.LoadedModule.{LoadedModule}
 use Rattle.ang_engine_modules.specs.declared.module.Module.{Module}
 use Rattle.ang_engine_modules.specs.declared.module.ModuleList.{ModuleList}
 use Rattle.ang_engine_modules.specs.Sound.{IsPlaceOf, AreModules, HaveGlobals}
+use Rattle.ang_engine_modules.specs.States.{build_at}
 use Rattle.ang_engine.specs.declared.engine.Engine.{Engine}
 use Rattle.ang_engine.specs.Engines.{resolved_in, registrations, drivers_in}
 
@@ -46,6 +47,10 @@ has_driver (EnumValue v) = false
 abbrev pub HaveDrivers : RegistrationList → ℕ → Type 0
 HaveDrivers R n = (number : ℕ) (x : Entry) → entry_at R number ≡ Some x → has_driver x.kind ≡ true → x.driver < n
 
+-- each module's last build was begun: none has the number of a build that comes
+pub record AreNumbered (x : ModuleList) : Type 0 where
+  pub begun : (i b : ℕ) → build_at x.places.items i ≡ Some b → b ≤ x.builds
+
 -- The modules are sound; each entry's driver is in the list; the machine keeps what it needs to
 -- give everything up; and nothing is held but by globals and fields.
 pub record IsSound {V : Type 0} {P : V → Type 0} (m : Meanings P) (e : Engine V P) : Type 0 where
@@ -54,3 +59,4 @@ pub record IsSound {V : Type 0} {P : V → Type 0} (m : Meanings P) (e : Engine 
   pub in_list : HaveDrivers (registrations e) (length (drivers_in e))
   pub kept : IsKept m e.machine.store
   pub counted : IsCounted [] (world_of m e.machine.store)
+  pub numbered : AreNumbered e.modules

@@ -1,17 +1,13 @@
 -- What is kept of how the last command ended: the frames of the bodies that were running where it
 -- faulted, and its ticks (docs/HOST.md, "Faults").
-use Rattle.std.specs.Prelude.{ℕ, List, Option, reverse}
+use Rattle.std.specs.Prelude.{ℕ, List, Option}
 use Rattle.ang_code.specs.declared.instruction.Frame.{Frame}
-use Rattle.ang_vm.specs.declared.last.LastRun.{LastRun}
 use Rattle.ang_engine_modules.specs.declared.modules.LoadedModule.{LoadedModule}
 use Rattle.ang_engine_modules.specs.Loaded.{loaded_at}
+use Rattle.ang_engine_modules.specs.Traced.{frames_of}
 use Rattle.ang_engine_modules.specs.declared.command.Command.{Command}
 use Rattle.ang_engine_modules.specs.declared.command.Command.TheVariants.{NewModule, SetMask, AddSection, Build, Bind, Unbind, Call, Discard}
 use Rattle.ang_engine.specs.declared.engine.Engine.{Engine}
-
--- the frames of a run that faulted: that of the body that faulted first, then that of its caller, and so on
-abbrev pub frames_of : LastRun → List Frame
-frames_of last = reverse last.frames.items
 
 -- those of the machine's last run, which `HasStood` of ang_vm says where they stood
 abbrev pub trace_in : {V : Type 0} {P : V → Type 0} → Engine V P → List Frame

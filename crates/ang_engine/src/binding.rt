@@ -87,6 +87,7 @@ pub fn bind(
     ensures sound { (R : RegistrationList) → AreSoundModules R list.old
         → AreSoundModules R list.new }
     ensures places { list.new.places ≡ list.old.places }
+    ensures builds { list.new.builds ≡ list.old.builds }
 {
     let Some(home) = find(&list.places, name) else {
         return Err(Refusal::NoModule);

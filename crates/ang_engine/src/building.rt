@@ -1,5 +1,5 @@
 //! Builds.
-ghost use Rattle.std.specs.Prelude.{ℕ, ◌≡◌, ◌<◌, ◌≤◌, ◌^◌, [], Option, Some, None, length, IfOk, IfErr, IsSome, OnOk, OnErr, slice_set, slice_index_or, map as list_map};
+ghost use Rattle.std.specs.Prelude.{ℕ, ◌≡◌, ◌≢◌, ◌<◌, ◌≤◌, ◌+◌, ◌-◌, ◌^◌, [], Option, Some, None, length, IfOk, IfErr, IsSome, OnOk, OnErr, slice_set, slice_index_or, map as list_map};
 ghost use Rattle.ang_host.specs.Logs.{listed_in, is_heard};
 ghost use Rattle.ang_host.specs.Boxes.{members};
 ghost use Rattle.ang_view.specs.Registration.{seen};
@@ -16,12 +16,14 @@ ghost use Rattle.ang_engine_modules.specs.Loaded.{loaded_at, modules_of, unbound
 ghost use Rattle.ang_engine_modules.specs.Modules.{module_at as built_module_at, AreDriversThere};
 ghost use Rattle.ang_engine_modules.specs.declared.modules.LoadedModule.{LoadedModule};
 ghost use Rattle.ang_engine.specs.Asked.{HasRunOn, HasAsked};
-ghost use Rattle.ang_engine_modules.specs.States.{states_in, state_of, place_of, program_in, next_build, build_in, build_at};
+ghost use Rattle.ang_engine_modules.specs.States.{states_in, state_of, place_of, program_in, build_in, build_at};
 ghost use Rattle.ang_engine.specs.Engines.{resolved_in};
 ghost use Rattle.ang_engine.specs.Engines.{world_during};
 ghost use Rattle.ang_engine.specs.Outcomes.{IfRefusedAtOnce, IsBegun, IsCompiled, HasStarted, refused_by, building, reply_to_build};
 ghost use Rattle.ang_engine_modules.specs.Sound.{HasSameName, HaveGlobals};
-ghost use Rattle.ang_engine.specs.Sound.{IsBuiltBy, IsSoundPlace, HaveDrivers, AreSoundModules};
+ghost use Rattle.ang_engine.specs.Prepared.{HaveMoved, replaced};
+ghost use Rattle.ang_engine.specs.Sound.{IsBuiltBy, IsSoundPlace, HaveDrivers, AreSoundModules, AreNumbered};
+ghost use Rattle.ang_engine_modules.specs.declared.command.Command.TheVariants as command;
 ghost use Rattle.ang_engine.specs.Step.{Leads, emptied, build};
 ghost use Rattle.ang_engine_modules.specs.World.{module_at, module_in, left_to};
 
@@ -29,8 +31,7 @@ use crate::budget::may_run;
 use crate::ending::end_globals;
 use ang_engine_build::{NoProgram, Program, build_sections};
 use ang_engine_modules::{
-    KeptTree, LoadedModule, Module, ModuleList, Modules, Refusal, WholeModule, find, next_build,
-    put_globals,
+    KeptTree, LoadedModule, Module, ModuleList, Modules, Refusal, WholeModule, find, put_globals,
 };
 use ang_host::{Driver, EventBuffer};
 use ang_kinds::{Denial, Error, Fault, List, Mask};
@@ -74,10 +75,10 @@ fn take_sections(alloc: Global, from: &mut Module, number: u64) -> Vec<List<u8>>
         → state_of from.new None ≡ emptied (state_of from.old l) }
     ensures name { from.new.name ≡ from.old.name }
     ensures built_mask { from.new.built_mask ≡ from.old.mask }
-    ensures build { from.new.build ≡ number }
+    ensures build { from.new.build ≡ Some number }
 {
     from.built_mask = from.mask;
-    from.build = number;
+    from.build = Some(number);
     mem::replace(&mut from.sections, Vec::new(alloc))
 }
 
@@ -203,7 +204,7 @@ fn compile_waiting(
         → state_of from.new None ≡ emptied (state_of from.old l) }
     ensures name { from.new.name ≡ from.old.name }
     ensures built_mask { from.new.built_mask ≡ from.old.mask }
-    ensures build { from.new.build ≡ number }
+    ensures build { from.new.build ≡ Some number }
 {
     let sections = take_sections(alloc, from, number);
     compile(
@@ -342,6 +343,7 @@ fn build_module(
     requires counted { IsCounted []
         (world_of ⟦<dyn Driver as Driver>⟧ (lent machine.old events.old)) }
     requires first { listed_in events.old ≡ [] }
+    requires more { list.old.builds < 2 ^ 64 - 1 }
     ensures done { Leads (build registry.now.entries
         (world_during ⟦<dyn Driver as Driver>⟧ list.old machine.old events.old) home
         (module_at (world_during ⟦<dyn Driver as Driver>⟧ list.old machine.old events.old) home)
@@ -355,12 +357,15 @@ fn build_module(
     ensures globals { HaveGlobals list.new (values_in machine.new.store.globals) }
     ensures heard { is_heard events.new ≡ is_heard events.old }
     ensures begun { IfErr result IsBegun }
-    ensures builds { list.new.builds ≡ next_build list.old.builds }
+    ensures builds { list.new.builds ≡ list.old.builds + 1 }
     ensures build { build_at list.new.places.items home ≡ Some list.new.builds }
+    ensures others { (i : ℕ) → i ≢ home
+        → build_at list.new.places.items i ≡ build_at list.old.places.items i }
+    ensures numbered { AreNumbered list.old → AreNumbered list.new }
 {
     end_globals(alloc, machine, events, home as usize);
     list.code.unload(alloc, home);
-    let number = next_build(list.builds);
+    let number = list.builds + 1;
     list.builds = number;
     match compile_place(alloc, registry, &mut list.places[home as usize], number) {
         Ok(loaded) => start(alloc, &mut list.code, machine, events, home, loaded, budget),
@@ -387,6 +392,7 @@ pub fn build(
     requires counted { IsCounted []
         (world_of ⟦<dyn Driver as Driver>⟧ (lent machine.old events.old)) }
     requires first { listed_in events.old ≡ [] }
+    requires more { list.old.builds < 2 ^ 64 - 1 }
     ensures done { Leads (building registry.now.entries name.now budget
         (world_during ⟦<dyn Driver as Driver>⟧ list.old machine.old events.old))
         (reply_to_build result (listed_in events.new))
@@ -399,6 +405,12 @@ pub fn build(
     ensures refused { IfRefusedAtOnce (reply_to_build result (listed_in events.new)).outcome
         (members machine.new.store.drivers ≡ members machine.old.store.drivers) }
     ensures heard { is_heard events.new ≡ is_heard events.old }
+    ensures prepared { HaveMoved (replaced (command.Build name.now budget)
+        (reply_to_build result (listed_in events.new)).outcome
+        (world_during ⟦<dyn Driver as Driver>⟧ list.old machine.old events.old))
+        list.old.builds (build_at list.old.places.items)
+        list.new.builds (build_at list.new.places.items) }
+    ensures numbered { AreNumbered list.old → AreNumbered list.new }
 {
     let Some(home) = find(&list.places, name) else {
         return Err(BuildRefused::Before(Refusal::NoModule));

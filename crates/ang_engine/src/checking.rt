@@ -6,7 +6,7 @@ ghost use Rattle.ang_engine_build.specs.Answer.{HasDenials};
 ghost use Rattle.ang_engine_build.specs.Build.{build_of, denials_in};
 ghost use Rattle.ang_engine_modules.specs.declared.modules.LoadedModule.{LoadedModule};
 ghost use Rattle.ang_engine_modules.specs.Sound.{IsKept, ArePlacesKept};
-ghost use Rattle.ang_engine_modules.specs.States.{states_in, state_of, place_of, build_in, build_at};
+ghost use Rattle.ang_engine_modules.specs.States.{states_in, state_of, place_of, build_in, HaveSameBuilds};
 ghost use Rattle.ang_engine_modules.specs.World.{module_named, module_at, module_in, left_to};
 ghost use Rattle.ang_engine.specs.Checking.{checking, beside_sections, IsJudged, state_after};
 ghost use Rattle.ang_engine.specs.Outcomes.{reply_to_build};
@@ -17,15 +17,11 @@ use crate::building::{BuildRefused, compile, refused_by};
 use crate::engine::Engine;
 use crate::replies::{build_reply, heard_reply, no_events};
 use ang_engine_build::NoProgram;
-use ang_engine_modules::{Module, ModuleList, Refusal, Reply, WholeModule, find};
+use ang_engine_modules::{Module, ModuleList, Refusal, Reply, find};
 use ang_host::Driver;
 use ang_kinds::{List, Mask};
 use ang_registry::Registry;
 use std::alloc::Global;
-
-/// Lets a module go that was compiled.
-#[inline(never)]
-fn let_go(_compiled: WholeModule) {}
 
 /// Whether sections build to a program over what the mask sees.
 ///
@@ -45,7 +41,7 @@ fn judge(
 {
     match compile(alloc, registry, name, mask, sections) {
         Ok(compiled) => {
-            let_go(compiled);
+            drop(compiled);
             Ok(())
         }
         Err(why) => Err(why),
@@ -53,28 +49,28 @@ fn judge(
 }
 
 /// Judges the sections that wait in a module, which wait no more where they have errors.
-fn judge_waiting(alloc: Global, registry: &Registry, module: &mut Module) -> Result<(), NoProgram>
+fn judge_waiting(alloc: Global, registry: &Registry, waiting: &mut Module) -> Result<(), NoProgram>
     ensures judged { IsJudged result
-        (build_of (seen registry.now.entries module.old.mask.0) module.old.sections.items) }
+        (build_of (seen registry.now.entries waiting.old.mask.0) waiting.old.sections.items) }
     ensures denials { HasDenials result
-        (denials_in registry.now.entries module.old.mask.0 module.old.sections.items) }
-    ensures after { (l : Option LoadedModule) → state_of module.new l
-        ≡ state_after result (state_of module.old l) }
-    ensures name { module.new.name ≡ module.old.name }
-    ensures built_mask { module.new.built_mask ≡ module.old.built_mask }
-    ensures build { module.new.build ≡ module.old.build }
+        (denials_in registry.now.entries waiting.old.mask.0 waiting.old.sections.items) }
+    ensures after { (l : Option LoadedModule) → state_of waiting.new l
+        ≡ state_after result (state_of waiting.old l) }
+    ensures name { waiting.new.name ≡ waiting.old.name }
+    ensures built_mask { waiting.new.built_mask ≡ waiting.old.built_mask }
+    ensures build { waiting.new.build ≡ waiting.old.build }
 {
     let judged = judge(
         alloc,
         registry,
-        module.name.as_slice(),
-        module.mask,
-        &module.sections,
+        waiting.name.as_slice(),
+        waiting.mask,
+        &waiting.sections,
     );
     match judged {
         Ok(()) => Ok(()),
         Err(NoProgram::Errors { errors, denials }) => {
-            module.sections = Vec::new(alloc);
+            waiting.sections = Vec::new(alloc);
             Err(NoProgram::Errors { errors, denials })
         }
         Err(NoProgram::Memory) => Err(NoProgram::Memory),
@@ -123,7 +119,7 @@ fn check_named(
         → module_at (left_to (states_in list.new) r) i
         ≡ module_at (left_to (states_in list.old) r) i }
     ensures kept { ArePlacesKept list.old list.new }
-    ensures builds { (i : ℕ) → build_at list.new.places.items i ≡ build_at list.old.places.items i }
+    ensures builds { HaveSameBuilds list.old list.new }
 {
     let Some(home) = find(&list.places, name) else {
         return Err(BuildRefused::Before(Refusal::NoModule));
@@ -135,7 +131,7 @@ fn check_named(
 }
 
 impl Engine {
-    ghost use Rattle.ang_engine.specs.Engines.{registrations, world_in, drivers_in, limits_in, held_in, builds_in};
+    ghost use Rattle.ang_engine.specs.Engines.{registrations, world_in, drivers_in, limits_in, held_in, builds_in, last_build};
     ghost use Rattle.ang_engine.specs.Trace.{trace_in, ticks_in};
 
     /// Judges the sections that wait in a module as its build would, over what its mask sees now, and
@@ -166,6 +162,7 @@ impl Engine {
             ≡ held_in ⟦<dyn Driver as Driver>⟧ self.old }
         ensures limits { limits_in self.new ≡ limits_in self.old }
         ensures builds { (i : ℕ) → builds_in self.new i ≡ builds_in self.old i }
+        ensures last { last_build self.new ≡ last_build self.old }
         ensures trace { trace_in self.new ≡ trace_in self.old }
         ensures ticks { ticks_in self.new ≡ ticks_in self.old }
         ensures sound { IsSound ⟦<dyn Driver as Driver>⟧ self.new }

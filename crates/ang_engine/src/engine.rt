@@ -1,5 +1,5 @@
 //! The engine.
-ghost use Rattle.std.specs.Prelude.{◌≡◌, ◌+◌, ◌≤◌, ◌↔◌, [], true, false, Bool, List, All, IsTrue, IfOk, IfErr, OnErr, length, max, map as list_map};
+ghost use Rattle.std.specs.Prelude.{◌≡◌, ◌+◌, ◌-◌, ◌^◌, ◌<◌, ◌≤◌, ◌↔◌, [], true, false, Bool, List, All, IsTrue, IfOk, IfErr, OnErr, length, max, map as list_map};
 ghost use Rattle.ang_host.specs.Logs.{listed_in, is_heard};
 ghost use Rattle.ang_host.specs.declared.event.Role.{Role};
 ghost use Rattle.ang_host.specs.Boxes.{members};
@@ -28,10 +28,10 @@ use crate::replies::{
     Finished, Unheard, answer, build_reply, call_reply, discard_reply, ended, heard_reply,
     no_events, unheard_reply,
 };
-use crate::trace::{budget_of, end_last};
+use crate::trace::budget_of;
 use ang_engine_modules::{
     Command, MOST_MODULES, ModuleList, Modules, Outcome, Refusal, Reply, add_module, add_section,
-    find, remove_module, set_mask, unbind,
+    end_last, find, remove_module, set_mask, unbind,
 };
 use ang_heap::{Globals, Heap, Held, Limits, Store, begin_command, held, set_limits};
 use ang_host::{Driver, Drivers, EventBuffer};
@@ -138,10 +138,11 @@ impl Engine {
     ghost use Rattle.ang_engine.specs.Applied.{HasApplied};
     ghost use Rattle.ang_engine.specs.Asked.{HasAsked};
     ghost use Rattle.ang_engine.specs.Outcomes.{IfRefusedAtOnce, IsCalled, IsDiscarded, calling, discarding, reply_to_call, reply_to_discard};
-    ghost use Rattle.ang_engine.specs.Engines.{registrations, world_in, drivers_in, limits_in, held_in};
+    ghost use Rattle.ang_engine.specs.Engines.{registrations, world_in, drivers_in, limits_in, held_in, builds_in, last_build};
     ghost use Rattle.ang_engine.specs.Replies.{reply_in, WasUnheard};
     ghost use Rattle.ang_engine_modules.specs.Ended.{is_fault, may_have_run};
     ghost use Rattle.ang_engine.specs.Trace.{trace_in, ticks_in, budget_of};
+    ghost use Rattle.ang_engine.specs.Prepared.{HaveMoved, HasMovedPrepared, replaced};
 
     /// An engine without modules, and without limits. Each driver has to be idle, as those of
     /// `Drivers::new` are.
@@ -204,6 +205,9 @@ impl Engine {
     /// (`set_limits`), or than was held before. Where a driver refused one reference more, which the world
     /// notes as `spent`, the tally of some driver has run out.
     ///
+    /// A build that has begun, also one that comes to errors, and a discard end what was prepared of their
+    /// module; all else that was prepared stands as it did (`prepare`).
+    ///
     /// After a command that ended with a fault, `trace` says which bodies were running, and after any other
     /// nothing; `ticks_used` says what the command took of its budget.
     pub fn apply(&mut self, command: Command) -> Reply
@@ -228,6 +232,8 @@ impl Engine {
             → SomeRanOut (states_of ⟦<dyn Driver as Driver>⟧ (drivers_in self.new)) }
         ensures sound { IsSound ⟦<dyn Driver as Driver>⟧ self.new }
         ensures registrations { registrations self.new ≡ registrations self.old }
+        ensures prepared { HasMovedPrepared ⟦<dyn Driver as Driver>⟧ self.old command result.outcome
+            self.new }
         ensures no_trace { is_fault result.outcome ≡ false → trace_in self.new ≡ [] }
         ensures ticks { ticks_in self.new ≤ budget_of command }
         ensures no_ticks { may_have_run result.outcome ≡ false → ticks_in self.new ≡ 0 }
@@ -255,6 +261,8 @@ impl Engine {
             → SomeRanOut (states_of ⟦<dyn Driver as Driver>⟧ (drivers_in self.new)) }
         ensures sound { IsSound ⟦<dyn Driver as Driver>⟧ self.new }
         ensures registrations { registrations self.new ≡ registrations self.old }
+        ensures prepared { HasMovedPrepared ⟦<dyn Driver as Driver>⟧ self.old command result.outcome
+            self.new }
         ensures no_trace { is_fault result.outcome ≡ false → trace_in self.new ≡ [] }
         ensures ticks { ticks_in self.new ≤ budget_of command }
         ensures no_ticks { may_have_run result.outcome ≡ false → ticks_in self.new ≡ 0 }
@@ -282,6 +290,8 @@ impl Engine {
         ensures same { world_in ⟦<dyn Driver as Driver>⟧ self.new
             ≡ world_in ⟦<dyn Driver as Driver>⟧ self.old }
         ensures drivers { drivers_in self.new ≡ drivers_in self.old }
+        ensures builds { builds_in self.new ≡ builds_in self.old }
+        ensures last { last_build self.new ≡ last_build self.old }
         ensures sound { IsSound ⟦<dyn Driver as Driver>⟧ self.new }
         ensures registrations { registrations self.new ≡ registrations self.old }
     {
@@ -314,6 +324,8 @@ impl Engine {
             (reply_in result).events self.new.machine.store }
         ensures sound { IsSound ⟦<dyn Driver as Driver>⟧ self.new }
         ensures registrations { registrations self.new ≡ registrations self.old }
+        ensures prepared { HasMovedPrepared ⟦<dyn Driver as Driver>⟧ self.old command result.outcome
+            self.new }
         ensures no_trace { is_fault result.outcome ≡ false → trace_in self.new ≡ [] }
         ensures ticks { ticks_in self.new ≤ budget_of command }
         ensures no_ticks { may_have_run result.outcome ≡ false → ticks_in self.new ≡ 0 }
@@ -338,6 +350,8 @@ impl Engine {
             (reply_in result).events self.new.machine.store }
         ensures sound { IsSound ⟦<dyn Driver as Driver>⟧ self.new }
         ensures registrations { registrations self.new ≡ registrations self.old }
+        ensures prepared { HasMovedPrepared ⟦<dyn Driver as Driver>⟧ self.old command result.outcome
+            self.new }
     {
         match command {
             Command::NewModule { name, mask } => self.new_module(heard, name, mask),
@@ -370,6 +384,8 @@ impl Engine {
             (reply_in result).events self.new.machine.store }
         ensures sound { IsSound ⟦<dyn Driver as Driver>⟧ self.new }
         ensures registrations { registrations self.new ≡ registrations self.old }
+        ensures prepared { HasMovedPrepared ⟦<dyn Driver as Driver>⟧ self.old
+            (NewModule name mask) result.outcome self.new }
     {
         let alloc = self.alloc;
         let globals = &mut self.machine.store.globals;
@@ -386,6 +402,8 @@ impl Engine {
             (reply_in result).events self.new.machine.store }
         ensures sound { IsSound ⟦<dyn Driver as Driver>⟧ self.new }
         ensures registrations { registrations self.new ≡ registrations self.old }
+        ensures prepared { HasMovedPrepared ⟦<dyn Driver as Driver>⟧ self.old
+            (SetMask name mask) result.outcome self.new }
     {
         let done = set_mask(&mut self.modules, name, mask);
         answer(self.alloc, heard, ended(done))
@@ -400,11 +418,15 @@ impl Engine {
             (reply_in result).events self.new.machine.store }
         ensures sound { IsSound ⟦<dyn Driver as Driver>⟧ self.new }
         ensures registrations { registrations self.new ≡ registrations self.old }
+        ensures prepared { HasMovedPrepared ⟦<dyn Driver as Driver>⟧ self.old
+            (AddSection name text) result.outcome self.new }
     {
         let done = add_section(&mut self.modules, name, text);
         answer(self.alloc, heard, ended(done))
     }
 
+    /// Numbers of builds are used up after 2^64 - 1 of them, which at one a nanosecond takes 584 years: then a
+    /// build is refused as for want of memory.
     fn build(&mut self, heard: bool, name: List<u8>, budget: u64) -> Finished
         requires sound { IsSound ⟦<dyn Driver as Driver>⟧ self.old }
         ensures applied { HasApplied ⟦<dyn Driver as Driver>⟧ self.old (Build name budget)
@@ -414,6 +436,29 @@ impl Engine {
             (reply_in result).events self.new.machine.store }
         ensures sound { IsSound ⟦<dyn Driver as Driver>⟧ self.new }
         ensures registrations { registrations self.new ≡ registrations self.old }
+        ensures prepared { HasMovedPrepared ⟦<dyn Driver as Driver>⟧ self.old
+            (Build name budget) result.outcome self.new }
+    {
+        if self.modules.builds < u64::MAX {
+            self.build_next(heard, name, budget)
+        } else {
+            answer(self.alloc, heard, Outcome::Refused(Refusal::Memory))
+        }
+    }
+
+    /// The same where there is a number for one more build.
+    fn build_next(&mut self, heard: bool, name: List<u8>, budget: u64) -> Finished
+        requires sound { IsSound ⟦<dyn Driver as Driver>⟧ self.old }
+        requires more { last_build self.old < 2 ^ 64 - 1 }
+        ensures applied { HasApplied ⟦<dyn Driver as Driver>⟧ self.old (Build name budget)
+            (reply_in result) self.new }
+        ensures heard { is_heard result.events ≡ heard }
+        ensures within { StaysWithin ⟦<dyn Driver as Driver>⟧ self.old.machine.store
+            (reply_in result).events self.new.machine.store }
+        ensures sound { IsSound ⟦<dyn Driver as Driver>⟧ self.new }
+        ensures registrations { registrations self.new ≡ registrations self.old }
+        ensures prepared { HasMovedPrepared ⟦<dyn Driver as Driver>⟧ self.old
+            (Build name budget) result.outcome self.new }
     {
         let Ok(mut events) = room_for_ends(self.alloc, heard, &self.machine) else {
             return answer(self.alloc, heard, Outcome::Refused(Refusal::Memory));
@@ -446,6 +491,8 @@ impl Engine {
             (reply_in result).events self.new.machine.store }
         ensures sound { IsSound ⟦<dyn Driver as Driver>⟧ self.new }
         ensures registrations { registrations self.new ≡ registrations self.old }
+        ensures prepared { HasMovedPrepared ⟦<dyn Driver as Driver>⟧ self.old
+            (Bind name index exporter decl) result.outcome self.new }
     {
         let done = bind(
             self.alloc,
@@ -467,6 +514,8 @@ impl Engine {
             (reply_in result).events self.new.machine.store }
         ensures sound { IsSound ⟦<dyn Driver as Driver>⟧ self.new }
         ensures registrations { registrations self.new ≡ registrations self.old }
+        ensures prepared { HasMovedPrepared ⟦<dyn Driver as Driver>⟧ self.old
+            (Unbind name index) result.outcome self.new }
     {
         let done = unbind(self.alloc, &mut self.modules, name.as_slice(), index);
         answer(self.alloc, heard, ended(done))
@@ -531,6 +580,8 @@ impl Engine {
             (reply_in result).events self.new.machine.store }
         ensures sound { IsSound ⟦<dyn Driver as Driver>⟧ self.new }
         ensures registrations { registrations self.new ≡ registrations self.old }
+        ensures prepared { HasMovedPrepared ⟦<dyn Driver as Driver>⟧ self.old
+            (Call name decl args budget) result.outcome self.new }
     {
         let alloc = self.alloc;
         let Ok(mut events) = room_for_ends(alloc, heard, &self.machine) else {
@@ -564,6 +615,10 @@ impl Engine {
         ensures heard { is_heard events.new ≡ is_heard events.old }
         ensures sound { IsSound ⟦<dyn Driver as Driver>⟧ self.new }
         ensures registrations { registrations self.new ≡ registrations self.old }
+        ensures prepared { HaveMoved (replaced (Discard name.now)
+            (reply_to_discard result (listed_in events.new)).outcome
+            (world_in ⟦<dyn Driver as Driver>⟧ self.old))
+            (last_build self.old) (builds_in self.old) (last_build self.new) (builds_in self.new) }
     {
         let Some(home) = find(&self.modules.places, name) else {
             return Err(Refusal::NoModule);
@@ -582,6 +637,8 @@ impl Engine {
             (reply_in result).events self.new.machine.store }
         ensures sound { IsSound ⟦<dyn Driver as Driver>⟧ self.new }
         ensures registrations { registrations self.new ≡ registrations self.old }
+        ensures prepared { HasMovedPrepared ⟦<dyn Driver as Driver>⟧ self.old
+            (Discard name) result.outcome self.new }
     {
         let Ok(mut events) = room_for_ends(self.alloc, heard, &self.machine) else {
             return answer(self.alloc, heard, Outcome::Refused(Refusal::Memory));

@@ -15,12 +15,12 @@ mod refused;
 mod replies;
 mod trace;
 
+pub use ang_engine_call::DeclarationKind;
 pub use ang_engine_modules::{Command, Outcome, Refusal, Reply, TraceFrame};
 pub use ang_heap::{Held, Limits};
 pub use ang_host::{EventLog, EventRef, HostEvent, HostReply};
 pub use ang_kinds::{Denial, Error, ErrorKind, Place};
 pub use ang_registry::Registry;
-pub use declarations::DeclarationKind;
 pub use engine::Engine;
 pub use prepared::Prepared;
 pub use refused::{NewError, NewRefused};

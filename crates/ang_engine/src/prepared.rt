@@ -20,8 +20,7 @@ use crate::budget::may_run;
 use crate::calling::{callable_number, choose_by_number, run_chosen};
 use crate::engine::{Engine, room_for_ends};
 use crate::replies::{Finished, Unheard, answer, call_reply, heard_reply, unheard_reply};
-use crate::trace::end_last;
-use ang_engine_modules::{Outcome, Refusal, Reply, build_at, find};
+use ang_engine_modules::{Outcome, Refusal, Reply, build_at, end_last, find};
 use ang_heap::begin_command;
 use ang_host::{Driver, EventBuffer};
 use ang_kinds::Value;
@@ -41,38 +40,41 @@ pub struct Prepared {
 impl Engine {
     ghost use Rattle.ang_engine.specs.Asked.{HasAsked};
     ghost use Rattle.ang_engine.specs.Outcomes.{IfRefusedAtOnce, IsCalled, calling, reply_to_call};
-    ghost use Rattle.ang_engine.specs.Engines.{registrations, world_in, drivers_in, limits_in, held_in, builds_in};
+    ghost use Rattle.ang_engine.specs.Engines.{registrations, world_in, drivers_in, limits_in, held_in, builds_in, last_build};
     ghost use Rattle.ang_engine.specs.Replies.{reply_in, WasUnheard};
     ghost use Rattle.ang_engine_modules.specs.Ended.{is_fault, may_have_run};
     ghost use Rattle.ang_engine.specs.Trace.{trace_in, ticks_in};
-    ghost use Rattle.ang_engine.specs.Prepared.{IsFunctionOf, HasAppliedPrepared, number_in, looked_up, is_there, calling_number};
+    ghost use Rattle.ang_engine.specs.Prepared.{IsFunctionOf, HasAppliedPrepared, build_in, number_in, looked_up, is_there, calling_number};
 
     /// Looks up a function of a built module for calls of it: by its declaration without the body, as
     /// `Command::Call` takes it. What was prepared stands for that function until its module is built
-    /// again or discarded.
+    /// again, or a build of it is tried, or it is discarded; from then on it stands for none.
     ///
     /// # Errors
     /// The first that applies, as of a call: `NoModule` where there is no module of that name,
     /// `NotBuilt`, `NoFunction` where it has no function of that declaration, `NotCallable` where a host
     /// can't call it; or `Memory`.
-    pub fn prepare(&self, module: &[u8], decl: &[u8]) -> Result<Prepared, Refusal>
+    pub fn prepare(&self, name: &[u8], decl: &[u8]) -> Result<Prepared, Refusal>
         requires sound { IsSound ⟦<dyn Driver as Driver>⟧ self.now }
         ensures prepared { IfOk result (λ p. IsFunctionOf (world_in ⟦<dyn Driver as Driver>⟧ self.now)
-            (builds_in self.now) p module.now decl.now) }
+            (builds_in self.now) p name.now decl.now) }
         ensures found { IfOk result (λ p.
-            looked_up module.now decl.now (world_in ⟦<dyn Driver as Driver>⟧ self.now)
+            looked_up name.now decl.now (world_in ⟦<dyn Driver as Driver>⟧ self.now)
             ≡ Ok (number_in p)) }
+        ensures there { IfOk result (λ p. is_there (builds_in self.now) p ≡ true) }
+        ensures begun { IfOk result (λ p. build_in p ≤ last_build self.now) }
         ensures refused { IfErr result (λ why. why ≢ Memory
-            → looked_up module.now decl.now (world_in ⟦<dyn Driver as Driver>⟧ self.now) ≡ Err why) }
+            → looked_up name.now decl.now (world_in ⟦<dyn Driver as Driver>⟧ self.now) ≡ Err why) }
     {
-        let Some(home) = find(&self.modules.places, module) else {
+        let Some(home) = find(&self.modules.places, name) else {
             return Err(Refusal::NoModule);
         };
         let Some(loaded) = self.modules.code.loaded(home) else {
             return Err(Refusal::NotBuilt);
         };
+        // Each module that is built has the number of its build.
         let Some(build) = build_at(&self.modules.places, home) else {
-            return Err(Refusal::NoModule);
+            return Err(Refusal::Memory);
         };
         match callable_number(self.alloc, loaded, decl) {
             Ok(number) => Ok(Prepared {
@@ -122,6 +124,7 @@ impl Engine {
         ensures sound { IsSound ⟦<dyn Driver as Driver>⟧ self.new }
         ensures registrations { registrations self.new ≡ registrations self.old }
         ensures builds { builds_in self.new ≡ builds_in self.old }
+        ensures last { last_build self.new ≡ last_build self.old }
         ensures no_trace { is_fault result.outcome ≡ false → trace_in self.new ≡ [] }
         ensures ticks { ticks_in self.new ≤ budget }
         ensures no_ticks { may_have_run result.outcome ≡ false → ticks_in self.new ≡ 0 }
@@ -152,6 +155,7 @@ impl Engine {
         ensures sound { IsSound ⟦<dyn Driver as Driver>⟧ self.new }
         ensures registrations { registrations self.new ≡ registrations self.old }
         ensures builds { builds_in self.new ≡ builds_in self.old }
+        ensures last { last_build self.new ≡ last_build self.old }
         ensures no_trace { is_fault result.outcome ≡ false → trace_in self.new ≡ [] }
         ensures ticks { ticks_in self.new ≤ budget }
         ensures no_ticks { may_have_run result.outcome ≡ false → ticks_in self.new ≡ 0 }
@@ -176,6 +180,7 @@ impl Engine {
         ensures sound { IsSound ⟦<dyn Driver as Driver>⟧ self.new }
         ensures registrations { registrations self.new ≡ registrations self.old }
         ensures builds { builds_in self.new ≡ builds_in self.old }
+        ensures last { last_build self.new ≡ last_build self.old }
         ensures no_trace { is_fault result.outcome ≡ false → trace_in self.new ≡ [] }
         ensures ticks { ticks_in self.new ≤ budget }
         ensures no_ticks { may_have_run result.outcome ≡ false → ticks_in self.new ≡ 0 }
@@ -205,6 +210,7 @@ impl Engine {
         ensures sound { IsSound ⟦<dyn Driver as Driver>⟧ self.new }
         ensures registrations { registrations self.new ≡ registrations self.old }
         ensures builds { builds_in self.new ≡ builds_in self.old }
+        ensures last { last_build self.new ≡ last_build self.old }
     {
         if self.is_there(prepared) {
             self.call_with_room(heard, prepared, args, budget)
@@ -231,6 +237,7 @@ impl Engine {
         ensures sound { IsSound ⟦<dyn Driver as Driver>⟧ self.new }
         ensures registrations { registrations self.new ≡ registrations self.old }
         ensures builds { builds_in self.new ≡ builds_in self.old }
+        ensures last { last_build self.new ≡ last_build self.old }
     {
         let Ok(mut events) = room_for_ends(self.alloc, heard, &self.machine) else {
             return answer(self.alloc, heard, Outcome::Refused(Refusal::Memory));

@@ -80,7 +80,11 @@ fn build_scripts(
     };
     match check(alloc, view, &names, scripts) {
         Ok(tree) => Ok(Program { names, tree }),
-        Err(unbuilt) => Err(with_denials(alloc, registry, mask, scripts, Some(&names), unbuilt)),
+        Err(unbuilt) => {
+            let why = with_denials(alloc, registry, mask, scripts, Some(&names), unbuilt);
+            drop(names);
+            Err(why)
+        }
     }
 }
 

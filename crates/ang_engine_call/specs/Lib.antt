@@ -3,3 +3,4 @@ pub mod Headings
 pub mod Named
 pub mod Calls
 pub mod Texts
+pub mod Declarations

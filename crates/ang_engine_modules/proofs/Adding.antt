@@ -74,7 +74,7 @@ behind [] d (suc i) e = refl
 behind (x ∷ xs) d zero e = absurd (omega (arith, e))
 behind (x ∷ xs) d (suc i) e = behind xs d i (omega (arith, e))
 
-more_at : {A : Type 0} (xs : List A) (d : A) (j : ℕ) → slice_index_or (xs ++ d ∷ []) j d ≡ slice_index_or xs j d
+pub more_at : {A : Type 0} (xs : List A) (d : A) (j : ℕ) → slice_index_or (xs ++ d ∷ []) j d ≡ slice_index_or xs j d
 more_at [] d zero = refl
 more_at [] d (suc j) = refl
 more_at (x ∷ xs) d zero = refl
@@ -143,7 +143,7 @@ module _ (x y : ModuleList) (gs hs : List (List Slot)) (i : ℕ) where
   ready_few few (inr e) = e.few
 
   -- nothing stands there
-  ready_empty : IsReadied x gs y hs i → slice_index_or y.places.items i None ≡ None
+  pub ready_empty : IsReadied x gs y hs i → slice_index_or y.places.items i None ≡ None
   ready_empty (inl e) = ap (λ l. slice_index_or l i None) e.places ∙ (empty_there ms i e.empty).1
   ready_empty (inr e) = ap (λ l. slice_index_or l i None) e.places ∙ behind ms None i e.last
 

@@ -20,4 +20,6 @@ pub mod Worlds
 pub mod Finding
 pub mod Keeping
 pub mod Adding
+pub mod Numbering
 pub mod Unbinding
+pub mod Tracing

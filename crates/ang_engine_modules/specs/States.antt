@@ -1,5 +1,5 @@
 -- What contracts see of a list of modules.
-use Rattle.std.specs.Prelude.{ℕ, ◌+◌, ◌-◌, ◌^◌, min, Bool, false, List, [], ◌∷◌, Option, Some, None, option_map, bytes_eq, slice_index_or}
+use Rattle.std.specs.Prelude.{ℕ, ◌≡◌, Bool, false, List, [], ◌∷◌, Option, Some, None, option_map, bytes_eq, slice_index_or}
 use Rattle.ang_typed.specs.View.{view_typed}
 use Rattle.ang_meaning.specs.World.{World as RunWorld}
 use Rattle.ang_heap.specs.declared.globals.Globals.{Globals}
@@ -48,14 +48,15 @@ is_named name (Some m) = bytes_eq m.name name
 
 -- ---- numbers of builds
 
--- the number of the next build, of which there are 2^64 - 1
-abbrev pub next_build : ℕ → ℕ
-next_build n = min (n + 1) (2 ^ 64 - 1)
-
 abbrev pub build_in : Option Module → Option ℕ
 build_in None = None
-build_in (Some m) = Some m.build
+build_in (Some m) = m.build
 
 -- the number of the last build of the module in a place, where there is one
 abbrev pub build_at : List (Option Module) → ℕ → Option ℕ
 build_at xs i = build_in (slice_index_or xs i None)
+
+-- no build was begun
+pub record HaveSameBuilds (x y : ModuleList) : Type 0 where
+  pub count : y.builds ≡ x.builds
+  pub each : (i : ℕ) → build_at y.places.items i ≡ build_at x.places.items i

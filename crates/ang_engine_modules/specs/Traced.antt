@@ -1,6 +1,6 @@
 -- What the bodies of a module are declared as, by number: those of functions, then those of methods and
 -- constructors, then the initializers of globals (docs/CLAIMS.md, "A run of a built module").
-use Rattle.std.specs.Prelude.{ℕ, ◌==◌, ◌+◌, ◌-◌, nat_le, nat_lt, if◌then◌else◌, Bool, true, false, List, [], length, Option, Some, None, is_some, option_map, position, slice_get}
+use Rattle.std.specs.Prelude.{ℕ, ◌==◌, ◌+◌, ◌-◌, nat_le, nat_lt, if◌then◌else◌, Bool, true, false, List, [], length, Option, Some, None, is_some, option_map, position, reverse, slice_get}
 use Rattle.std.specs.List.{prefix_len}
 use Rattle.std.specs.Option.{option_or, option_and_then}
 use Rattle.ang_kinds.specs.declared.place.Place.{Place}
@@ -12,6 +12,10 @@ use Rattle.ang_names_known.specs.declared.names.ScriptConstructor.{ScriptConstru
 use Rattle.ang_names_known.specs.declared.names.ScriptFunction.{ScriptFunction}
 use Rattle.ang_names_known.specs.declared.names.ScriptGlobal.{ScriptGlobal}
 use Rattle.ang_names_known.specs.declared.names.ScriptMethod.{ScriptMethod}
+use Rattle.ang_code.specs.declared.instruction.Frame.{Frame as RunFrame}
+use Rattle.ang_vm.specs.declared.last.LastRun.{LastRun}
+use Rattle.ang_vm_stack.specs.declared.table.ModuleCode.{ModuleCode}
+use Rattle.ang_engine_modules.specs.declared.failed.FailedModule.{FailedModule}
 use Rattle.ang_engine_modules.specs.declared.modules.LoadedModule.{LoadedModule}
 use Rattle.ang_engine_modules.specs.declared.traced.TraceFrame.{TraceFrame}
 
@@ -131,3 +135,16 @@ mark_before marks at =
 -- where that statement stands, in the section of its body
 abbrev pub statement_place : List Mark → ℕ → ℕ → Option Place
 statement_place marks at section = option_map (λ m. place_in section m.position) (mark_before marks at)
+
+-- ---- a module whose initializer failed
+
+-- what is kept of it, where it was built
+abbrev pub failed_of : ℕ → Option LoadedModule → ModuleCode → Option FailedModule
+failed_of home None code = None
+failed_of home (Some l) code = Some (record { home = home; loaded = l; code = code })
+
+-- ---- the frames of a run that faulted
+
+-- that of the body that faulted first, then that of its caller, and so on
+abbrev pub frames_of : LastRun → List RunFrame
+frames_of last = reverse last.frames.items

@@ -33,6 +33,7 @@ pub fn unbind(alloc: Global, list: &mut ModuleList, name: &[u8], index: u32) -> 
         (left_to (states_in list.new) r) }
     ensures places { list.new.places ≡ list.old.places }
     ensures order { list.new.order ≡ list.old.order }
+    ensures builds { list.new.builds ≡ list.old.builds }
     ensures code { OnOk result
         ((home : ℕ) × (list.new.code ≡ linked_in home index None list.old.code)) }
     ensures code_unchanged { OnErr result (list.new.code ≡ list.old.code) }

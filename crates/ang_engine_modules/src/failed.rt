@@ -1,13 +1,14 @@
 //! A module whose initializer failed, kept for the trace of where it did.
 ghost use Rattle.std.specs.Prelude.{◌≡◌, IfSome, slice_get};
-ghost use Rattle.ang_engine_modules.specs.Traced.{marks_in};
+ghost use Rattle.ang_vm_stack.specs.Tables.{body_of};
+ghost use Rattle.ang_engine_modules.specs.Traced.{marks_in, failed_of};
 
 use crate::modules::LoadedModule;
 use crate::traced::{TraceFrame, trace_frame};
 use ang_code::Mark;
 use ang_meaning::Routine;
 use ang_vm_stack::body::LoadedBody;
-use ang_vm_stack::table::ModuleCode;
+use ang_vm_stack::table::{ModuleCode, Table, body_at};
 use std::mem;
 
 /// A module that was built and is not any more, since an initializer of it failed.
@@ -23,7 +24,9 @@ pub fn failed_module(
     home: u32,
     loaded: Option<LoadedModule>,
     code: ModuleCode,
-) -> Option<FailedModule> {
+) -> Option<FailedModule>
+    ensures exact { result ≡ failed_of home loaded code }
+{
     match loaded {
         Some(loaded) => Some(FailedModule { home, loaded, code }),
         None => {
@@ -34,7 +37,9 @@ pub fn failed_module(
 }
 
 /// Keeps this in the place of what was kept.
-pub fn put_failed(failed: &mut Option<FailedModule>, item: Option<FailedModule>) {
+pub fn put_failed(failed: &mut Option<FailedModule>, item: Option<FailedModule>)
+    ensures put { failed.new ≡ item }
+{
     drop(mem::replace(failed, item));
 }
 
@@ -44,6 +49,16 @@ pub fn marks_in(bodies: &[LoadedBody], number: usize) -> &[Mark]
 {
     match bodies.get(number) {
         Some(body) => body.marks(),
+        None => &[],
+    }
+}
+
+/// The marks of a body of a table, if there is one of that number.
+pub fn marks_at(table: &Table, body: Routine) -> &[Mark]
+    ensures exact { result.now ≡ marks_in (body_of table.now body) }
+{
+    match body_at(table, body) {
+        Some(code) => code.marks(),
         None => &[],
     }
 }

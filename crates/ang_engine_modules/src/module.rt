@@ -21,8 +21,8 @@ pub struct Module {
     /// module was made with.
     pub built_mask: Mask,
     /// The number of its last build, a failed one too, among all that the engine began: no other build has
-    /// it, of this module or of one that has this place later. 0 before the first.
-    pub build: u64,
+    /// it, of this module or of one that has this place later. None before the first.
+    pub build: Option<u64>,
     /// The texts of the sections that wait for the next build, in the order in which they were
     /// added.
     pub sections: Vec<List<u8>>,

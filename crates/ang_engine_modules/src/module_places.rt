@@ -5,7 +5,7 @@ ghost use Rattle.ang_heap.specs.Globals.{values_in};
 ghost use Rattle.ang_engine_modules.specs.Loaded.{unbound_in};
 ghost use Rattle.ang_engine_modules.specs.declared.modules.LoadedModule.{LoadedModule};
 ghost use Rattle.ang_engine_modules.specs.declared.reply.Refusal.TheVariants.{Limit, Memory};
-ghost use Rattle.ang_engine_modules.specs.States.{places_of, place_of, states_in, state_of, is_named, world_beside};
+ghost use Rattle.ang_engine_modules.specs.States.{places_of, place_of, states_in, state_of, is_named, world_beside, build_in, HaveSameBuilds};
 ghost use Rattle.ang_engine_modules.specs.Outcomes.{IsDone, IsDoneWithoutMemory, IsAdded, adding, masking};
 ghost use Rattle.ang_engine_modules.specs.Sound.{IsKept, ArePlacesKept, IsSameList};
 ghost use Rattle.ang_engine_modules.specs.Taken.{IsReadied, HasTaken, IsFull};
@@ -81,6 +81,7 @@ fn push_place(alloc: Global, list: &mut ModuleList, globals: &mut Globals) -> Re
     ensures code_unchanged { OnErr result (list.new.code ≡ list.old.code) }
     ensures globals_unchanged { OnErr result (values_in globals.new ≡ values_in globals.old) }
     ensures order { list.new.order ≡ list.old.order }
+    ensures builds { list.new.builds ≡ list.old.builds }
 {
     list.places.reserve(1)?;
     globals.modules.reserve(1)?;
@@ -107,6 +108,7 @@ fn ready_place(
     ensures code_unchanged { OnErr result (list.new.code ≡ list.old.code) }
     ensures globals_unchanged { OnErr result (values_in globals.new ≡ values_in globals.old) }
     ensures order { list.new.order ≡ list.old.order }
+    ensures builds { list.new.builds ≡ list.old.builds }
 {
     if let Some(place) = first_empty(&list.places) {
         return Ok(place);
@@ -132,6 +134,7 @@ fn put_module(
     new_one: Module,
 ) -> Result<(), Refusal>
     requires few { length list.old.places.items ≤ 64 }
+    requires unbuilt { new_one.build ≡ None }
     ensures taken { OnOk result (HasTaken list.old (values_in globals.old) new_one list.new
         (values_in globals.new)) }
     ensures limit { IfErr result (λ why. (why ≡ Memory) ⊎ ((why ≡ Limit) × IsFull list.old)) }
@@ -139,6 +142,7 @@ fn put_module(
     ensures code_unchanged { OnErr result (list.new.code ≡ list.old.code) }
     ensures globals_unchanged { OnErr result (values_in globals.new ≡ values_in globals.old) }
     ensures order_unchanged { OnErr result (list.new.order.items ≡ list.old.order.items) }
+    ensures builds { HaveSameBuilds list.old list.new }
 {
     if list.order.reserve(1).is_err() {
         return Err(Refusal::Memory);
@@ -178,6 +182,7 @@ pub fn add_module(
         → slice_get list.old.places.items i ≡ Some (Some m) → m.name ≢ name) }
     ensures unchanged { OnErr result (IsSameList list.old list.new) }
     ensures globals_unchanged { OnErr result (values_in globals.new ≡ values_in globals.old) }
+    ensures builds { HaveSameBuilds list.old list.new }
 {
     if !is_name(name.as_slice()) {
         return Err(Refusal::BadName);
@@ -189,7 +194,7 @@ pub fn add_module(
         name,
         mask,
         built_mask: mask,
-        build: 0,
+        build: None,
         sections: Vec::new(alloc),
     };
     put_module(alloc, list, globals, module)
@@ -201,6 +206,7 @@ fn put_mask(place: &mut Option<Module>, mask: Mask)
     ensures masked { (l : Option LoadedModule) → place_of place.new l
         ≡ Some (record (module_in (place_of place.old l)) { mask = mask.0 }) }
     ensures kept { IsKept place.old place.new }
+    ensures build { build_in place.new ≡ build_in place.old }
 {
     match place {
         Some(module) => module.mask = mask,
@@ -218,6 +224,7 @@ pub fn set_mask(list: &mut ModuleList, name: List<u8>, mask: Mask) -> Result<(),
         (left_to (states_in list.old) r)) (left_to (states_in list.old) r)
         (left_to (states_in list.new) r) }
     ensures kept { ArePlacesKept list.old list.new }
+    ensures builds { HaveSameBuilds list.old list.new }
 {
     let Some(i) = find(&list.places, name.as_slice()) else {
         return Err(Refusal::NoModule);
@@ -235,6 +242,7 @@ fn push_section(into: &mut Module, text: List<u8>) -> Result<(), Refusal>
         → IsAdded result text (state_of into.old l) (state_of into.new l) }
     ensures name { into.new.name ≡ into.old.name }
     ensures built_mask { into.new.built_mask ≡ into.old.built_mask }
+    ensures build { into.new.build ≡ into.old.build }
 {
     if into.sections.len() >= MOST_SECTIONS {
         return Err(Refusal::Limit);
@@ -251,6 +259,7 @@ fn push_text(place: &mut Option<Module>, text: List<u8>) -> Result<(), Refusal>
     ensures added { (l : Option LoadedModule) → IsAdded result text
         (module_in (place_of place.old l)) (module_in (place_of place.new l)) }
     ensures kept { IsKept place.old place.new }
+    ensures build { build_in place.new ≡ build_in place.old }
 {
     match place {
         Some(module) => push_section(module, text),
@@ -269,6 +278,7 @@ pub fn add_section(list: &mut ModuleList, name: List<u8>, text: List<u8>) -> Res
         (left_to (states_in list.old) r)) (left_to (states_in list.old) r)
         (left_to (states_in list.new) r) }
     ensures kept { ArePlacesKept list.old list.new }
+    ensures builds { HaveSameBuilds list.old list.new }
 {
     let Some(i) = find(&list.places, name.as_slice()) else {
         return Err(Refusal::NoModule);
@@ -289,6 +299,7 @@ pub fn remove_module(alloc: Global, list: &mut ModuleList, home: u32)
     ensures places { list.new.places.items ≡ slice_set list.old.places.items home None }
     ensures code { list.new.code ≡ unbound_in home (slice_set list.old.code home None) }
     ensures order { list.new.order.items ≡ filter (λ j. not (j == home)) list.old.order.items }
+    ensures builds { list.new.builds ≡ list.old.builds }
 {
     let place = home as usize;
     if place < list.places.len() {

@@ -18,7 +18,7 @@ ghost use Rattle.ang_engine_modules.specs.Loaded.{loaded_at, modules_of, linked_
 ghost use Rattle.ang_engine_modules.specs.Traced.{frame_of, frame_in};
 ghost use Rattle.ang_engine_modules.specs.Modules.{module_at, result_at, LinkFits, TakesSoMany, AreDriversThere, AgreesWith, IsAskedIn};
 
-use crate::failed::{FailedModule, failed_frame, failed_module, marks_in, put_failed};
+use crate::failed::{FailedModule, failed_frame, failed_module, marks_at, put_failed};
 use crate::globals::defaults;
 use crate::kept::KeptTree;
 use crate::links::{bind_import, unbind_codes, unbind_places};
@@ -26,7 +26,6 @@ use crate::runs::{body_count, run_initializers};
 use crate::tables::{code_of, no_code};
 use crate::traced::{TraceFrame, trace_frame};
 use crate::whole::WholeModule;
-use ang_code::Mark;
 use ang_gen::generate;
 use ang_host::{Driver, EventBuffer};
 use ang_kinds::{Fault, List, Value};
@@ -271,14 +270,6 @@ impl Modules {
         self.loaded.get(home as usize)?.as_ref()
     }
 
-    /// The marks of a body of a built module, if there is one of that number.
-    fn marks(&self, body: Routine) -> &[Mark] {
-        match self.table.modules.get(body.home as usize) {
-            Some(code) => marks_in(code.bodies.as_slice(), body.number),
-            None => &[],
-        }
-    }
-
     /// What a body is declared as whose module is built, or has failed and is kept; with the place of the
     /// statement of which its instruction before instruction `at` is. `None` where there is no such body.
     pub fn trace_frame(&self, body: Routine, at: usize) -> Option<TraceFrame<'_>>
@@ -287,7 +278,7 @@ impl Modules {
         ensures section { IfSome result (λ f. IfSome f.place (λ p. p.sect ≡ f.declared.sect)) }
     {
         match self.loaded(body.home) {
-            Some(loaded) => trace_frame(loaded, self.marks(body), body.number, at),
+            Some(loaded) => trace_frame(loaded, marks_at(&self.table, body), body.number, at),
             None => failed_frame(self.failed.as_ref(), body, at),
         }
     }

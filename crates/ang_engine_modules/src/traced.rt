@@ -106,14 +106,14 @@ fn family_place(families: &[Family], number: usize) -> Option<usize>
 }
 
 fn function_frame<'a>(
-    module: &'a [u8],
+    own: &'a [u8],
     class: &'a [u8],
     function: &'a ScriptFunction,
 ) -> TraceFrame<'a>
-    ensures exact { frame_of result ≡ function_frame module.now class.now function.now }
+    ensures exact { frame_of result ≡ function_frame own.now class.now function.now }
 {
     TraceFrame {
-        module,
+        module: own,
         class,
         name: function.name.as_slice(),
         is_global: false,
@@ -122,11 +122,11 @@ fn function_frame<'a>(
     }
 }
 
-fn global_frame<'a>(module: &'a [u8], global: &'a ScriptGlobal) -> TraceFrame<'a>
-    ensures exact { frame_of result ≡ global_frame module.now global.now }
+fn global_frame<'a>(own: &'a [u8], global: &'a ScriptGlobal) -> TraceFrame<'a>
+    ensures exact { frame_of result ≡ global_frame own.now global.now }
 {
     TraceFrame {
-        module,
+        module: own,
         class: &[],
         name: global.name.as_slice(),
         is_global: true,
@@ -136,45 +136,41 @@ fn global_frame<'a>(module: &'a [u8], global: &'a ScriptGlobal) -> TraceFrame<'a
 }
 
 /// The method or constructor of a class that has the body of that number, with its module and its class.
-fn family_frame<'a>(module: &'a [u8], family: &'a Family, number: usize) -> Option<TraceFrame<'a>>
-    ensures exact { option_map frame_of result ≡ family_frame module.now number family.now }
+fn family_frame<'a>(own: &'a [u8], family: &'a Family, number: usize) -> Option<TraceFrame<'a>>
+    ensures exact { option_map frame_of result ≡ family_frame own.now number family.now }
 {
     match member_of(family, number) {
-        Some(function) => Some(function_frame(module, family.name.as_slice(), function)),
+        Some(function) => Some(function_frame(own, family.name.as_slice(), function)),
         None => None,
     }
 }
 
 /// The method or constructor of a module that has the body of that number.
-fn member_frame<'a>(
-    module: &'a [u8],
-    families: &'a [Family],
-    number: usize,
-) -> Option<TraceFrame<'a>>
-    ensures exact { option_map frame_of result ≡ member_frame module.now number families.now }
+fn member_frame<'a>(own: &'a [u8], families: &'a [Family], number: usize) -> Option<TraceFrame<'a>>
+    ensures exact { option_map frame_of result ≡ member_frame own.now number families.now }
 {
     let place = family_place(families, number)?;
     match families.get(place) {
-        Some(family) => family_frame(module, family, number),
+        Some(family) => family_frame(own, family, number),
         None => None,
     }
 }
 
 /// The global of a module whose initializer is the body of that number.
 fn initializer_frame<'a>(
-    module: &'a [u8],
+    own: &'a [u8],
     globals: &'a [ScriptGlobal],
     first: usize,
     number: usize,
 ) -> Option<TraceFrame<'a>>
     ensures exact { option_map frame_of result
-        ≡ initializer_frame module.now first number globals.now }
+        ≡ initializer_frame own.now first number globals.now }
 {
     if number < first {
         return None;
     }
     match globals.get(number - first) {
-        Some(global) => Some(global_frame(module, global)),
+        Some(global) => Some(global_frame(own, global)),
         None => None,
     }
 }
@@ -184,15 +180,15 @@ fn initializer_frame<'a>(
 fn declared_frame(loaded: &LoadedModule, number: usize) -> Option<TraceFrame<'_>>
     ensures exact { option_map frame_of result ≡ frame_in loaded.now number }
 {
-    let module = loaded.name.as_slice();
+    let own = loaded.name.as_slice();
     if let Some(function) = loaded.names.functions().get(number) {
-        return Some(function_frame(module, &[], function));
+        return Some(function_frame(own, &[], function));
     }
-    if let Some(frame) = member_frame(module, loaded.names.families(), number) {
+    if let Some(frame) = member_frame(own, loaded.names.families(), number) {
         return Some(frame);
     }
     let first = loaded.tree.function_count();
-    initializer_frame(module, loaded.names.globals(), first, number)
+    initializer_frame(own, loaded.names.globals(), first, number)
 }
 
 // ---- where it stood

@@ -1,4 +1,5 @@
 pub mod Begun
+pub mod Blocks
 pub mod Closure
 pub mod Rings
 pub mod Rows

@@ -5,6 +5,7 @@ use Rattle.std.proofs.Common.{arith, refl, ap, sym, subst, inl, inr, ◌∙◌}
 use Rattle.std.proofs.lemmas.Bool.{eqb-true}
 use Rattle.std.proofs.lemmas.List.{append-nil, drop_all, take_all, get_or-set_same, get_or-set_other, get_or-replicate, length-set, length-replicate}
 use Rattle.std.proofs.lemmas.Grind.{get_or-set_at}
+use Rattle.std.proofs.Math.Seq.{drop-append_seam}
 use Rattle.std.proofs.lemmas.List.Folds.{list_any-append}
 use Rattle.ang_names_graph.specs.Graphs.{count_below, reach_of, numbers_below, some_below, is_near, ring, rings, leads, above, order_of}
 use Rattle.ang_names_graph.specs.Tables.{Shows, at, edges_of, is_next, is_reached}
@@ -272,6 +273,13 @@ pub round_stop : (e : ℕ → ℕ → Bool) (n i d : ℕ) (near : List Bool) (la
 unfolding order_of
 round_stop e n i d near last places none le r = r.all ∙ sym (rings_end e n i d n le (sym r.last_is ∙ none)).1
 
+-- the ring that stands at the end of the places
+pub ring_pushed : (e : ℕ → ℕ → Bool) (n i d : ℕ) (near : List Bool) (places next new : List ℕ) (end : ℕ) → IsRound e n i d near next (places ++ next)
+    → end ≡ length places → new ≡ places ++ next → IsRound e n i d near (drop end new) new
+ring_pushed e n i d near places next new end r counted pushed =
+    let last : drop end new ≡ next = (λ j. drop (counted j) (pushed j)) ∙ drop-append_seam places next in
+    record { marks = r.marks; last_is = last ∙ r.last_is; all = pushed ∙ r.all }
+
 -- one place alone is marked
 pub mark_alone : (n i j : ℕ) → i < n → j < n → slice_index_or (slice_set (replicate n false) i true) j false ≡ (i == j)
 mark_alone n i j lt jn = by_place (i == j) refl
@@ -284,85 +292,6 @@ mark_alone n i j lt jn = by_place (i == j) refl
     by_place false t =
         let ne : j ≢ i = search (arith, t) in
         get_or-set_other (replicate n false) i j true false ne ∙ get_or-replicate n j false false jn
-
--- ---- a ring as far as place j
-
--- The places below j are marked where they are near or reached, and those that are new are found.
-pub record IsPart (t : List Bool) (n : ℕ) (was : List Bool) (last : List ℕ) (j : ℕ) (near : List Bool) (next : List ℕ) : Type 0 where
-  pub size : length near ≡ n
-  pub found : next ≡ numbers_below (is_next t n was last) j
-  pub done : (a : ℕ) → a < j → a < n → slice_index_or near a false ≡ (slice_index_or was a false || is_reached t n last a)
-  pub left : (a : ℕ) → j ≤ a → a < n → slice_index_or near a false ≡ slice_index_or was a false
-
-pub part_start : (t : List Bool) (n : ℕ) (was : List Bool) (last : List ℕ) → length was ≡ n → IsPart t n was last 0 was []
-part_start t n was last len = record { size = len; found = refl; done = λ a lt an. absurd (omega arith); left = λ a le an. refl }
-
-last_place : (a j : ℕ) → a < j + 1 → (a < j) ⊎ (a ≡ j)
-last_place a j lt = grind arith
-
-and_false : (a b : Bool) → b ≡ false → (a && b) ≡ false
-and_false true b e = e
-and_false false b e = refl
-
--- place j stays as it was
-part_kept : (t : List Bool) (n : ℕ) (was : List Bool) (last : List ℕ) (j : ℕ) (near : List Bool) (next : List ℕ) → IsPart t n was last j near next → j < n
-    → is_next t n was last j ≡ false → slice_index_or was j false ≡ (slice_index_or was j false || is_reached t n last j) → IsPart t n was last (j + 1) near next
-part_kept t n was last j near next p lt isnt same = record {
-  size = p.size;
-  found = p.found ∙ sym (numbers_same (is_next t n was last) j isnt);
-  done = λ a less an. elim (last_place a j less) [
-    | inl below ↦ p.done a below an
-    | inr is ↦ subst (λ x. slice_index_or near x false ≡ (slice_index_or was x false || is_reached t n last x)) (sym is) (p.left j (omega arith) lt ∙ same)
-  ];
-  left = λ a le an. p.left a (omega arith) an;
-}
-
-near_already : (a b : Bool) → a ≡ true → (not a && b) ≡ false
-near_already true b e = refl
-near_already false b e = cc
-
-or_already : (a b : Bool) → a ≡ true → a ≡ (a || b)
-or_already true b e = refl
-or_already false b e = cc
-
-or_nothing : (a b : Bool) → b ≡ false → a ≡ (a || b)
-or_nothing true b e = refl
-or_nothing false b e = sym e
-
--- place j was marked
-pub part_near : (t : List Bool) (n : ℕ) (was : List Bool) (last : List ℕ) (j : ℕ) (near : List Bool) (next : List ℕ) → IsPart t n was last j near next → j < n
-    → slice_index_or near j false ≡ true → IsPart t n was last (j + 1) near next
-part_near t n was last j near next p lt marked =
-    let w : slice_index_or was j false ≡ true = sym (p.left j (omega arith) lt) ∙ marked in
-    part_kept t n was last j near next p lt (near_already (slice_index_or was j false) (is_reached t n last j) w) (or_already (slice_index_or was j false) (is_reached t n last j) w)
-
--- nothing leads to place j
-pub part_far : (t : List Bool) (n : ℕ) (was : List Bool) (last : List ℕ) (j : ℕ) (near : List Bool) (next : List ℕ) → IsPart t n was last j near next → j < n
-    → is_reached t n last j ≡ false → IsPart t n was last (j + 1) near next
-part_far t n was last j near next p lt none =
-    part_kept t n was last j near next p lt (and_false (not (slice_index_or was j false)) (is_reached t n last j) none) (or_nothing (slice_index_or was j false) (is_reached t n last j) none)
-
-new_here : (a b : Bool) → a ≡ false → b ≡ true → (not a && b) ≡ true
-new_here true b e f = cc
-new_here false b e f = f
-
--- place j is marked and found
-pub part_found : (t : List Bool) (n : ℕ) (was : List Bool) (last : List ℕ) (j : ℕ) (near : List Bool) (next : List ℕ) → IsPart t n was last j near next → j < n
-    → slice_index_or near j false ≡ false → is_reached t n last j ≡ true → IsPart t n was last (j + 1) (slice_set near j true) (next ++ (j ∷ []))
-part_found t n was last j near next p lt unmarked there =
-    let w : slice_index_or was j false ≡ false = sym (p.left j (omega arith) lt) ∙ unmarked in
-    let size : j < length near = omega (arith, p.size) in
-    record {
-      size = length-set near j true ∙ p.size;
-      found = ap (λ xs. xs ++ (j ∷ [])) p.found
-          ∙ sym (numbers_more (is_next t n was last) j (new_here (slice_index_or was j false) (is_reached t n last j) w there));
-      done = λ a less an. elim (last_place a j less) [
-        | inl below ↦ get_or-set_other near j a true false (omega arith) ∙ p.done a below an
-        | inr is ↦ subst (λ x. slice_index_or (slice_set near j true) x false ≡ (slice_index_or was x false || is_reached t n last x)) (sym is)
-            (get_or-set_same near j true false size ∙ sym (or_right (slice_index_or was j false) (is_reached t n last j) there))
-      ];
-      left = λ a le an. get_or-set_other near j a true false (omega arith) ∙ p.left a (omega arith) an;
-    }
 
 -- ---- all that a closed table shows
 

@@ -1,2 +1,3 @@
 pub mod Graphs
 pub mod Tables
+pub mod Marks

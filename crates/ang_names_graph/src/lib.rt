@@ -11,6 +11,7 @@ ghost use Rattle.ang_names_graph.specs.Tables.{Shows, at, edges_of};
 
 pub mod laws;
 mod making;
+mod marked;
 mod orders;
 
 pub use making::{closed, first_of, push_joined_row, push_row, push_spread_row};

@@ -1,11 +1,12 @@
 //! What stands above a place, as lists of numbers.
-ghost use Rattle.std.specs.Prelude.{ℕ, Bool, false, ◌≡◌, ◌*◌, ◌<◌, ◌≤◌, ◌||◌, drop, length, replicate, IfOk, OnOk, slice_index_or};
+ghost use Rattle.std.specs.Prelude.{ℕ, Bool, false, ◌≡◌, ◌*◌, ◌++◌, ◌<◌, ◌≤◌, ◌||◌, drop, length, replicate, IfOk, IfSome, OnOk, slice_index_or};
 ghost use Rattle.ang_names_graph.specs.Graphs as spec;
 ghost use Rattle.ang_names_graph.specs.Graphs.{leads, numbers_below};
 ghost use Rattle.ang_names_graph.specs.Tables.{Shows, edges_of, is_next};
 ghost use Rattle.ang_names_graph.specs.Tables as tables;
 
 use crate::making::joined_rows;
+use crate::marked::push_marked;
 use std::alloc::{AllocError, Global};
 
 /// All places that place `i` leads to, rising, by a table that `close` has closed.
@@ -78,17 +79,16 @@ pub fn order_of(alloc: Global, edges: &[bool], n: usize, i: usize) -> Result<Vec
 {
     let mut near = unmarked(alloc, n)?;
     near[i] = true;
-    let mut ring = Vec::new(alloc);
-    ring.push(i)?;
     let mut places = Vec::new(alloc);
     places.push(i)?;
+    let mut first = 0;
     for _distance in 0..n {
-        if ring.is_empty() {
+        let end = places.len();
+        if first == end {
             return Ok(places);
         }
-        let next = next_ring(alloc, edges, n, &mut near, &ring)?;
-        places.extend_from_slice(&next)?;
-        ring = next;
+        push_ring(edges, n, &mut near, &mut places, first)?;
+        first = end;
     }
     Ok(places)
 }
@@ -99,33 +99,61 @@ pub(crate) fn unmarked(alloc: Global, n: usize) -> Result<Vec<bool>, AllocError>
     vec![in alloc; false; n]
 }
 
-/// The places that an edge from the last ring leads to and that were not reached before, rising. It marks them, and looks
-/// through the rows of the ring alone.
-fn next_ring(
-    alloc: Global,
+/// Puts the places in at the end that an edge from the last ring leads to and that were not reached before, rising, and marks
+/// them. The last ring begins at place `first` of those that are there, and the rows of the ring alone are looked through.
+fn push_ring(
     edges: &[bool],
     n: usize,
     near: &mut [bool],
-    ring: &[usize],
-) -> Result<Vec<usize>, AllocError>
+    places: &mut Vec<usize>,
+    first: usize,
+) -> Result<(), AllocError>
     requires small { n ≤ 256 }
     requires size { length edges.now ≡ n * n }
     requires marks { length near.old ≡ n }
+    requires first { first ≤ length places.old.items }
     ensures size { length near.new ≡ n }
-    ensures exact { IfOk result (λ next. next.items
-        ≡ numbers_below (is_next edges.now n near.old ring.now) n) }
+    ensures pushed { OnOk result (places.new.items ≡ places.old.items
+        ++ numbers_below (is_next edges.now n near.old (drop first places.old.items)) n) }
     ensures marked { OnOk result ((j : ℕ) → j < n → slice_index_or near.new j false
-        ≡ (slice_index_or near.old j false || tables.is_reached edges.now n ring.now j)) }
+        ≡ (slice_index_or near.old j false
+        || tables.is_reached edges.now n (drop first places.old.items) j)) }
 {
-    let reached = joined_rows(alloc, edges, n, ring)?;
-    let mut next = Vec::new(alloc);
-    for j in 0..n {
-        if reached[j] && !near[j] {
-            near[j] = true;
-            next.push(j)?;
-        }
+    let ring = &places.as_slice()[first..];
+    if let Some(row) = only_row(edges, n, ring) {
+        return push_marked(row, near, places);
     }
-    Ok(next)
+    let row = joined_rows(*places.allocator(), edges, n, ring)?;
+    push_marked(row.as_slice(), near, places)
+}
+
+/// The row of a place that is alone in its ring.
+fn only_row<'a>(edges: &'a [bool], n: usize, ring: &[usize]) -> Option<&'a [bool]>
+    requires small { n ≤ 256 }
+    requires size { length edges.now ≡ n * n }
+    ensures size { IfSome result (λ row. length row.now ≡ n) }
+    ensures exact { IfSome result (λ row. (j : ℕ) → j < n →
+        slice_index_or row.now j false ≡ tables.is_reached edges.now n ring.now j) }
+{
+    let [place] = ring else {
+        return None;
+    };
+    row_at(edges, n, *place)
+}
+
+/// The row of a place.
+fn row_at(edges: &[bool], n: usize, i: usize) -> Option<&[bool]>
+    requires small { n ≤ 256 }
+    requires size { length edges.now ≡ n * n }
+    ensures size { IfSome result (λ row. length row.now ≡ n) }
+    ensures exact { IfSome result (λ row. (j : ℕ) → j < n →
+        slice_index_or row.now j false ≡ edges_of edges.now n i j) }
+{
+    if i >= n {
+        return None;
+    }
+    let after = &edges[i * n..];
+    Some(&after[..n])
 }
 
 /// Whether an edge leads from `i` to `j`, by a table of `n` rows. It takes no memory.

@@ -5,7 +5,9 @@ pub mod Turns
 pub mod Headings
 pub mod NameIndex
 pub mod PlacesByName
-pub mod Adding
-pub mod AddingProperties
 pub mod SoFar
-pub mod Among
+pub mod KeptNumbers
+pub mod SameKinds
+pub mod MethodPlaces
+pub mod CrowdedLists
+pub mod FoundRows

@@ -4,6 +4,10 @@ pub mod Spaces
 pub mod Nearest
 pub mod NameIndex
 pub mod Headings
-pub mod Added
-pub mod Host
-pub mod Among
+pub mod Kinds
+pub mod KindRows
+pub mod Numbering
+pub mod MethodPlaces
+pub mod Known
+pub mod Crowded
+pub mod Indexes

@@ -71,9 +71,3 @@ IndexesFields fs rows = IndexesMembers field_names fs rows
 
 abbrev pub IndexesMethods : List Family → Rows ℕ → Type 0
 IndexesMethods fs rows = IndexesMembers method_names fs rows
-
--- three tables have all names that look-ups ask for
-pub record Indexes (N : Names) (kinds fields methods : Rows ℕ) : Type 0 where
-  pub of_kinds : IndexesKinds N kinds
-  pub of_fields : IndexesFields N.families fields
-  pub of_methods : IndexesMethods N.families methods

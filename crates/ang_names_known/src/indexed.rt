@@ -2,10 +2,14 @@
 ghost use Rattle.std.specs.Prelude.{◌≡◌, IfOk};
 ghost use Rattle.ang_names_known.specs.Lookup as spec;
 
+use crate::crowded::{CrowdedMethods, crowded_methods, listed};
+use crate::found::{FoundMethods, MethodPlaces};
+use crate::known::KnownFunctions;
 use crate::lookup::heading_among;
 use crate::members::{field_in, has_method_in};
-use crate::methods::{FoundMethod, methods_in};
+use crate::methods::methods_in;
 use crate::names::{Family, FoundField, Names, ScriptFunction, ScriptGlobal};
+use crate::numbering::{ParameterKinds, parameter_kinds};
 use crate::places::{
     DECLARED, FAMILIES, FUNCTIONS, GLOBALS, IMPORTS, first_of, places_by_kind, places_of_fields,
     places_of_methods,
@@ -24,22 +28,26 @@ pub struct IndexedNames {
     kinds: Index<usize>,
     fields: Index<usize>,
     methods: Index<usize>,
+    crowded: CrowdedMethods,
+    numbering: ParameterKinds,
 }
 
 impl Model for IndexedNames {
     ghost use Rattle.ang_names_known.specs.declared.names.Names.{Names as NameLists};
-    ghost use Rattle.ang_names_known.specs.NameIndex.{Indexes};
+    ghost use Rattle.ang_names_known.specs.Indexes.{Indexes};
 
     ghost Value = { NameLists };
 
     ghost view = { λ n. n.lists };
 
-    ghost invariant = { λ n. Indexes n.lists n.kinds n.fields n.methods };
+    ghost invariant = { λ n. Indexes n.lists n.kinds n.fields n.methods n.crowded n.numbering };
 }
 
 impl IndexedNames {
     ghost use Rattle.std.specs.Prelude.{◌≡◌, ◌<◌, IfOk, IfSome, bytes_eq, length, map};
     ghost use Rattle.std.specs.List.{position};
+    ghost use Rattle.ang_names_known.specs.Known.{places_in};
+    ghost use Rattle.ang_names_known.specs.MethodPlaces.{AreFound, found_in};
     ghost use Rattle.ang_names_known.specs.NameIndex.{places_of};
 
     /// These names, with the places of each.
@@ -51,11 +59,15 @@ impl IndexedNames {
         let kinds = places_by_kind(alloc, &lists)?;
         let fields = places_of_fields(alloc, lists.families.as_slice())?;
         let methods = places_of_methods(alloc, lists.families.as_slice())?;
+        let crowded = crowded_methods(alloc, lists.families.as_slice(), &methods)?;
+        let numbering = parameter_kinds(alloc, &lists)?;
         Ok(IndexedNames {
             lists,
             kinds,
             fields,
             methods,
+            crowded,
+            numbering,
         })
     }
 
@@ -166,6 +178,34 @@ impl IndexedNames {
         self.field_named(family, name).is_some() || self.has_method(family, name)
     }
 
+    /// The functions and imports, with the numbers of the kinds of their parameters. It takes no memory.
+    pub fn known_functions(&self) -> KnownFunctions<'_>
+        ensures functions { result.functions ≡ self.now.functions }
+        ensures imports { result.imports ≡ self.now.imports }
+    {
+        KnownFunctions::new(self.functions(), self.imports(), &self.numbering)
+    }
+
+    /// The places of the methods of this name that objects of a family have, own and inherited.
+    fn method_places(
+        &self,
+        alloc: Global,
+        family: usize,
+        name: &[u8],
+    ) -> Result<MethodPlaces<'_>, AllocError>
+        ensures there { IfOk result (λ p. AreFound self.now.families (places_in p)) }
+        ensures exact { IfOk result (λ p. found_in self.now.families (places_in p)
+            ≡ spec.methods_named self.now.families family name.now) }
+    {
+        match listed(&self.crowded, family, name) {
+            Some(kept) => Ok(MethodPlaces::Kept(kept)),
+            None => {
+                let found = methods_in(alloc, self.families(), &self.methods, family, name)?;
+                Ok(MethodPlaces::Listed(found))
+            }
+        }
+    }
+
     /// The methods of this name that objects of a family have, own and inherited.
     ///
     /// The only error is want of memory.
@@ -174,10 +214,11 @@ impl IndexedNames {
         alloc: Global,
         family: usize,
         name: &[u8],
-    ) -> Result<Vec<FoundMethod<'_>>, AllocError>
+    ) -> Result<FoundMethods<'_>, AllocError>
         ensures exact { IfOk result
-            (λ found. found.items ≡ spec.methods_named self.now.families family name.now) }
+            (λ found. found.methods ≡ spec.methods_named self.now.families family name.now) }
     {
-        methods_in(alloc, self.families(), &self.methods, family, name)
+        let places = self.method_places(alloc, family, name)?;
+        Ok(FoundMethods::new(self.families(), &self.numbering, places))
     }
 }

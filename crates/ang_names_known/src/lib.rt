@@ -1,33 +1,34 @@
-//! Looks names up: what a module sees of the host, by name and by type, what its scripts declare, and
-//! what a hidden entry would add.
+//! Looks up what scripts declare, by name and by type, with the kinds of all parameters by number.
 //!
 //! `Names` is what `ang_names` makes of the scripts: lists, which contracts see, and an index of them.
-//! All look-ups in it and in the view stand here, so that each of them has one contract
-//! (docs/LANGUAGE.md, "Names of a build").
+//! All look-ups in it stand here, so that each of them has one contract (docs/LANGUAGE.md, "Names of a
+//! build"). Those in what a module sees of the host stand in `ang_check_contest`.
 #![tactic(auto)]
 
 mod borrowed;
+mod crowded;
 mod family_types;
+mod found;
 mod functions;
-mod host;
 mod indexed;
-pub mod laws;
+mod kinds;
+mod known;
 mod lineage;
 mod lookup;
 mod members;
 mod methods;
 mod names;
+mod numbering;
 mod places;
 mod space;
 
 pub use borrowed::BorrowedText;
 pub use family_types::{FIRST_FAMILY, family_of_type, family_type};
+pub use found::FoundMethods;
 pub use functions::parameters_of;
-pub use host::{
-    SeenFunction, SeenProperty, Wanted, WantedProperty, found_at, host_type, host_where,
-    property_at, property_where,
-};
 pub use indexed::IndexedNames as Names;
+pub use kinds::{KindRows, KindTable};
+pub use known::KnownFunctions;
 pub use lineage::lineage_of;
 pub use lookup::{
     default_of, is_read_only, is_under, may_use, same_call, same_heading, same_parameters,
@@ -38,4 +39,5 @@ pub use names::{
     Access, Default, Family, Field, FoundField, Names as NameLists, Origin, ScriptConstructor,
     ScriptFunction, ScriptGlobal, ScriptMethod, ScriptParameter, Written,
 };
+pub use numbering::receiver_number;
 pub use space::{Named, Space, enumeration_number, family_or_host, type_number};

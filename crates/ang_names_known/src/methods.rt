@@ -4,6 +4,7 @@ ghost use Rattle.std.specs.List.{list_any};
 ghost use Rattle.ang_names_known.specs.Items.{each_after};
 ghost use Rattle.ang_names_known.specs.Lookup as spec;
 ghost use Rattle.ang_names_known.specs.NameIndex.{IndexesMethods};
+ghost use Rattle.ang_names_known.specs.MethodPlaces as places_spec;
 ghost use Rattle.ang_names_known.specs.Nearest.{HasSlots, at_places, methods_declared, nearest_at, of_owner};
 
 use crate::lookup::order_of;
@@ -37,6 +38,7 @@ impl<'a> FoundMethod<'a> {
     }
 
     /// The method.
+    #[inline(always)]
     pub fn method(&self) -> &'a ScriptMethod
         ensures same { result.now ≡ self.now.method }
     {
@@ -44,28 +46,45 @@ impl<'a> FoundMethod<'a> {
     }
 }
 
+/// Where a method stands: the number of the family that declares it, and its place among the methods of that.
+#[derive(Clone, Copy)]
+pub(crate) struct MethodPlace {
+    pub(crate) owner: u32,
+    pub(crate) place: u32,
+}
+
+/// The method at a place.
+#[inline(always)]
+pub(crate) fn method_at(families: &[Family], at: MethodPlace) -> Option<FoundMethod<'_>>
+    ensures exact { result ≡ places_spec.found_at families.now at }
+{
+    let owner = at.owner as usize;
+    let method = own_methods(families, owner).get(at.place as usize)?;
+    Some(FoundMethod { owner, method })
+}
+
 /// How many of the methods that were found are gone through for a slot. A set has the slots of all others.
 const FEW: usize = 8;
 
-/// The methods of this name that objects of a family have, own and inherited.
-pub(crate) fn methods_in<'a>(
+/// The places of the methods of this name that objects of a family have, own and inherited.
+pub(crate) fn methods_in(
     alloc: Global,
-    families: &'a [Family],
+    families: &[Family],
     index: &Index<usize>,
     family: usize,
     name: &[u8],
-) -> Result<Vec<FoundMethod<'a>>, AllocError>
+) -> Result<Vec<MethodPlace>, AllocError>
     requires indexed { IndexesMethods families.now index.now }
-    ensures exact { IfOk result
-        (λ found. found.items ≡ spec.methods_named families.now family name.now) }
+    ensures there { IfOk result (λ found. places_spec.AreFound families.now found.items) }
+    ensures exact { IfOk result (λ found. places_spec.found_in families.now found.items
+        ≡ spec.methods_named families.now family name.now) }
 {
     let mut found = Vec::new(alloc);
     let mut slots = HashSet::new(alloc);
     let order = order_of(families, family);
     for number in order {
-        let methods = own_methods(families, *number);
         let places = index.find(*number as u64, name);
-        push_methods(&mut found, &mut slots, *number, methods, places)?;
+        push_methods(families, &mut found, &mut slots, *number, places)?;
     }
     Ok(found)
 }
@@ -81,86 +100,123 @@ fn own_methods(families: &[Family], number: usize) -> &[ScriptMethod]
 }
 
 /// Puts the methods at these places, of those that a family declares, after those of the families below it.
-fn push_methods<'a>(
-    found: &mut Vec<FoundMethod<'a>>,
+fn push_methods(
+    families: &[Family],
+    found: &mut Vec<MethodPlace>,
     slots: &mut HashSet<usize>,
     owner: usize,
-    methods: &'a [ScriptMethod],
     places: &[usize],
 ) -> Result<(), AllocError>
-    requires slots { HasSlots slots.old found.old.items }
+    requires there { places_spec.AreFound families.now found.old.items }
+    requires slots { HasSlots slots.old (places_spec.found_in families.now found.old.items) }
     ensures pushed { OnOk result ((before : List spec.FoundMethod) →
-        found.old.items ≡ each_after spec.if_nearest [] before →
-        found.new.items
-        ≡ each_after spec.if_nearest [] (before ++ at_places owner methods.now places.now)) }
-    ensures slots { OnOk result (HasSlots slots.new found.new.items) }
+        places_spec.found_in families.now found.old.items
+        ≡ each_after spec.if_nearest [] before →
+        places_spec.found_in families.now found.new.items
+        ≡ each_after spec.if_nearest [] (before
+        ++ at_places owner (methods_declared (slice_get families.now owner)) places.now)) }
+    ensures there { OnOk result (places_spec.AreFound families.now found.new.items) }
+    ensures slots { OnOk result
+        (HasSlots slots.new (places_spec.found_in families.now found.new.items)) }
 {
     for place in places {
-        let method = method_at(methods, owner, *place);
-        push_method(found, slots, method)?;
+        push_method(families, found, slots, owner, *place)?;
     }
     Ok(())
 }
 
-/// The method at a place among those of the family of this number.
-fn method_at(methods: &[ScriptMethod], owner: usize, place: usize) -> Option<FoundMethod<'_>>
-    ensures exact { result ≡ option_map (of_owner owner) (slice_get methods.now place) }
-{
-    let method = methods.get(place)?;
-    Some(FoundMethod { owner, method })
-}
-
-/// Puts a method in, where none of its slot is in front.
-fn push_method<'a>(
-    found: &mut Vec<FoundMethod<'a>>,
+/// Puts a method of a family in, where none of its slot is in front.
+fn push_method(
+    families: &[Family],
+    found: &mut Vec<MethodPlace>,
     slots: &mut HashSet<usize>,
-    method: Option<FoundMethod<'a>>,
+    owner: usize,
+    place: usize,
 ) -> Result<(), AllocError>
-    requires slots { HasSlots slots.old found.old.items }
-    ensures pushed { OnOk result
-        (found.new.items ≡ found.old.items ++ nearest_at found.old.items method.entry) }
-    ensures slots { OnOk result (HasSlots slots.new found.new.items) }
+    requires there { places_spec.AreFound families.now found.old.items }
+    requires slots { HasSlots slots.old (places_spec.found_in families.now found.old.items) }
+    ensures pushed { OnOk result (places_spec.found_in families.now found.new.items
+        ≡ places_spec.found_in families.now found.old.items
+        ++ nearest_at (places_spec.found_in families.now found.old.items)
+        (option_map (of_owner owner)
+        (slice_get (methods_declared (slice_get families.now owner)) place))) }
+    ensures there { OnOk result (places_spec.AreFound families.now found.new.items) }
+    ensures slots { OnOk result
+        (HasSlots slots.new (places_spec.found_in families.now found.new.items)) }
 {
-    let Some(method) = method else {
+    let Some(method) = own_methods(families, owner).get(place) else {
         return Ok(());
     };
-    if has_slot(found, slots, method.method.slot) {
+    if has_slot(families, found, slots, method.slot) {
         return Ok(());
     }
-    push_nearest(found, slots, method)
+    let at = place_of(owner, place)?;
+    push_nearest(families, found, slots, at, method.slot)
 }
 
-/// Puts a method in after all others.
-fn push_nearest<'a>(
-    found: &mut Vec<FoundMethod<'a>>,
+/// A place, if its numbers are no greater than they can be.
+fn place_of(owner: usize, place: usize) -> Result<MethodPlace, AllocError>
+    ensures owner { IfOk result (λ at. at.owner ≡ owner) }
+    ensures place { IfOk result (λ at. at.place ≡ place) }
+{
+    let Ok(owner) = u32::try_from(owner) else {
+        return Err(AllocError);
+    };
+    let Ok(place) = u32::try_from(place) else {
+        return Err(AllocError);
+    };
+    Ok(MethodPlace { owner, place })
+}
+
+/// Puts the method at a place in after all others.
+fn push_nearest(
+    families: &[Family],
+    found: &mut Vec<MethodPlace>,
     slots: &mut HashSet<usize>,
-    method: FoundMethod<'a>,
+    at: MethodPlace,
+    slot: usize,
 ) -> Result<(), AllocError>
-    requires slots { HasSlots slots.old found.old.items }
-    ensures pushed { OnOk result (found.new.items ≡ found.old.items ++ method.entry ∷ []) }
-    ensures slots { OnOk result (HasSlots slots.new found.new.items) }
+    requires there { places_spec.AreFound families.now found.old.items }
+    requires slots { HasSlots slots.old (places_spec.found_in families.now found.old.items) }
+    requires method { places_spec.HasMethodOfSlot families.now at slot }
+    ensures pushed { OnOk result (found.new.items ≡ found.old.items ++ at ∷ []) }
+    ensures slots { OnOk result
+        (HasSlots slots.new (places_spec.found_in families.now found.new.items)) }
 {
     if found.len() >= FEW {
-        slots.insert(method.method.slot)?;
+        slots.insert(slot)?;
     }
-    found.push(method)?;
+    found.push(at)?;
     Ok(())
 }
 
 /// Whether some method that was found has this slot.
-#[tactic(auto, using(crate::proofs::NearestMethods::any_of_both))]
-fn has_slot(found: &[FoundMethod<'_>], slots: &HashSet<usize>, slot: usize) -> bool
-    requires slots { HasSlots slots.now found.now }
-    ensures exact { result ≡ list_any (spec.stands_in slot) found.now }
+#[tactic(auto, using(crate::proofs::MethodPlaces::slot_of_both))]
+fn has_slot(families: &[Family], found: &[MethodPlace], slots: &HashSet<usize>, slot: usize) -> bool
+    requires there { places_spec.AreFound families.now found.now }
+    requires slots { HasSlots slots.now (places_spec.found_in families.now found.now) }
+    ensures exact { result
+        ≡ list_any (spec.stands_in slot) (places_spec.found_in families.now found.now) }
 {
-    is_among_few(found, slot) || slots.contains(&slot)
+    is_among_few(families, found, slot) || slots.contains(&slot)
 }
 
-fn is_among_few(found: &[FoundMethod<'_>], slot: usize) -> bool
-    ensures exact { result ≡ list_any (spec.stands_in slot) (take 8 found.now) }
+/// Whether the method at a place has this slot.
+fn stands_in(families: &[Family], at: MethodPlace, slot: usize) -> bool
+    ensures exact { result ≡ places_spec.stands_at families.now slot at }
+{
+    match method_at(families, at) {
+        None => false,
+        Some(found) => found.method.slot == slot,
+    }
+}
+
+fn is_among_few(families: &[Family], found: &[MethodPlace], slot: usize) -> bool
+    ensures exact { result
+        ≡ list_any (places_spec.stands_at families.now slot) (take 8 found.now) }
 {
     found
         .iter()
         .take(FEW)
-        .any(|other| other.method().slot == slot)
+        .any(|at| stands_in(families, *at, slot))
 }

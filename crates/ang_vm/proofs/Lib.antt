@@ -16,4 +16,3 @@ pub mod Leaving
 pub mod Running
 pub mod Waiting
 pub mod Tracing
-pub mod Receivers

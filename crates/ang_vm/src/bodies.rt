@@ -19,7 +19,6 @@ ghost use Rattle.ang_vm.specs.Traces.{HasHalted, IfStops, ended_by};
 ghost use Rattle.ang_vm_steps.specs.Arms.{AreCounted};
 
 use crate::calls::enter;
-use crate::crossing::Crossing;
 use crate::last::{LastRun, note_fault};
 use crate::returns::{Parted, leave_body, resume};
 use crate::turns::run_body;
@@ -32,6 +31,7 @@ use ang_vm_stack::body::LoadedBody;
 use ang_vm_stack::place::{Activation, Cursor, RunResult};
 use ang_vm_stack::stop::Trap;
 use ang_vm_stack::table::{Table, body_at};
+use ang_vm_steps::crossing::Crossing;
 use ang_vm_steps::many::give_all_in_use;
 
 /// The run faults: all values in use are given up, the top one first.

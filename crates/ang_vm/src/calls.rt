@@ -1,36 +1,32 @@
 //! Calls: what stands before a body, and room for its frame.
 ghost use Rattle.std.specs.Prelude.{◌≡◌, ℕ, ◌+◌, ◌<◌, ◌≤◌, ◌^◌, List, length, reverse, Some, None, Err, IfErr, IfOk, true, ◌⊎◌};
 ghost use Rattle.ang_meaning.specs.World.{World, with_inputs};
-ghost use Rattle.ang_meaning.specs.Environment.{has_objects, target};
+ghost use Rattle.ang_meaning.specs.Environment.{target};
 ghost use Rattle.ang_meaning.specs.Told.{Told};
 ghost use Rattle.ang_code.specs.declared.instruction.Frame.{Frame};
 ghost use Rattle.ang_code.specs.Machine.{Texts, begins, enters, fault, found_enters};
 ghost use Rattle.ang_code.specs.Weight.{frames_left, left_in};
-ghost use Rattle.ang_vm_stack.specs.Parameters.{
-  want_objects as do_want_objects,
-  only_receiver as is_only_receiver,
-};
 ghost use Rattle.ang_heap.specs.Stores.{world_of};
 ghost use Rattle.ang_vm_stack.specs.Stacks.{values};
 ghost use Rattle.ang_vm_stack.specs.Tables.{body_of, setting_of, texts_of};
 ghost use Rattle.ang_vm_steps.specs.Turns.{Reaches};
-ghost use Rattle.ang_vm.specs.Legs.{Fits, begun, caller_at, misses, standing_in};
+ghost use Rattle.ang_vm.specs.Legs.{Fits, begun, caller_at, standing_in};
 ghost use Rattle.ang_vm.specs.Traces.{IfFails};
 ghost use Rattle.ang_vm.specs.Waiting.{most_waiting, long};
 
-use crate::callees::callee_of;
-use crate::lookups::height_at;
 use ang_code::Frame;
 use ang_heap::Store;
 use ang_host::Driver;
 use ang_kinds::Fault;
-use ang_meaning::{Callee, Passing, Routine, Slot};
-use ang_vm_ask::handles::is_null;
+use ang_meaning::{Callee, Routine, Slot};
 use ang_vm_stack::body::LoadedBody;
 use ang_vm_stack::place::{Activation, Cursor};
-use ang_vm_stack::stack::peek;
 use ang_vm_stack::stop::Trap;
 use ang_vm_stack::table::{Table, body_at};
+use ang_vm_steps::callees::callee_of;
+use ang_vm_steps::lookups::{height_at, left_from};
+use ang_vm_steps::objects::objects_there;
+use ang_vm_steps::room::reserve;
 
 /// 524,288: the most instructions that callers may have left when one of them calls, if it is long. Each runs
 /// the rest of its text as it goes on, for which it needs no tick, so this bounds what a run does after its last
@@ -40,87 +36,6 @@ pub const MOST_WAITING: usize = 524_288;
 
 /// 1,024: a body of more instructions is long. A call from any other is not looked at.
 const LONG: usize = 1_024;
-
-/// Whether a parameter misses its object.
-#[inline(always)]
-fn misses_object(passing: Passing, value: Slot) -> bool
-    ensures exact { result ≡ misses passing value }
-{
-    match passing {
-        Passing::In => false,
-        Passing::Out => false,
-        Passing::Object => is_null(value),
-    }
-}
-
-/// Whether each parameter that wants an object has one among the top values, of which there are enough.
-pub fn have_objects(params: &[Passing], stack: &[Slot], top: usize) -> bool
-    requires enough { length params.now ≤ top }
-    requires within { top ≤ length stack.now }
-    ensures exact { result ≡ has_objects params.now (values stack.now top) }
-{
-    for (i, passing) in params.iter().enumerate() {
-        let value = peek(stack, top - i, 0);
-        if misses_object(*passing, value) {
-            return false;
-        }
-    }
-    true
-}
-
-/// The same, where it is known whether a parameter wants an object, and whether the first parameter alone does.
-#[inline(always)]
-fn objects_there(
-    wants_objects: bool,
-    only_receiver: bool,
-    params: &[Passing],
-    stack: &[Slot],
-    top: usize,
-) -> bool
-    requires enough { length params.now ≤ top }
-    requires within { top ≤ length stack.now }
-    requires known { wants_objects ≡ do_want_objects params.now }
-    requires known_receiver { only_receiver ≡ is_only_receiver params.now }
-    ensures exact { result ≡ has_objects params.now (values stack.now top) }
-{
-    if !wants_objects {
-        return true;
-    }
-    if only_receiver {
-        return !is_null(peek(stack, top, params.len() - 1));
-    }
-    have_objects(params, stack, top)
-}
-
-/// Makes room above the values in use for `height` more, for which the stack has to grow; false where there is no memory
-/// for it. It stays apart, so that entering a body stays small.
-#[inline(never)]
-fn grow(stack: &mut Vec<Slot>, top: usize, height: usize) -> bool
-    requires within { top ≤ length stack.old.items }
-    requires short { length stack.old.items < top + height }
-    ensures room { result ≡ true → top + height ≤ length stack.new.items }
-    ensures same { values stack.new.items top ≡ values stack.old.items top }
-    ensures grows { length stack.old.items ≤ length stack.new.items }
-{
-    match stack.resize(top.saturating_add(height), Slot::Bits(0)) {
-        Ok(()) => true,
-        Err(_) => false,
-    }
-}
-
-/// Makes room above the values in use for `height` more; false where there is no memory for it.
-#[inline(always)]
-fn reserve(stack: &mut Vec<Slot>, top: usize, height: usize) -> bool
-    requires within { top ≤ length stack.old.items }
-    ensures room { result ≡ true → top + height ≤ length stack.new.items }
-    ensures same { values stack.new.items top ≡ values stack.old.items top }
-    ensures grows { length stack.old.items ≤ length stack.new.items }
-{
-    if height <= stack.len() - top {
-        return true;
-    }
-    grow(stack, top, height)
-}
 
 /// A body that puts `height` values above its parameters at most begins, where there is memory for its frame.
 ///
@@ -176,16 +91,6 @@ pub fn begin(
     ensures grows { length stack.old.items ≤ length stack.new.items }
 {
     begin_above(body, height_at(table, body), stack, top, ticks)
-}
-
-/// The instructions of a body from a place on; none where there is no such body.
-fn left_from(table: &Table, body: Routine, at: usize) -> usize
-    ensures exact { result ≡ left_in (texts_of table.now) body at }
-{
-    match body_at(table, body) {
-        Some(code) => code.text().len().saturating_sub(at),
-        None => 0,
-    }
 }
 
 /// Whether these callers and one more wait with at most `MOST_WAITING` instructions left.

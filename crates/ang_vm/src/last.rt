@@ -56,8 +56,7 @@ pub fn begin_run(last: &mut LastRun, budget: u64)
 /// A run faults in this body, at the place that is kept: it stands above its callers then, and the ticks are those
 /// that are left there. Where there is no memory for it, no frame is kept.
 ///
-/// It stays apart, so that the loop over bodies stays small; and it takes a slice, since a second `push` of a frame
-/// would keep the one there from being in line.
+/// It stays apart, so that the loop over bodies stays small.
 #[inline(never)]
 pub fn note_fault(last: &mut LastRun, of: Routine, room: usize)
     ensures frames { (last.new.frames.items ≡ []) ⊎ (last.new.frames.items

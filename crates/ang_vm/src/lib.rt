@@ -11,13 +11,9 @@
 //! function or method with few of them is called without even pushing them.
 #![tactic(auto)]
 
-mod answers;
 mod bodies;
-mod callees;
 mod calls;
-pub mod crossing;
 mod last;
-mod lookups;
 mod machines;
 mod operands;
 mod returns;

@@ -1,5 +1,5 @@
 //! The machine.
-ghost use Rattle.std.specs.Prelude.{◌≡◌, ◌<◌, ◌≤◌, ℕ, List, [], length, reverse, IfErr, IfOk};
+ghost use Rattle.std.specs.Prelude.{◌≡◌, ◌<◌, ◌≤◌, [], length, reverse, IfErr, IfOk};
 ghost use Rattle.ang_kinds.specs.declared.fault.Fault.TheVariants.{Budget as BudgetFault, Memory as MemoryFault};
 ghost use Rattle.ang_host.specs.Boxes.{members};
 ghost use Rattle.ang_meaning.specs.World.{with_inputs};
@@ -17,10 +17,8 @@ ghost use Rattle.ang_vm.specs.Machines.{lent, IsLost, HasCalled, HasGiven, HasRu
 ghost use Rattle.ang_vm.specs.Traces.{HasLeft, HasTrace, IfStops, IsKept};
 ghost use Rattle.ang_vm_ask.specs.Askings.{HasMovedOver};
 
-use crate::answers::answer;
 use crate::bodies::run_from;
 use crate::last::{LastRun, begin_run, end_run};
-use crate::lookups::result_type;
 use crate::start::{start_call, start_initializer};
 use ang_heap::{Store, give};
 use ang_host::{Driver, EventBuffer};
@@ -28,6 +26,8 @@ use ang_kinds::{Fault, Value};
 use ang_meaning::{Routine, Slot};
 use ang_vm_stack::place::RunResult;
 use ang_vm_stack::table::Table;
+use ang_vm_steps::answers::answer;
+use ang_vm_steps::lookups::result_type;
 use ang_vm_steps::many::give_all_in_use;
 use std::alloc::Global;
 use std::mem;

@@ -7,3 +7,5 @@ pub mod Turning
 pub mod Trading
 pub mod Asked
 pub mod Operands
+pub mod Receivers
+pub mod WantedObjects

@@ -1,2 +1,4 @@
 pub mod Arms
+pub mod Crossings
+pub mod Objects
 pub mod Turns

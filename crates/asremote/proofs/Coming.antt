@@ -1,5 +1,5 @@
 -- A conversation, turn by turn.
-use Rattle.std.proofs.Common.{◌≡◌, ℕ, zero, suc, ◌+◌, ◌-◌, ◌≤◌, ◌<◌, ◌⊎◌, Bool, true, false, cond, if◌then◌else◌, nat_le, unwrap_or, codes, ◌&&◌, List, [], ◌∷◌, ◌++◌, length, take, drop, map, Option, Some, None, Result, Ok, Err, IfOk, OnOk, OnErr, refl, sym, ap, ◌∙◌, subst, inl, inr, arith, append_assoc, length-append, add-zero}
+use Rattle.std.proofs.Common.{◌≡◌, ℕ, zero, suc, ◌+◌, ◌-◌, ◌≤◌, ◌<◌, ◌⊎◌, Bool, true, false, cond, if◌then◌else◌, nat_le, unwrap_or, codes, ◌&&◌, List, [], ◌∷◌, ◌++◌, length, take, drop, map, Option, Some, None, Result, Ok, Err, IfOk, OnErr, refl, sym, ap, ◌∙◌, subst, inl, inr, arith, append_assoc, length-append, add-zero}
 use Rattle.std.specs.Option.{option_and_then}
 use Rattle.std.specs.List.{concat, list_all}
 use Rattle.std.specs.Io.KnownBytes.{Appends, Consumes}
@@ -13,7 +13,8 @@ use Rattle.ang_host.specs.Meanings.{Meanings, state_in}
 use Rattle.ang_host.specs.declared.event.HostEvent.{HostEvent}
 use Rattle.ang_host.proofs.Events.{AllFollow-join}
 use Rattle.ang_engine.specs.declared.engine.Engine.{Engine}
-use Rattle.ang_engine.specs.Engines.{registrations, world_in, drivers_in}
+use Rattle.ang_engine.specs.declared.prepared.Prepared.{Prepared}
+use Rattle.ang_engine.specs.Engines.{registrations, world_in, drivers_in, builds_in, last_build}
 use Rattle.ang_engine_modules.specs.World.{World}
 use Rattle.ang_engine.specs.Roles.{roles_of}
 use Rattle.ang_view.specs.Registration.{RegistrationList}
@@ -42,9 +43,12 @@ use Rattle.asremote.specs.OwnLines.{own_line_of}
 use Rattle.asremote.specs.declared.own_lines.OwnLine.{OwnLine}
 use Rattle.asremote.proofs.OwnLines.{own_is_none}
 use Rattle.asremote.specs.Talk.{Says, Nothing, Does, Owns, Wrong, Talk, talk_from, behind_turn, ticks_after, Turned, Passed, Did, Limited, Told, Traced, Checked, Listed, LookedUp, Called, Missed, Unread, says_of, events_of, events_in, is_right, turn_text, turns_text, done_line, status_of}
-use Rattle.asremote.specs.Turns.{said_by, IsSaid, IsEnding, IsTaken, Comes, Goes, Ends, GoesHalf, EndsHalf, Stays, TurnsHalf, TakesHalf, TakesOne}
+use Rattle.asremote.specs.Standing.{Standing, standing, BuildsNothing, TurnBuilds, KeepsFunctions}
+use Rattle.asremote.specs.Turns.{said_by, IsSaid, IsEnding, IsTaken, HasSameBuilds, Comes, ComesWith, Goes, Ends, GoesHalf, EndsHalf, Stays, TurnsHalf, TakesHalf, TakesOne}
 use Rattle.asremote.specs.declared.turns.At.{At}
-use Rattle.asremote.specs.Conversation.{TurnLeads, TurnsLead, but_last, IsHeld, IsTold, IsTooLong, Converses, IsCutShort}
+use Rattle.asremote.specs.Conversation.{TookTurn, TookLong, TookHalf, TookHalfLong, Steps, StepsHalf, ModulesLead, TurnLeads, TurnsLead, but_last, IsHeld, IsTold, IsTooLong, Converses, IsCutShort}
+use Rattle.asremote.specs.declared.conversation.Step.{Step}
+use Rattle.asremote.specs.declared.conversation.Step.TheVariants as step
 use Rattle.asremote.proofs.Lining.{lines_both, lines_here, no_lines}
 
 -- ---- what a command says does not depend on what follows its section
@@ -224,9 +228,9 @@ leads_on n b line section future Wrong lines within h =
 
 -- ---- turns one after the other
 
-do_more : (R : RegistrationList) (w v after : World) (ts : List Turned) (t : Turned) → TurnsLead R w ts v → TurnLeads R v t after → TurnsLead R w (ts ++ t ∷ []) after
-do_more R w v after [] t h e = (after, subst (λ x. TurnLeads R x t after) (sym h) e, refl)
-do_more R w v after (x ∷ xs) t h e = (h.0, h.1, do_more R h.0 v after xs t h.2 e)
+do_more : (R : RegistrationList) (s v after : Standing) (ts : List Turned) (t : Turned) → TurnsLead R s ts v → TurnLeads R v t after → TurnsLead R s (ts ++ t ∷ []) after
+do_more R s v after [] t h e = (after, subst (λ x. TurnLeads R x t after) (sym h) e, refl)
+do_more R s v after (x ∷ xs) t h e = (h.0, h.1, do_more R h.0 v after xs t h.2 e)
 
 text_more : (ts : List Turned) (t : Turned) → turns_text (ts ++ t ∷ []) ≡ turns_text ts ++ turn_text t
 text_more [] t = append-nil (turn_text t)
@@ -283,18 +287,41 @@ front_behind old mid new text one p q = (
 -- ---- what a turn does
 
 module _ {V : Type 0} {P : V → Type 0} (m : Meanings P) (e f : Engine V P) where
-  turn_does : (t : Turned) → Comes m e f t → TurnLeads (registrations e) (world_in m e) t (world_in m f)
-  turn_does Passed h = ap (λ g. world_in m g) (sym h)
-  turn_does (Did d) h = h.does
-  turn_does (Limited limit) h = sym h.world
-  turn_does (Told ticks held) h = ap (λ g. world_in m g) (sym h.0)
-  turn_does (Traced frames) h = ap (λ g. world_in m g) (sym h)
-  turn_does (Checked name r) h = h.checks
-  turn_does (Listed name lines o) h = ap (λ g. world_in m g) (sym h)
-  turn_does (LookedUp name decl found) h = (ap (λ g. world_in m g) (sym h.0), h.1)
-  turn_does (Called number args p ticks r) h = h.takes
-  turn_does (Missed number args) h = ap (λ g. world_in m g) (sym h)
-  turn_does Unread h = ap (λ g. world_in m g) (sym h)
+  module _ (ps qs : List Prepared) where
+    turn_modules : (t : Turned) → Comes m e f t → ModulesLead (registrations e) (standing m e ps) t (world_in m f)
+    turn_modules Passed h = ap (λ g. world_in m g) (sym h)
+    turn_modules (Did d) h = h.does
+    turn_modules (Limited limit) h = sym h.world
+    turn_modules (Told ticks held) h = ap (λ g. world_in m g) (sym h.0)
+    turn_modules (Traced frames) h = ap (λ g. world_in m g) (sym h)
+    turn_modules (Checked name r) h = h.checks
+    turn_modules (Listed name lines o) h = ap (λ g. world_in m g) (sym h)
+    turn_modules (LookedUp name decl found) h = ap (λ g. world_in m g) (sym h)
+    turn_modules (Called number args p ticks r) h = h.takes
+    turn_modules (Missed number args) h = ap (λ g. world_in m g) (sym h)
+    turn_modules Unread h = ap (λ g. world_in m g) (sym h)
+
+    same_builds : HasSameBuilds m e f → BuildsNothing (standing m e ps) (standing m f qs)
+    same_builds h = record { last = h.last; builds = h.builds }
+
+    none_built : f ≡ e → BuildsNothing (standing m e ps) (standing m f qs)
+    none_built h = record { last = ap (λ g. last_build g) h; builds = ap (λ g. builds_in g) h }
+
+    turn_builds : (t : Turned) → Comes m e f t → TurnBuilds (standing m e ps) t (standing m f qs)
+    turn_builds Passed h = none_built h
+    turn_builds (Did d) h = h.builds
+    turn_builds (Limited limit) h = same_builds h.numbers
+    turn_builds (Told ticks held) h = none_built h.0
+    turn_builds (Traced frames) h = none_built h
+    turn_builds (Checked name r) h = same_builds h.numbers
+    turn_builds (Listed name lines o) h = none_built h
+    turn_builds (LookedUp name decl found) h = none_built h
+    turn_builds (Called number args p ticks r) h = same_builds h.numbers
+    turn_builds (Missed number args) h = none_built h
+    turn_builds Unread h = none_built h
+
+    turn_does : (t : Turned) → ComesWith m e f ps qs t → TurnLeads (registrations e) (standing m e ps) t (standing m f qs)
+    turn_does t h = record { modules = turn_modules t h.comes; builds = turn_builds t h.comes; functions = h.functions }
 
   -- the drivers were asked nothing
   none_asked : drivers_in f ≡ drivers_in e → DriversFollow m (roles_of (registrations e)) (drivers_in e) [] (drivers_in f)
@@ -311,50 +338,52 @@ module _ {V : Type 0} {P : V → Type 0} (m : Meanings P) (e f : Engine V P) whe
   turn_follows (Traced frames) h = none_asked (same_drivers h)
   turn_follows (Checked name r) h = none_asked h.drivers
   turn_follows (Listed name lines o) h = none_asked (same_drivers h)
-  turn_follows (LookedUp name decl found) h = none_asked (same_drivers h.0)
+  turn_follows (LookedUp name decl found) h = none_asked (same_drivers h)
   turn_follows (Called number args p ticks r) h = h.follow
   turn_follows (Missed number args) h = none_asked (same_drivers h)
   turn_follows Unread h = none_asked (same_drivers h)
 
 -- ---- what was done so far with the lines that were read
 
-pub record HasCome {V : Type 0} {P : V → Type 0} (m : Meanings P) (R : RegistrationList) (w : World) (xs : List (DynBox V Global P)) (budget : ℕ)
-    (rold rnow : Option (List ℕ)) (text : List ℕ) (lines : List (List ℕ)) (number ticks : ℕ) (turns : List Turned) (after : World)
+pub record HasCome {V : Type 0} {P : V → Type 0} (m : Meanings P) (R : RegistrationList) (s : Standing) (xs : List (DynBox V Global P)) (budget : ℕ)
+    (rold rnow : Option (List ℕ)) (text : List ℕ) (lines : List (List ℕ)) (number ticks : ℕ) (turns : List Turned) (after : Standing)
     (ys : List (DynBox V Global P)) : Type 0 where
   pub read : Consumes rold rnow text
   pub here : lines_of text ≡ lines
   pub said : (future : List (List ℕ)) → (talk_from 1 budget zero (lines ++ future)).turns ≡ map says_of turns ++ (talk_from number ticks zero future).turns
   pub ends : (future : List (List ℕ)) → (talk_from 1 budget zero (lines ++ future)).bad_line ≡ (talk_from number ticks zero future).bad_line
-  pub does : TurnsLead R w turns after
+  pub none : s.functions ≡ []
+  pub does : TurnsLead R s turns after
   pub follow : DriversFollow m (roles_of R) xs (events_in turns) ys
 
 -- and what was printed
-pub record HasGone {V : Type 0} {P : V → Type 0} (m : Meanings P) (R : RegistrationList) (w : World) (xs : List (DynBox V Global P)) (budget : ℕ)
-    (rold rnow wold wnow : Option (List ℕ)) (text : List ℕ) (lines : List (List ℕ)) (number ticks : ℕ) (ok : Bool) (after : World)
+pub record HasGone {V : Type 0} {P : V → Type 0} (m : Meanings P) (R : RegistrationList) (s : Standing) (xs : List (DynBox V Global P)) (budget : ℕ)
+    (rold rnow wold wnow : Option (List ℕ)) (text : List ℕ) (lines : List (List ℕ)) (number ticks : ℕ) (ok : Bool) (after : Standing)
     (ys : List (DynBox V Global P)) : Type 0 where
   pub turns : List Turned
-  pub come : HasCome m R w xs budget rold rnow text lines number ticks turns after ys
+  pub come : HasCome m R s xs budget rold rnow text lines number ticks turns after ys
   pub printed : Appends wold wnow (turns_text turns)
   pub all_ok : ok ≡ list_all is_right turns
 
-module _ {V : Type 0} {P : V → Type 0} (m : Meanings P) (R : RegistrationList) (w : World) (xs : List (DynBox V Global P)) (budget : ℕ) (rold wold : Option (List ℕ)) where
-  pub come_first : HasCome m R w xs budget rold rold [] [] 1 budget [] w xs
-  come_first = record {
+module _ {V : Type 0} {P : V → Type 0} (m : Meanings P) (R : RegistrationList) (s : Standing) (xs : List (DynBox V Global P)) (budget : ℕ) (rold wold : Option (List ℕ)) where
+  pub come_first : s.functions ≡ [] → HasCome m R s xs budget rold rold [] [] 1 budget [] s xs
+  come_first none = record {
     read = consumes_nothing rold;
     here = lines_here [] [] no_lines;
     said = λ future. refl;
     ends = λ future. refl;
+    none = none;
     does = refl;
     follow = follow_nothing m R xs;
   }
 
-  pub gone_first : HasGone m R w xs budget rold rold wold wold [] [] 1 budget true w xs
-  gone_first = record { turns = []; come = come_first; printed = appends_none wold; all_ok = refl }
+  pub gone_first : s.functions ≡ [] → HasGone m R s xs budget rold rold wold wold [] [] 1 budget true s xs
+  gone_first none = record { turns = []; come = come_first none; printed = appends_none wold; all_ok = refl }
 
   -- nothing more was read
-  pub gone_read : (r1 r2 w1 : Option (List ℕ)) (text : List ℕ) (lines : List (List ℕ)) (number ticks : ℕ) (ok : Bool) (after : World) (ys : List (DynBox V Global P))
-      → HasGone m R w xs budget rold r1 wold w1 text lines number ticks ok after ys → Consumes r1 r2 []
-      → HasGone m R w xs budget rold r2 wold w1 text lines number ticks ok after ys
+  pub gone_read : (r1 r2 w1 : Option (List ℕ)) (text : List ℕ) (lines : List (List ℕ)) (number ticks : ℕ) (ok : Bool) (after : Standing) (ys : List (DynBox V Global P))
+      → HasGone m R s xs budget rold r1 wold w1 text lines number ticks ok after ys → Consumes r1 r2 []
+      → HasGone m R s xs budget rold r2 wold w1 text lines number ticks ok after ys
   gone_read r1 r2 w1 text lines number ticks ok after ys h c =
       let all : Consumes rold r2 (text ++ []) = consumes_both rold r1 r2 text [] h.come.read c in
       record {
@@ -364,6 +393,7 @@ module _ {V : Type 0} {P : V → Type 0} (m : Meanings P) (R : RegistrationList)
           here = h.come.here;
           said = h.come.said;
           ends = h.come.ends;
+          none = h.come.none;
           does = h.come.does;
           follow = h.come.follow;
         };
@@ -373,25 +403,30 @@ module _ {V : Type 0} {P : V → Type 0} (m : Meanings P) (R : RegistrationList)
 
   -- ---- where the lines that were read are all
 
-  module _ (r1 : Option (List ℕ)) (text : List ℕ) (lines : List (List ℕ)) (number ticks : ℕ) (turns : List Turned) (after : World) (ys : List (DynBox V Global P))
-      (h : HasCome m R w xs budget rold r1 text lines number ticks turns after ys) where
+  module _ (r1 : Option (List ℕ)) (text : List ℕ) (lines : List (List ℕ)) (number ticks : ℕ) (turns : List Turned) (after : Standing) (ys : List (DynBox V Global P))
+      (h : HasCome m R s xs budget rold r1 text lines number ticks turns after ys) where
     whole_lines : lines_of text ≡ lines ++ []
     whole_lines = h.here ∙ sym (append-nil lines)
 
     pub going_on : (talk_from 1 budget 0 (lines_of text)).bad_line ≡ None
     going_on = ap (λ ls. (talk_from 1 budget 0 ls).bad_line) whole_lines ∙ h.ends [] ∙ ap (λ s. s.bad_line) (talk_end number ticks)
 
-    pub held : IsHeld R w (talk_from 1 budget 0 (lines_of text)) turns (events_in turns) after
+    pub held : IsHeld R s.world (talk_from 1 budget 0 (lines_of text)) turns (events_in turns) after.world
     held = record {
       said = ap (λ ls. (talk_from 1 budget 0 ls).turns) whole_lines ∙ h.said [] ∙ ap (λ s. map says_of turns ++ s.turns) (talk_end number ticks) ∙ append-nil (map says_of turns);
+      start = s;
+      begins = refl;
+      none = h.none;
+      last = after;
       leads = h.does;
+      left = refl;
       events = refl;
     }
 
-  module _ (r1 w1 : Option (List ℕ)) (text : List ℕ) (lines : List (List ℕ)) (number ticks : ℕ) (ok : Bool) (after : World) (ys : List (DynBox V Global P))
-      (h : HasGone m R w xs budget rold r1 wold w1 text lines number ticks ok after ys) where
+  module _ (r1 w1 : Option (List ℕ)) (text : List ℕ) (lines : List (List ℕ)) (number ticks : ℕ) (ok : Bool) (after : Standing) (ys : List (DynBox V Global P))
+      (h : HasGone m R s xs budget rold r1 wold w1 text lines number ticks ok after ys) where
     -- no line is left
-    pub ends_all : ByEvents m R xs (λ es. Converses R w budget [] rold r1 wold w1 (cond ok AllOk SomeRefused) es after) ys
+    pub ends_all : ByEvents m R xs (λ es. Converses R s.world budget [] rold r1 wold w1 (cond ok AllOk SomeRefused) es after.world) ys
     ends_all =
         let good = going_on r1 text lines number ticks h.turns after ys h.come in
         let same : turns_text h.turns ≡ turns_text h.turns ++ bad_line_text (talk_from 1 budget 0 (lines_of text)).bad_line =
@@ -410,7 +445,7 @@ module _ {V : Type 0} {P : V → Type 0} (m : Meanings P) (R : RegistrationList)
 
     -- a command was too long
     pub ends_long : (r2 w2 : Option (List ℕ)) (more : List ℕ) → Consumes r1 r2 more → most_command < length more → Appends w1 w2 long_session_text
-        → ByEvents m R xs (λ es. Converses R w budget [] rold r2 wold w2 BadInput es after) ys
+        → ByEvents m R xs (λ es. Converses R s.world budget [] rold r2 wold w2 BadInput es after.world) ys
     ends_long r2 w2 more c long p = (
       events_in h.turns,
       inr (record {
@@ -427,17 +462,10 @@ module _ {V : Type 0} {P : V → Type 0} (m : Meanings P) (R : RegistrationList)
       h.come.follow,
     )
 
-    pub long_over : (r2 w2 : Option (List ℕ)) (ended : Result Status SessionError) → ((more : List ℕ) × Consumes r1 r2 more × (most_command < length more))
-        → OnOk ended (Appends w1 w2 long_session_text) → IfOk ended (λ status. status ≡ BadInput)
-        → IfOk ended (λ status. ByEvents m R xs (λ es. Converses R w budget [] rold r2 wold w2 status es after) ys)
-    long_over r2 w2 (Err why) c p e = tt
-    long_over r2 w2 (Ok status) c p e =
-        subst (λ t. ByEvents m R xs (λ es. Converses R w budget [] rold r2 wold w2 t es after) ys) (sym e) (ends_long r2 w2 c.0 c.1 c.2 p)
-
     -- it is cut short after a front of one text more
     pub cut_after : (r2 w2 : Option (List ℕ)) (last : List ℕ) → ((talk_from 1 budget 0 (lines_of text)).bad_line ≡ None → (last ≡ bad_line_text (talk_from 1 budget 0 (lines_of text)).bad_line)
         ⊎ (((talk_from 1 budget 0 (lines_of text)).bad_line ≡ None) × (last ≡ long_session_text))) → HasFront w1 w2 last
-        → ByEvents m R xs (λ es. IsCutShort R w budget [] rold r2 wold w2 es after) ys
+        → ByEvents m R xs (λ es. IsCutShort R s.world budget [] rold r2 wold w2 es after.world) ys
     cut_after r2 w2 last can p =
         let front = front_behind wold w1 w2 (turns_text h.turns) last h.printed p in (
           events_in h.turns,
@@ -455,27 +483,25 @@ module _ {V : Type 0} {P : V → Type 0} (m : Meanings P) (R : RegistrationList)
         )
 
     -- it is cut short here
-    pub cut_here : (r2 : Option (List ℕ)) → ByEvents m R xs (λ es. IsCutShort R w budget [] rold r2 wold w1 es after) ys
+    pub cut_here : (r2 : Option (List ℕ)) → ByEvents m R xs (λ es. IsCutShort R s.world budget [] rold r2 wold w1 es after.world) ys
     cut_here r2 = cut_after r2 w1 [] (λ good. inl (ap bad_line_text (sym good))) (front_none w1 [])
 
-    pub cut_long : (r2 w2 : Option (List ℕ)) (ended : Result Status SessionError) → OnErr ended (HasFront w1 w2 long_session_text)
-        → OnErr ended (ByEvents m R xs (λ es. IsCutShort R w budget [] rold r2 wold w2 es after) ys)
-    cut_long r2 w2 (Ok status) p = tt
-    cut_long r2 w2 (Err why) p = cut_after r2 w2 long_session_text (λ good. inr (good, refl)) p
+    pub cut_long : (r2 w2 : Option (List ℕ)) → HasFront w1 w2 long_session_text → ByEvents m R xs (λ es. IsCutShort R s.world budget [] rold r2 wold w2 es after.world) ys
+    cut_long r2 w2 p = cut_after r2 w2 long_session_text (λ good. inr (good, refl)) p
 
   -- ---- a command more
 
-  module _ (r1 : Option (List ℕ)) (text : List ℕ) (lines : List (List ℕ)) (number ticks : ℕ) (turns : List Turned) (e : Engine V P)
-      (h : HasCome m R w xs budget rold r1 text lines number ticks turns (world_in m e) (drivers_in e)) (list : registrations e ≡ R)
+  module _ (r1 : Option (List ℕ)) (text : List ℕ) (lines : List (List ℕ)) (number ticks : ℕ) (turns : List Turned) (e : Engine V P) (ps : List Prepared)
+      (h : HasCome m R s xs budget rold r1 text lines number ticks turns (standing m e ps) (drivers_in e)) (list : registrations e ≡ R)
       (c line : List ℕ) (section : List (List ℕ)) (is : IsCommand c line section) (r2 : Option (List ℕ)) (read : Consumes r1 r2 c)
       (cut : lines_of (text ++ c) ≡ lines ++ line ∷ section) where
     joined : (future : List (List ℕ)) → (lines ++ line ∷ section) ++ future ≡ lines ++ (line ∷ (section ++ future))
     joined future = append_assoc lines (line ∷ section) future
 
     -- a turn was taken with it
-    pub come_on : (f : Engine V P) (t : Turned) (next many : ℕ) → IsTaken m e f ticks line section t next many
-        → HasCome m R w xs budget rold r2 (text ++ c) (lines ++ line ∷ section) (number + (1 + many)) next (turns ++ t ∷ []) (world_in m f) (drivers_in f)
-    come_on f t next many k =
+    pub come_on : (f : Engine V P) (qs : List Prepared) (t : Turned) (next many : ℕ) → IsTaken m e f ps qs ticks line section t next many
+        → HasCome m R s xs budget rold r2 (text ++ c) (lines ++ line ∷ section) (number + (1 + many)) next (turns ++ t ∷ []) (standing m f qs) (drivers_in f)
+    come_on f qs t next many k =
         let left : (future : List (List ℕ)) → talk_from number ticks zero (line ∷ (section ++ future)) ≡ behind_turn (says_of t) (talk_from (number + (1 + many)) next zero future) =
         λ future. leads_on number ticks line section future (says_of t) many is.within k.said
         ∙ ap (λ b. behind_turn (says_of t) (talk_from (number + (1 + many)) b zero future)) (sym k.budget) in
@@ -487,11 +513,12 @@ module _ {V : Type 0} {P : V → Type 0} (m : Meanings P) (R : RegistrationList)
               ∙ ap (λ s. map says_of turns ++ s.turns) (left future) ∙ sym (says_more turns t (talk_from (number + (1 + many)) next zero future).turns);
           ends = λ future.
               ap (λ ls. (talk_from 1 budget zero ls).bad_line) (joined future) ∙ h.ends (line ∷ (section ++ future)) ∙ ap (λ s. s.bad_line) (left future);
-          does = do_more R w (world_in m e) (world_in m f) turns t h.does (subst (λ l. TurnLeads l (world_in m e) t (world_in m f)) list (turn_does m e f t k.comes));
+          none = h.none;
+          does = do_more R s (standing m e ps) (standing m f qs) turns t h.does (subst (λ l. TurnLeads l (standing m e ps) t (standing m f qs)) list (turn_does m e f ps qs t k.comes));
           follow = subst (λ es. DriversFollow m (roles_of R) xs es (drivers_in f)) (sym (events_more turns t))
               (AllFollow-join (λ b. state_in m b) (λ b. b.vtable) (λ v. (m v).meaning.fits) (roles_of R) xs (drivers_in e) (drivers_in f)
               (events_in turns) (events_of t) h.follow
-              (subst (λ l. DriversFollow m (roles_of l) (drivers_in e) (events_of t) (drivers_in f)) list (turn_follows m e f t k.comes)));
+              (subst (λ l. DriversFollow m (roles_of l) (drivers_in e) (events_of t) (drivers_in f)) list (turn_follows m e f t k.comes.comes)));
         }
 
     -- or it ends the conversation
@@ -501,18 +528,23 @@ module _ {V : Type 0} {P : V → Type 0} (m : Meanings P) (R : RegistrationList)
     bad_line_is : IsEnding ticks line section → (talk_from 1 budget 0 (lines_of (text ++ c))).bad_line ≡ Some number
     bad_line_is k = ap (λ ls. (talk_from 1 budget 0 ls).bad_line) cut ∙ h.ends (line ∷ section) ∙ ap (λ s. s.bad_line) (ended_by k)
 
-    held_to : IsEnding ticks line section → IsHeld R w (talk_from 1 budget 0 (lines_of (text ++ c))) turns (events_in turns) (world_in m e)
+    held_to : IsEnding ticks line section → IsHeld R s.world (talk_from 1 budget 0 (lines_of (text ++ c))) turns (events_in turns) (world_in m e)
     held_to k = record {
       said = ap (λ ls. (talk_from 1 budget 0 ls).turns) cut ∙ h.said (line ∷ section) ∙ ap (λ s. map says_of turns ++ s.turns) (ended_by k) ∙ append-nil (map says_of turns);
+      start = s;
+      begins = refl;
+      none = h.none;
+      last = standing m e ps;
       leads = h.does;
+      left = refl;
       events = refl;
     }
 
     pub ends_bad : (f : Engine V P) (w1 w2 : Option (List ℕ)) → Appends wold w1 (turns_text turns) → Ends m e f w1 w2 number ticks line section
-        → ByEvents m R xs (λ es. Converses R w budget [] rold r2 wold w2 BadInput es (world_in m f)) (drivers_in f)
+        → ByEvents m R xs (λ es. Converses R s.world budget [] rold r2 wold w2 BadInput es (world_in m f)) (drivers_in f)
     ends_bad f w1 w2 before p =
         let bad = bad_line_is p.ending in
-        subst (λ g. ByEvents m R xs (λ es. Converses R w budget [] rold r2 wold w2 BadInput es (world_in m g)) (drivers_in g)) (sym p.same) (
+        subst (λ g. ByEvents m R xs (λ es. Converses R s.world budget [] rold r2 wold w2 BadInput es (world_in m g)) (drivers_in g)) (sym p.same) (
           events_in turns,
           inl (record {
             text = text ++ c;
@@ -527,11 +559,11 @@ module _ {V : Type 0} {P : V → Type 0} (m : Meanings P) (R : RegistrationList)
         )
 
     pub cut_bad : (f : Engine V P) (w1 w2 r3 : Option (List ℕ)) → Appends wold w1 (turns_text turns) → EndsHalf m e f w1 w2 number ticks line section
-        → ByEvents m R xs (λ es. IsCutShort R w budget [] rold r3 wold w2 es (world_in m f)) (drivers_in f)
+        → ByEvents m R xs (λ es. IsCutShort R s.world budget [] rold r3 wold w2 es (world_in m f)) (drivers_in f)
     cut_bad f w1 w2 r3 before p =
         let bad = bad_line_is p.ending in
         let front = front_behind wold w1 w2 (turns_text turns) (bad_line_text (Some number)) before p.front in
-        subst (λ g. ByEvents m R xs (λ es. IsCutShort R w budget [] rold r3 wold w2 es (world_in m g)) (drivers_in g)) (sym p.same) (
+        subst (λ g. ByEvents m R xs (λ es. IsCutShort R s.world budget [] rold r3 wold w2 es (world_in m g)) (drivers_in g)) (sym p.same) (
           events_in turns,
           record {
             text = text ++ c;
@@ -546,11 +578,11 @@ module _ {V : Type 0} {P : V → Type 0} (m : Meanings P) (R : RegistrationList)
           h.follow,
         )
 
-    pub cut_half : (f : Engine V P) (w1 w2 r3 : Option (List ℕ)) → Appends wold w1 (turns_text turns) → GoesHalf m e f w1 w2 ticks line section
-        → ByEvents m R xs (λ es. IsCutShort R w budget [] rold r3 wold w2 es (world_in m f)) (drivers_in f)
-    cut_half f w1 w2 r3 before p =
-        let come = come_on f p.did p.next p.lines p.taken in
-        let good = going_on r2 (text ++ c) (lines ++ line ∷ section) (number + (1 + p.lines)) p.next (turns ++ p.did ∷ []) (world_in m f) (drivers_in f) come in
+    pub cut_half : (f : Engine V P) (qs : List Prepared) (w1 w2 r3 : Option (List ℕ)) → Appends wold w1 (turns_text turns) → GoesHalf m e f ps qs w1 w2 ticks line section
+        → ByEvents m R xs (λ es. IsCutShort R s.world budget [] rold r3 wold w2 es (world_in m f)) (drivers_in f)
+    cut_half f qs w1 w2 r3 before p =
+        let come = come_on f qs p.did p.next p.lines p.taken in
+        let good = going_on r2 (text ++ c) (lines ++ line ∷ section) (number + (1 + p.lines)) p.next (turns ++ p.did ∷ []) (standing m f qs) (drivers_in f) come in
         let front = front_behind wold w1 w2 (turns_text turns) (turn_text p.did) before p.front in
         let same : turns_text turns ++ turn_text p.did ≡ turns_text (turns ++ p.did ∷ []) ++ [] =
         sym (text_more turns p.did) ∙ sym (append-nil (turns_text (turns ++ p.did ∷ []))) in (
@@ -560,7 +592,7 @@ module _ {V : Type 0} {P : V → Type 0} (m : Meanings P) (R : RegistrationList)
             turns = turns ++ p.did ∷ [];
             last = [];
             read = (r2, come.read);
-            held = held r2 (text ++ c) (lines ++ line ∷ section) (number + (1 + p.lines)) p.next (turns ++ p.did ∷ []) (world_in m f) (drivers_in f) come;
+            held = held r2 (text ++ c) (lines ++ line ∷ section) (number + (1 + p.lines)) p.next (turns ++ p.did ∷ []) (standing m f qs) (drivers_in f) come;
             can_end = inl (ap bad_line_text (sym good));
             printed = record {
               count = front.0.count;
@@ -572,88 +604,108 @@ module _ {V : Type 0} {P : V → Type 0} (m : Meanings P) (R : RegistrationList)
           come.follow,
         )
 
-  -- ---- what a turn comes to
+  -- ---- what stands in the place of the next command
 
-  module _ (r1 w1 : Option (List ℕ)) (number ticks : ℕ) (ok : Bool) (e f : Engine V P) (list : registrations e ≡ R)
-      (come : (text : List ℕ) × (lines : List (List ℕ)) × AreLines text lines × HasGone m R w xs budget rold r1 wold w1 text lines number ticks ok (world_in m e) (drivers_in e))
-      (c now : List ℕ) (same : now ≡ c) (x : Next) (r2 w2 : Option (List ℕ)) (read : ReadsCommand r1 r2 x c) where
-    went : HasGone m R w xs budget rold r1 wold w1 come.0 come.1 number ticks ok (world_in m e) (drivers_in e)
+  module _ (r1 w1 : Option (List ℕ)) (number ticks : ℕ) (ok : Bool) (e f : Engine V P) (ps qs : List Prepared) (list : registrations e ≡ R)
+      (come : (text : List ℕ) × (lines : List (List ℕ)) × AreLines text lines × HasGone m R s xs budget rold r1 wold w1 text lines number ticks ok (standing m e ps) (drivers_in e))
+      (r2 w2 : Option (List ℕ)) where
+    went : HasGone m R s xs budget rold r1 wold w1 come.0 come.1 number ticks ok (standing m e ps) (drivers_in e)
     went = come.3
 
-    goes_on : (line : List ℕ) (section : List (List ℕ)) → IsCommand c line section → Consumes r1 r2 c → lines_of (come.0 ++ c) ≡ come.1 ++ line ∷ section
-        → (at : At) → Goes m e f w1 w2 number ticks line section at
-        → HasGone m R w xs budget rold r2 wold w2 (come.0 ++ c) (come.1 ++ line ∷ section) at.number at.ticks (ok && at.ok) (world_in m f) (drivers_in f)
-    goes_on line section is consumed cut at g = record {
-      turns = went.turns ++ g.did ∷ [];
-      come = subst (λ n. HasCome m R w xs budget rold r2 (come.0 ++ c) (come.1 ++ line ∷ section) n at.ticks (went.turns ++ g.did ∷ []) (world_in m f) (drivers_in f)) (sym g.place)
-          (come_on r1 come.0 come.1 number ticks went.turns e went.come list c line section is r2 consumed cut f g.did at.ticks g.lines g.taken);
-      printed = subst (λ t. Appends wold w2 t) (sym (text_more went.turns g.did)) (appends_both wold w1 w2 (turns_text went.turns) (turn_text g.did) went.printed g.printed);
-      all_ok = ap (λ b. b && at.ok) went.all_ok ∙ ap (λ b. list_all is_right went.turns && b) g.is_ok ∙ sym (all_more went.turns g.did);
-    }
+    -- nothing was done
+    stayed : (r3 : Option (List ℕ)) → f ≡ e → w2 ≡ w1 → ByEvents m R xs (λ es. IsCutShort R s.world budget [] rold r3 wold w2 es (world_in m f)) (drivers_in f)
+    stayed r3 same kept =
+        subst (λ g. ByEvents m R xs (λ es. IsCutShort R s.world budget [] rold r3 wold w2 es (world_in m g)) (drivers_in g)) (sym same)
+        (subst (λ o. ByEvents m R xs (λ es. IsCutShort R s.world budget [] rold r3 wold o es (world_in m e)) (drivers_in e)) (sym kept)
+        (cut_here r1 w1 come.0 come.1 number ticks ok (standing m e ps) (drivers_in e) went r3))
 
-    module _ (o : Option At) (taken : TakesOne m e f w1 w2 number ticks now o) where
-      taken_as : (p : Option At) → o ≡ p → TakesOne m e f w1 w2 number ticks c p
-      taken_as p is = subst (λ q. TakesOne m e f w1 w2 number ticks c q) is (subst (λ y. TakesOne m e f w1 w2 number ticks y o) same taken)
+    -- a turn was taken with it
+    module _ (c line : List ℕ) (section : List (List ℕ)) (is : IsCommand c line section) (consumed : Consumes r1 r2 c) (cut : lines_of (come.0 ++ c) ≡ come.1 ++ line ∷ section) where
+      goes_on : (at : At) → Goes m e f ps qs w1 w2 number ticks line section at
+          → HasGone m R s xs budget rold r2 wold w2 (come.0 ++ c) (come.1 ++ line ∷ section) at.number at.ticks (ok && at.ok) (standing m f qs) (drivers_in f)
+      goes_on at g = record {
+        turns = went.turns ++ g.did ∷ [];
+        come = subst (λ n. HasCome m R s xs budget rold r2 (come.0 ++ c) (come.1 ++ line ∷ section) n at.ticks (went.turns ++ g.did ∷ []) (standing m f qs) (drivers_in f)) (sym g.place)
+            (come_on r1 come.0 come.1 number ticks went.turns e ps went.come list c line section is r2 consumed cut f qs g.did at.ticks g.lines g.taken);
+        printed = subst (λ t. Appends wold w2 t) (sym (text_more went.turns g.did)) (appends_both wold w1 w2 (turns_text went.turns) (turn_text g.did) went.printed g.printed);
+        all_ok = ap (λ b. b && at.ok) went.all_ok ∙ ap (λ b. list_all is_right went.turns && b) g.is_ok ∙ sym (all_more went.turns g.did);
+      }
 
-      pub next_on : x ≡ next.Command → (at : At) → o ≡ Some at
-          → (text : List ℕ) × (lines : List (List ℕ)) × AreLines text lines × HasGone m R w xs budget rold r2 wold w2 text lines at.number at.ticks (ok && at.ok) (world_in m f) (drivers_in f)
-      next_on is at some =
-          let q : ReadsCommand r1 r2 next.Command c = subst (λ y. ReadsCommand r1 r2 y c) is read in
-          let all : AreLines (come.0 ++ c) (come.1 ++ q.0 ∷ q.1) = lines_both come.0 c come.1 (q.0 ∷ q.1) come.2 q.3 in (
-            come.0 ++ c,
+      bad_at : Ends m e f w1 w2 number ticks line section → ByEvents m R xs (λ es. Converses R s.world budget [] rold r2 wold w2 BadInput es (world_in m f)) (drivers_in f)
+      bad_at p = ends_bad r1 come.0 come.1 number ticks went.turns e ps went.come list c line section is r2 consumed cut f w1 w2 went.printed p
+
+      half_at : TurnsHalf m e f ps qs w1 w2 number ticks line section → ByEvents m R xs (λ es. IsCutShort R s.world budget [] rold r2 wold w2 es (world_in m f)) (drivers_in f)
+      half_at (inl p) = cut_half r1 come.0 come.1 number ticks went.turns e ps went.come list c line section is r2 consumed cut f qs w1 w2 r2 went.printed p
+      half_at (inr (inl p)) = cut_bad r1 come.0 come.1 number ticks went.turns e ps went.come list c line section is r2 consumed cut f w1 w2 r2 went.printed p
+      half_at (inr (inr p)) = stayed r2 p.0 p.1
+
+    -- all lines of a command were read
+    whole_cut : (c : List ℕ) (q : ReadsCommand r1 r2 next.Command c) → lines_of (come.0 ++ c) ≡ come.1 ++ q.0 ∷ q.1
+    whole_cut c q = lines_here (come.0 ++ c) (come.1 ++ q.0 ∷ q.1) (lines_both come.0 c come.1 (q.0 ∷ q.1) come.2 q.3)
+
+    last_cut : (c : List ℕ) (q : ReadsCommand r1 r2 next.Last c) → lines_of (come.0 ++ c) ≡ come.1 ++ q.0 ∷ q.1
+    last_cut c q = come.2 c ∙ ap (λ z. come.1 ++ z) q.2.lines
+
+    module _ (x : Step) (steps : Steps m e f ps qs r1 r2 w1 w2 number ticks x) where
+      as_step : (y : Step) → x ≡ y → Steps m e f ps qs r1 r2 w1 w2 number ticks y
+      as_step y is = subst (λ z. Steps m e f ps qs r1 r2 w1 w2 number ticks z) is steps
+
+      pub next_on : (at : At) → x ≡ step.Next at
+          → (text : List ℕ) × (lines : List (List ℕ)) × AreLines text lines × HasGone m R s xs budget rold r2 wold w2 text lines at.number at.ticks (ok && at.ok) (standing m f qs) (drivers_in f)
+      next_on at is =
+          let k : Steps m e f ps qs r1 r2 w1 w2 number ticks (step.Next at) = as_step (step.Next at) is in
+          let q : ReadsCommand r1 r2 next.Command k.text = k.read in (
+            come.0 ++ k.text,
             come.1 ++ q.0 ∷ q.1,
-            all,
-            goes_on q.0 q.1 q.2 q.4 (lines_here (come.0 ++ c) (come.1 ++ q.0 ∷ q.1) all) at (taken_as (Some at) some q.0 q.1 q.2.lines),
+            lines_both come.0 k.text come.1 (q.0 ∷ q.1) come.2 q.3,
+            goes_on k.text q.0 q.1 q.2 q.4 (whole_cut k.text q) at (k.takes q.0 q.1 q.2.lines),
           )
 
-      bad_at : (line : List ℕ) (section : List (List ℕ)) → IsCommand c line section → Consumes r1 r2 c → lines_of (come.0 ++ c) ≡ come.1 ++ line ∷ section → o ≡ None
-          → ByEvents m R xs (λ es. Converses R w budget [] rold r2 wold w2 BadInput es (world_in m f)) (drivers_in f)
-      bad_at line section is consumed cut none =
-          ends_bad r1 come.0 come.1 number ticks went.turns e went.come list c line section is r2 consumed cut f w1 w2 went.printed (taken_as None none line section is.lines)
+      pub last_on : (at : At) → x ≡ step.Last at
+          → ByEvents m R xs (λ es. Converses R s.world budget [] rold r2 wold w2 (cond (ok && at.ok) AllOk SomeRefused) es (world_in m f)) (drivers_in f)
+      last_on at is =
+          let k : Steps m e f ps qs r1 r2 w1 w2 number ticks (step.Last at) = as_step (step.Last at) is in
+          let q : ReadsCommand r1 r2 next.Last k.text = k.read in
+          ends_all r2 w2 (come.0 ++ k.text) (come.1 ++ q.0 ∷ q.1) at.number at.ticks (ok && at.ok) (standing m f qs) (drivers_in f)
+          (goes_on k.text q.0 q.1 q.2 q.3 (last_cut k.text q) at (k.takes q.0 q.1 q.2.lines))
 
-      pub next_bad : x ≡ next.Command → o ≡ None → ByEvents m R xs (λ es. Converses R w budget [] rold r2 wold w2 BadInput es (world_in m f)) (drivers_in f)
-      next_bad is none =
-          let q : ReadsCommand r1 r2 next.Command c = subst (λ y. ReadsCommand r1 r2 y c) is read in
-          bad_at q.0 q.1 q.2 q.4 (lines_here (come.0 ++ c) (come.1 ++ q.0 ∷ q.1) (lines_both come.0 c come.1 (q.0 ∷ q.1) come.2 q.3)) none
+      bad_either : Steps m e f ps qs r1 r2 w1 w2 number ticks step.Bad → ByEvents m R xs (λ es. Converses R s.world budget [] rold r2 wold w2 BadInput es (world_in m f)) (drivers_in f)
+      bad_either (inl k) =
+          let q : ReadsCommand r1 r2 next.Command k.text = k.read in
+          bad_at k.text q.0 q.1 q.2 q.4 (whole_cut k.text q) (k.takes q.0 q.1 q.2.lines)
+      bad_either (inr k) =
+          let q : ReadsCommand r1 r2 next.Last k.text = k.read in
+          bad_at k.text q.0 q.1 q.2 q.3 (last_cut k.text q) (k.takes q.0 q.1 q.2.lines)
 
-      pub last_bad : x ≡ next.Last → o ≡ None → ByEvents m R xs (λ es. Converses R w budget [] rold r2 wold w2 BadInput es (world_in m f)) (drivers_in f)
-      last_bad is none =
-          let q : ReadsCommand r1 r2 next.Last c = subst (λ y. ReadsCommand r1 r2 y c) is read in
-          bad_at q.0 q.1 q.2 q.3 (come.2 c ∙ ap (λ z. come.1 ++ z) q.2.lines) none
+      pub bad_on : x ≡ step.Bad → ByEvents m R xs (λ es. Converses R s.world budget [] rold r2 wold w2 BadInput es (world_in m f)) (drivers_in f)
+      bad_on is = bad_either (as_step step.Bad is)
 
-      pub last_on : x ≡ next.Last → (at : At) → o ≡ Some at
-          → ByEvents m R xs (λ es. Converses R w budget [] rold r2 wold w2 (cond (ok && at.ok) AllOk SomeRefused) es (world_in m f)) (drivers_in f)
-      last_on is at some =
-          let q : ReadsCommand r1 r2 next.Last c = subst (λ y. ReadsCommand r1 r2 y c) is read in
-          ends_all r2 w2 (come.0 ++ c) (come.1 ++ q.0 ∷ q.1) at.number at.ticks (ok && at.ok) (world_in m f) (drivers_in f)
-          (goes_on q.0 q.1 q.2 q.3 (come.2 c ∙ ap (λ z. come.1 ++ z) q.2.lines) at (taken_as (Some at) some q.0 q.1 q.2.lines))
+      pub long_on : x ≡ step.Long → ByEvents m R xs (λ es. Converses R s.world budget [] rold r2 wold w2 BadInput es (world_in m f)) (drivers_in f)
+      long_on is =
+          let k : Steps m e f ps qs r1 r2 w1 w2 number ticks step.Long = as_step step.Long is in
+          let q : ReadsCommand r1 r2 next.TooLong k.text = k.read in
+          subst (λ g. ByEvents m R xs (λ es. Converses R s.world budget [] rold r2 wold w2 BadInput es (world_in m g)) (drivers_in g)) (sym k.same)
+          (ends_long r1 w1 come.0 come.1 number ticks ok (standing m e ps) (drivers_in e) went r2 w2 q.0 q.1 q.2 k.printed)
+
+      pub end_on : x ≡ step.End → ByEvents m R xs (λ es. Converses R s.world budget [] rold r2 wold w2 (cond ok AllOk SomeRefused) es (world_in m f)) (drivers_in f)
+      end_on is =
+          let k : Steps m e f ps qs r1 r2 w1 w2 number ticks step.End = as_step step.End is in
+          subst (λ g. ByEvents m R xs (λ es. Converses R s.world budget [] rold r2 wold w2 (cond ok AllOk SomeRefused) es (world_in m g)) (drivers_in g)) (sym k.1.0)
+          (subst (λ o. ByEvents m R xs (λ es. Converses R s.world budget [] rold r2 wold o (cond ok AllOk SomeRefused) es (world_in m e)) (drivers_in e)) (sym k.1.1)
+          (ends_all r2 w1 come.0 come.1 number ticks ok (standing m e ps) (drivers_in e) (gone_read r1 r2 w1 come.0 come.1 number ticks ok (standing m e ps) (drivers_in e) went k.0)))
 
     -- it was cut short
-    module _ (taken : TakesHalf m e f w1 w2 number ticks now) where
-      half_as : TakesHalf m e f w1 w2 number ticks c
-      half_as = subst (λ y. TakesHalf m e f w1 w2 number ticks y) same taken
-
-      half_at : (line : List ℕ) (section : List (List ℕ)) → IsCommand c line section → Consumes r1 r2 c → lines_of (come.0 ++ c) ≡ come.1 ++ line ∷ section
-          → TurnsHalf m e f w1 w2 number ticks line section
-          → ByEvents m R xs (λ es. IsCutShort R w budget [] rold r2 wold w2 es (world_in m f)) (drivers_in f)
-      half_at line section is consumed cut (inl p) =
-          cut_half r1 come.0 come.1 number ticks went.turns e went.come list c line section is r2 consumed cut f w1 w2 r2 went.printed p
-      half_at line section is consumed cut (inr (inl p)) =
-          cut_bad r1 come.0 come.1 number ticks went.turns e went.come list c line section is r2 consumed cut f w1 w2 r2 went.printed p
-      half_at line section is consumed cut (inr (inr p)) =
-          subst (λ g. ByEvents m R xs (λ es. IsCutShort R w budget [] rold r2 wold w2 es (world_in m g)) (drivers_in g)) (sym p.0)
-          (subst (λ o. ByEvents m R xs (λ es. IsCutShort R w budget [] rold r2 wold o es (world_in m e)) (drivers_in e)) (sym p.1)
-          (cut_here r1 w1 come.0 come.1 number ticks ok (world_in m e) (drivers_in e) went r2))
-
-      pub next_half : x ≡ next.Command → ByEvents m R xs (λ es. IsCutShort R w budget [] rold r2 wold w2 es (world_in m f)) (drivers_in f)
-      next_half is =
-          let q : ReadsCommand r1 r2 next.Command c = subst (λ y. ReadsCommand r1 r2 y c) is read in
-          half_at q.0 q.1 q.2 q.4 (lines_here (come.0 ++ c) (come.1 ++ q.0 ∷ q.1) (lines_both come.0 c come.1 (q.0 ∷ q.1) come.2 q.3)) (half_as q.0 q.1 q.2.lines)
-
-      pub last_half : x ≡ next.Last → ByEvents m R xs (λ es. IsCutShort R w budget [] rold r2 wold w2 es (world_in m f)) (drivers_in f)
-      last_half is =
-          let q : ReadsCommand r1 r2 next.Last c = subst (λ y. ReadsCommand r1 r2 y c) is read in
-          half_at q.0 q.1 q.2 q.3 (come.2 c ∙ ap (λ z. come.1 ++ z) q.2.lines) (half_as q.0 q.1 q.2.lines)
+    pub half_on : StepsHalf m e f ps qs r1 r2 w1 w2 number ticks → ByEvents m R xs (λ es. IsCutShort R s.world budget [] rold r2 wold w2 es (world_in m f)) (drivers_in f)
+    half_on (inl k) =
+        let q : ReadsCommand r1 r2 next.Command k.text = k.read in
+        half_at k.text q.0 q.1 q.2 q.4 (whole_cut k.text q) (k.takes q.0 q.1 q.2.lines)
+    half_on (inr (inl k)) =
+        let q : ReadsCommand r1 r2 next.Last k.text = k.read in
+        half_at k.text q.0 q.1 q.2 q.3 (last_cut k.text q) (k.takes q.0 q.1 q.2.lines)
+    half_on (inr (inr (inl k))) =
+        subst (λ g. ByEvents m R xs (λ es. IsCutShort R s.world budget [] rold r2 wold w2 es (world_in m g)) (drivers_in g)) (sym k.same)
+        (cut_long r1 w1 come.0 come.1 number ticks ok (standing m e ps) (drivers_in e) went r2 w2 k.front)
+    half_on (inr (inr (inr p))) = stayed r2 p.0 p.1
 
 -- ---- the start is told
 
@@ -709,8 +761,9 @@ module _ (R : RegistrationList) (w : World) (budget : ℕ) (r1 r2 w0 w1 w2 : Opt
 pub unstarted : {V : Type 0} {P : V → Type 0} (m : Meanings P) (R : RegistrationList) (w : World) (xs : List (DynBox V Global P)) (budget : ℕ) (r1 r2 w0 w1 : Option (List ℕ))
     → HasFront w0 w1 done_line → ByEvents m R xs (λ es. IsCutShort R w budget done_line r1 r2 w0 w1 es w) xs
 unstarted m R w xs budget r1 r2 w0 w1 p =
-    let first = come_first m R w xs budget r1 w0 in
-    let good = going_on m R w xs budget r1 w0 r1 [] [] 1 budget [] w xs first in
+    let s : Standing = record { world = w; last = 0; builds = λ i. None; functions = [] } in
+    let first = come_first m R s xs budget r1 w0 refl in
+    let good = going_on m R s xs budget r1 w0 r1 [] [] 1 budget [] s xs first in
     let same : done_line ≡ done_line ++ ([] ++ []) = sym (append-nil done_line) in (
       [],
       record {
@@ -718,7 +771,7 @@ unstarted m R w xs budget r1 r2 w0 w1 p =
         turns = [];
         last = [];
         read = (r1, consumes_nothing r1);
-        held = held m R w xs budget r1 w0 r1 [] [] 1 budget [] w xs first;
+        held = held m R s xs budget r1 w0 r1 [] [] 1 budget [] s xs first;
         can_end = inl (ap bad_line_text (sym good));
         printed = record {
           count = p.count;

@@ -4,5 +4,7 @@ pub mod Turning
 pub mod OwnLines
 pub mod Posting
 pub mod Coming
+pub mod Stepping
 pub mod AsSession
+pub mod Numbers
 pub mod Talking

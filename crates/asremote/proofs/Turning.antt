@@ -6,6 +6,7 @@ use Rattle.std.proofs.Math.Seq.{take-append_seam, take-append-add, take-length}
 use Rattle.ang_remote.proofs.Streams.{appends_kept}
 use Rattle.ang_host.specs.Meanings.{Meanings}
 use Rattle.ang_engine.specs.declared.engine.Engine.{Engine}
+use Rattle.ang_engine.specs.declared.prepared.Prepared.{Prepared}
 use Rattle.ang_engine.specs.Engines.{registrations, world_in, drivers_in}
 use Rattle.std.specs.Option.{option_and_then}
 use Rattle.asrun_lines.specs.Lines.{lines_of, shown_of, is_skipped}
@@ -65,26 +66,26 @@ done_front old mid new t p q = record {
       (appends_both old mid new (answer_text t) (take q.count done_line) p q.printed);
 }
 
-module _ {V : Type 0} {P : V → Type 0} (m : Meanings P) (e f : Engine V P) (old new : Option (List ℕ)) (number ticks : ℕ) (text : List ℕ) where
-  pub turn_here : (t : Turn) (l : List ℕ) (ls : List (List ℕ)) → lines_of text ≡ l ∷ ls → Turns m e f old new number ticks l ls t → TakesTurn m e f old new number ticks text t
-  turn_here t l ls here h = line_here (λ line section. Turns m e f old new number ticks line section t) text l ls here h
+module _ {V : Type 0} {P : V → Type 0} (m : Meanings P) (e f : Engine V P) (ps qs : List Prepared) (old new : Option (List ℕ)) (number ticks : ℕ) (text : List ℕ) where
+  pub turn_here : (t : Turn) (l : List ℕ) (ls : List (List ℕ)) → lines_of text ≡ l ∷ ls → Turns m e f ps qs old new number ticks l ls t → TakesTurn m e f ps qs old new number ticks text t
+  turn_here t l ls here h = line_here (λ line section. Turns m e f ps qs old new number ticks line section t) text l ls here h
 
-  pub half_here : (l : List ℕ) (ls : List (List ℕ)) → lines_of text ≡ l ∷ ls → TurnsHalf m e f old new number ticks l ls → TakesHalf m e f old new number ticks text
-  half_here l ls here h = line_here (λ line section. TurnsHalf m e f old new number ticks line section) text l ls here h
+  pub half_here : (l : List ℕ) (ls : List (List ℕ)) → lines_of text ≡ l ∷ ls → TurnsHalf m e f ps qs old new number ticks l ls → TakesHalf m e f ps qs old new number ticks text
+  half_here l ls here h = line_here (λ line section. TurnsHalf m e f ps qs old new number ticks line section) text l ls here h
 
-  pub turn_nowhere : (t : Turn) → lines_of text ≡ [] → TakesTurn m e f old new number ticks text t
+  pub turn_nowhere : (t : Turn) → lines_of text ≡ [] → TakesTurn m e f ps qs old new number ticks text t
   turn_nowhere t here line section there = let none : [] ≡ line ∷ section = sym here ∙ there in absurd (let x : ⊥ = cc in x)
 
   -- a command was done, and its reply printed
   pub performed : (l : List ℕ) (ls : List (List ℕ)) (a : Act) (ok : Bool) (next : ℕ) → IsSaid ticks l ls (Does a.action) a.lines → next ≡ ticks_after ticks (Does a.action)
-      → Prints m e f a.action old new ok → Answers m e f old new ticks l ls ok next a.lines
+      → Prints m e f a.action old new ok → Answers m e f ps ps old new ticks l ls ok next a.lines
   performed l ls a ok next said budget p = record {
     did = Did p.done.deed;
     taken = record {
       said = subst (λ x. IsSaid ticks l ls (Does x) a.lines) (sym p.done.action) said;
       budget = budget ∙ ap (λ x. ticks_after ticks (Does x)) (sym p.done.action);
       budgeted = tt;
-      comes = record { does = p.done.does; follow = p.done.follow; within = p.within };
+      comes = record { comes = record { does = p.done.does; builds = p.builds; follow = p.done.follow; within = p.within }; functions = refl };
     };
     is_ok = p.done.ended;
     printed = p.done.printed;
@@ -92,7 +93,7 @@ module _ {V : Type 0} {P : V → Type 0} (m : Meanings P) (e f : Engine V P) (ol
 
   -- or printed in part
   pub half_performed : (l : List ℕ) (ls : List (List ℕ)) (a : Act) → IsSaid ticks l ls (Does a.action) a.lines
-      → HalfPrints m e f a.action old new → GoesHalf m e f old new ticks l ls
+      → HalfPrints m e f a.action old new → GoesHalf m e f ps ps old new ticks l ls
   half_performed l ls a said p = record {
     did = Did p.done.deed;
     next = ticks_after ticks (Does a.action);
@@ -101,14 +102,14 @@ module _ {V : Type 0} {P : V → Type 0} (m : Meanings P) (e f : Engine V P) (ol
       said = subst (λ x. IsSaid ticks l ls (Does x) a.lines) (sym p.done.action) said;
       budget = ap (λ x. ticks_after ticks (Does x)) (sym p.done.action);
       budgeted = tt;
-      comes = record { does = p.done.does; follow = p.done.follow; within = p.within };
+      comes = record { comes = record { does = p.done.does; builds = p.builds; follow = p.done.follow; within = p.within }; functions = refl };
     };
     front = front_of_turn old new (Did p.done.deed) p.done.front;
   }
 
   -- a line that no session has was done, and answered
   pub obeyed : (l : List ℕ) (ls : List (List ℕ)) (o : OwnLine) (ok : Bool) → is_skipped (shown_of l) ≡ false → own_line_of (shown_of l) ≡ Some o
-      → Obeys m e f old new ticks o ok → Answers m e f old new ticks l ls ok ticks 0
+      → Obeys m e f ps qs old new ticks o ok → Answers m e f ps qs old new ticks l ls ok ticks 0
   obeyed l ls o ok told own p = record {
     did = p.did;
     taken = record {
@@ -123,7 +124,7 @@ module _ {V : Type 0} {P : V → Type 0} (m : Meanings P) (e f : Engine V P) (ol
 
   -- or answered in part
   pub half_obeyed : (l : List ℕ) (ls : List (List ℕ)) (o : OwnLine) → is_skipped (shown_of l) ≡ false → own_line_of (shown_of l) ≡ Some o
-      → ObeysHalf m e f old new ticks o → GoesHalf m e f old new ticks l ls
+      → ObeysHalf m e f ps qs old new ticks o → GoesHalf m e f ps qs old new ticks l ls
   half_obeyed l ls o told own p = record {
     did = p.did;
     next = ticks;
@@ -139,7 +140,7 @@ module _ {V : Type 0} {P : V → Type 0} (m : Meanings P) (e f : Engine V P) (ol
 
 -- ---- a line of another form
 
-module _ {V : Type 0} {P : V → Type 0} (m : Meanings P) (e : Engine V P) (old new : Option (List ℕ)) (number ticks : ℕ) (l shown : List ℕ) (ls : List (List ℕ))
+module _ {V : Type 0} {P : V → Type 0} (m : Meanings P) (e : Engine V P) (ps : List Prepared) (old new : Option (List ℕ)) (number ticks : ℕ) (l shown : List ℕ) (ls : List (List ℕ))
     (is : shown ≡ shown_of l) (told : is_skipped shown ≡ false) (own : own_line_of shown ≡ None) (said : option_and_then (act_of ticks ls) (session_line_of shown) ≡ None) where
   told_of : is_skipped (shown_of l) ≡ false
   told_of = ap is_skipped (sym is) ∙ told
@@ -150,10 +151,10 @@ module _ {V : Type 0} {P : V → Type 0} (m : Meanings P) (e : Engine V P) (old 
   said_of : said_by ticks l ls ≡ None
   said_of = ap (λ s. option_and_then (act_of ticks ls) (session_line_of s)) (sym is) ∙ said
 
-  pub refused : (t : Turn) → Refuses (is_header shown) old new number ticks t → Turns m e e old new number ticks l ls t
+  pub refused : (t : Turn) → Refuses (is_header shown) old new number ticks t → Turns m e e ps ps old new number ticks l ls t
   refused (turn.Done ok next lines) h = record {
     did = Unread;
-    taken = record { said = (told_of, own_of, said_of, ap is_header (sym is) ∙ h.0, h.3); budget = h.2; budgeted = tt; comes = refl };
+    taken = record { said = (told_of, own_of, said_of, ap is_header (sym is) ∙ h.0, h.3); budget = h.2; budgeted = tt; comes = record { comes = refl; functions = refl } };
     is_ok = h.1;
     printed = h.4;
   }
@@ -163,12 +164,12 @@ module _ {V : Type 0} {P : V → Type 0} (m : Meanings P) (e : Engine V P) (old 
     printed = h.1;
   }
 
-  pub half_refused : RefusesHalf (is_header shown) old new number → TurnsHalf m e e old new number ticks l ls
+  pub half_refused : RefusesHalf (is_header shown) old new number → TurnsHalf m e e ps ps old new number ticks l ls
   half_refused (inl h) = inl (record {
     did = Unread;
     next = ticks;
     lines = 0;
-    taken = record { said = (told_of, own_of, said_of, ap is_header (sym is) ∙ h.0, refl); budget = refl; budgeted = tt; comes = refl };
+    taken = record { said = (told_of, own_of, said_of, ap is_header (sym is) ∙ h.0, refl); budget = refl; budgeted = tt; comes = record { comes = refl; functions = refl } };
     front = front_of_turn old new Unread h.1;
   })
   half_refused (inr h) = inr (inl (record {
@@ -179,27 +180,27 @@ module _ {V : Type 0} {P : V → Type 0} (m : Meanings P) (e : Engine V P) (old 
 
 -- ---- `done` after an answer
 
-module _ {V : Type 0} {P : V → Type 0} (m : Meanings P) (e f : Engine V P) (old mid : Option (List ℕ)) (number ticks : ℕ) (text : List ℕ) (ok : Bool) (next lines : ℕ)
-    (h : TakesTurn m e f old mid number ticks text (turn.Done ok next lines)) where
+module _ {V : Type 0} {P : V → Type 0} (m : Meanings P) (e f : Engine V P) (ps qs : List Prepared) (old mid : Option (List ℕ)) (number ticks : ℕ) (text : List ℕ) (ok : Bool) (next lines : ℕ)
+    (h : TakesTurn m e f ps qs old mid number ticks text (turn.Done ok next lines)) where
   pub told : (new : Option (List ℕ)) (at : At) → at.ok ≡ ok → at.ticks ≡ next → at.number ≡ number + (1 + lines) → Appends mid new done_line
-      → TakesOne m e f old new number ticks text (Some at)
+      → TakesOne m e f ps qs old new number ticks text (Some at)
   told new at is_ok is_next place p line section here =
       let t = h line section here in
       record {
         did = t.did;
         lines = lines;
-        taken = subst (λ n. IsTaken m e f ticks line section t.did n lines) (sym is_next) t.taken;
+        taken = subst (λ n. IsTaken m e f ps qs ticks line section t.did n lines) (sym is_next) t.taken;
         is_ok = is_ok ∙ t.is_ok;
         place = place;
         printed = appends_both old mid new (answer_text t.did) done_line t.printed p;
       }
 
-  pub half_told : (new : Option (List ℕ)) → HasFront mid new done_line → TakesHalf m e f old new number ticks text
+  pub half_told : (new : Option (List ℕ)) → HasFront mid new done_line → TakesHalf m e f ps qs old new number ticks text
   half_told new p line section here =
       let t = h line section here in
       inl (record { did = t.did; next = next; lines = lines; taken = t.taken; front = done_front old mid new t.did t.printed p })
 
-  pub all_told : (new : Option (List ℕ)) → Appends mid new done_line → TakesHalf m e f old new number ticks text
+  pub all_told : (new : Option (List ℕ)) → Appends mid new done_line → TakesHalf m e f ps qs old new number ticks text
   all_told new p line section here =
       let t = h line section here in
       inl (record {

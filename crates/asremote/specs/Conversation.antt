@@ -1,13 +1,15 @@
 -- A whole conversation: what is done with its lines, and all that is printed.
-use Rattle.std.specs.Prelude.{ℕ, ◌+◌, ◌-◌, ◌≡◌, ◌<◌, ◌≤◌, ◌⊎◌, List, [], ◌∷◌, ◌++◌, length, take, map, Option, Some, None, Result, Ok, Err}
+use Rattle.std.specs.Prelude.{ℕ, Bool, if◌then◌else◌, ◌+◌, ◌-◌, ◌≡◌, ◌<◌, ◌≤◌, ◌⊎◌, List, [], ◌∷◌, ◌++◌, length, take, map, slice_get, Option, Some, None, false, Result, Ok, Err}
 use Rattle.std.specs.Io.KnownBytes.{Appends, Consumes}
 use Rattle.std.specs.declared.alloc.Global.{Global}
 use Rattle.std.specs.declared.dyn_box.DynBox.{DynBox}
 use Rattle.ang_host.specs.Meanings.{Meanings}
 use Rattle.ang_host.specs.declared.event.HostEvent.{HostEvent}
 use Rattle.ang_view.specs.Registration.{RegistrationList}
+use Rattle.ang_engine.specs.declared.engine.Engine.{Engine}
 use Rattle.ang_engine.specs.Checking.{checking}
-use Rattle.ang_engine.specs.Prepared.{looked_up}
+use Rattle.ang_engine.specs.declared.prepared.Prepared.{Prepared}
+use Rattle.ang_engine.specs.Prepared.{build_in, is_there}
 use Rattle.ang_engine.specs.Step.{Leads}
 use Rattle.ang_engine_modules.specs.World.{World, no_modules}
 use Rattle.asrun_lines.specs.Lines.{lines_of}
@@ -18,9 +20,15 @@ use Rattle.asrun_session.specs.Writing.{HasFront}
 use Rattle.asrun_session.specs.declared.ending.IoFault.{IoFault}
 use Rattle.asrun_session.specs.declared.ending.Status.{Status}
 use Rattle.asrun_session.specs.declared.ending.Status.TheVariants.{AllOk, SomeRefused, BadInput, Memory}
-use Rattle.asremote.specs.Commands.{most_command}
+use Rattle.asremote.specs.Commands.{most_command, ReadsCommand}
+use Rattle.asremote.specs.declared.commands.Next.{Next}
+use Rattle.asremote.specs.declared.commands.Next.TheVariants as next
+use Rattle.asremote.specs.declared.conversation.Step.{Step}
+use Rattle.asremote.specs.declared.conversation.Step.TheVariants as step
+use Rattle.asremote.specs.declared.turns.At.{At}
 use Rattle.asremote.specs.Talk.{Talk, talk_from, Turned, Passed, Did, Limited, Told, Traced, Checked, Listed, LookedUp, Called, Missed, Unread, says_of, events_in, turns_text, done_line, status_of}
-use Rattle.asremote.specs.Turns.{IsFound, TakesPrepared}
+use Rattle.asremote.specs.Standing.{Standing, KeepsFunctions, TurnBuilds}
+use Rattle.asremote.specs.Turns.{TakesPrepared, TakesOne, TakesHalf, Stays}
 
 -- all turns but the last one
 abbrev pub but_last : List Turned → List Turned
@@ -30,33 +38,108 @@ but_last ts = take (length ts - 1) ts
 abbrev pub IsFrontOf : Option (List ℕ) → List ℕ → Type 0
 IsFrontOf unread text = (left : Option (List ℕ)) × Consumes unread left text
 
+-- the step of a command whose turn came to this
+abbrev pub stepped : Option At → Bool → Step
+stepped None is_last = step.Bad
+stepped (Some at) is_last = if is_last then step.Last at else step.Next at
+
+-- What stands in the place of the next command, whose line has this number, and what it came to: from the
+-- engine e to the engine f, with the functions that were looked up so far, the bytes that the reader had left
+-- and those of the writer, before and after.
+module _ {V : Type 0} {P : V → Type 0} (m : Meanings P) (e f : Engine V P)
+    (before after : List Prepared) (unread unread_after written written_after : Option (List ℕ))
+    (number ticks : ℕ) where
+  -- a command was read so, and a turn taken with it
+  pub record TookTurn (x : Next) (o : Option At) : Type 0 where
+    pub text : List ℕ
+    pub read : ReadsCommand unread unread_after x text
+    pub takes : TakesOne m e f before after written written_after number ticks text o
+
+  -- it was too long
+  pub record TookLong : Type 0 where
+    pub text : List ℕ
+    pub read : ReadsCommand unread unread_after next.TooLong text
+    pub same : f ≡ e
+    pub printed : Appends written written_after long_session_text
+
+  abbrev pub Steps : Step → Type 0
+  Steps (step.Next at) = TookTurn next.Command (Some at)
+  Steps (step.Last at) = TookTurn next.Last (Some at)
+  Steps step.Bad = TookTurn next.Command None ⊎ TookTurn next.Last None
+  Steps step.Long = TookLong
+  Steps step.End = Consumes unread unread_after [] × Stays m e f written written_after
+
+  -- a command was read so, and its turn was cut short
+  pub record TookHalf (x : Next) : Type 0 where
+    pub text : List ℕ
+    pub read : ReadsCommand unread unread_after x text
+    pub takes : TakesHalf m e f before after written written_after number ticks text
+
+  -- that it was too long is printed in part
+  pub record TookHalfLong : Type 0 where
+    pub same : f ≡ e
+    pub front : HasFront written written_after long_session_text
+
+  -- it was cut short
+  abbrev pub StepsHalf : Type 0
+  StepsHalf =
+      TookHalf next.Command
+      ⊎ (TookHalf next.Last ⊎ (TookHalfLong ⊎ Stays m e f written written_after))
+
 -- What a turn does to the modules: a command and a call of what was looked up as the engine says, a check
--- takes sections with errors away, and no other turn does anything. What a look-up answers is of the modules.
-abbrev pub TurnLeads : RegistrationList → World → Turned → World → Type 0
-TurnLeads R w Passed after = w ≡ after
-TurnLeads R w (Did d) after = DoesDeed R w d after
-TurnLeads R w (Limited limit) after = w ≡ after
-TurnLeads R w (Told ticks held) after = w ≡ after
-TurnLeads R w (Traced frames) after = w ≡ after
-TurnLeads R w (Checked name r) after = Leads (checking R name w) r after
-TurnLeads R w (Listed name lines o) after = w ≡ after
-TurnLeads R w (LookedUp name decl found) after = (w ≡ after) × IsFound (looked_up name decl w) found
-TurnLeads R w (Called number args p ticks r) after = TakesPrepared R w p args ticks r after
-TurnLeads R w (Missed number args) after = w ≡ after
-TurnLeads R w Unread after = w ≡ after
+-- takes sections with errors away, and no other turn does anything.
+abbrev pub ModulesLead : RegistrationList → Standing → Turned → World → Type 0
+ModulesLead R s Passed after = s.world ≡ after
+ModulesLead R s (Did d) after = DoesDeed R s.world d after
+ModulesLead R s (Limited limit) after = s.world ≡ after
+ModulesLead R s (Told ticks held) after = s.world ≡ after
+ModulesLead R s (Traced frames) after = s.world ≡ after
+ModulesLead R s (Checked name r) after = Leads (checking R name s.world) r after
+ModulesLead R s (Listed name lines o) after = s.world ≡ after
+ModulesLead R s (LookedUp name decl found) after = s.world ≡ after
+ModulesLead R s (Called number args p ticks r) after =
+    TakesPrepared R s.world s.builds p args ticks r after
+ModulesLead R s (Missed number args) after = s.world ≡ after
+ModulesLead R s Unread after = s.world ≡ after
+
+-- What a turn does to all that stands. So `run N` calls what the look-up found that was answered N, and is
+-- refused once the module was built again or discarded (`TakesPrepared`).
+pub record TurnLeads (R : RegistrationList) (s : Standing) (t : Turned) (after : Standing) : Type 0 where
+  pub modules : ModulesLead R s t after.world
+  pub builds : TurnBuilds s t after
+  pub functions : KeepsFunctions s t after.functions
 
 -- one after the other
-abbrev pub TurnsLead : RegistrationList → World → List Turned → World → Type 0
-TurnsLead R w [] after = w ≡ after
-TurnsLead R w (t ∷ ts) after = (v : World) × TurnLeads R w t v × TurnsLead R v ts after
+abbrev pub TurnsLead : RegistrationList → Standing → List Turned → Standing → Type 0
+TurnsLead R s [] after = s ≡ after
+TurnsLead R s (t ∷ ts) after = (v : Standing) × TurnLeads R s t v × TurnsLead R v ts after
 
--- Over the list R and the world w: these turns were taken with what was said, in their order; each
--- command among them ran, with its reply; these are the events of all replies, and the world that they
--- left.
+-- A function that was looked up keeps its number to the end.
+abbrev pub NumbersStay : Type 0
+NumbersStay =
+    (R : RegistrationList) (s after : Standing) (turns : List Turned) → TurnsLead R s turns after
+    → (number : ℕ) (p : Prepared) → slice_get s.functions number ≡ Some p
+    → slice_get after.functions number ≡ Some p
+
+-- Once its module was built again or discarded, it never comes back: each call of it is refused.
+abbrev pub GoneStay : Type 0
+GoneStay =
+    (R : RegistrationList) (s after : Standing) (turns : List Turned) → TurnsLead R s turns after
+    → (p : Prepared) → build_in p ≤ s.last → is_there s.builds p ≡ false
+    → is_there after.builds p ≡ false
+
+-- Over the list R and the world w: these turns were taken with what was said, in their order, from where
+-- nothing was looked up; each command among them ran, with its reply; these are the events of all replies,
+-- and the world that they left.
 pub record IsHeld (R : RegistrationList) (w : World) (talk : Talk) (turns : List Turned)
     (es : List HostEvent) (after : World) : Type 0 where
   pub said : talk.turns ≡ map says_of turns
-  pub leads : TurnsLead R w turns after
+  pub start : Standing
+  pub begins : start.world ≡ w
+  pub none : start.functions ≡ []
+  pub last : Standing
+  pub leads : TurnsLead R start turns last
+  pub left : last.world ≡ after
   pub events : es ≡ events_in turns
 
 -- A conversation over the list R and the world w, with a budget. `first` is told before it begins. The

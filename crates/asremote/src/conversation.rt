@@ -8,14 +8,14 @@ ghost use Rattle.ang_engine.specs.Sound.{IsSound};
 ghost use Rattle.ang_engine_modules.specs.World.{no_modules};
 ghost use Rattle.asrun_session.specs.Drivers.{kinds_of, AreListed};
 ghost use Rattle.asrun_session.specs.Engines.{Comes};
-ghost use Rattle.asrun_session.specs.Whole.{start_of, long_session_text};
+ghost use Rattle.asrun_session.specs.Whole.{start_of, outcome_of, long_session_text};
 ghost use Rattle.asrun_session.specs.Writing.{HasFront};
-ghost use Rattle.asremote.specs.Conversation.{Converses, IsCutShort, TalksOver, StopsOver, Tells};
+ghost use Rattle.asremote.specs.Conversation.{stepped, Steps, StepsHalf, Converses, IsCutShort, TalksOver, StopsOver, Tells};
 ghost use Rattle.asremote.specs.Talk.{done_line};
 
 use crate::commands::{Next, read_command};
-use crate::turns::{one_turn, print_done};
-use ang_engine::{Engine, NewError, NewRefused};
+use crate::turns::{At, one_turn, print_done};
+use ang_engine::{Engine, NewError, NewRefused, Prepared};
 use ang_host::{Driver, Drivers};
 use asrun_session::{
     IoFault, LoadedProfile, ReplyBuffer, SessionEnd, SessionError, Status, limited_engine,
@@ -35,19 +35,129 @@ fn ended(all_ok: bool) -> Status
 }
 
 /// Says that a command is too long.
-fn print_too_long<W: Write>(writer: &mut W) -> Result<Status, SessionError>
+fn print_too_long<W: Write>(writer: &mut W) -> Result<(), SessionError>
     ensures whole { OnOk result
         (Appends (W.contents writer.old) (W.contents writer.new) long_session_text) }
-    ensures status { IfOk result (λ status. status ≡ Status.BadInput) }
     ensures front { OnErr result
         (HasFront (W.contents writer.old) (W.contents writer.new) long_session_text) }
 {
     write_text(writer, b"line 0 TooLong\n")?;
-    Ok(Status::BadInput)
+    Ok(())
 }
 
-/// Reads commands and does them, until the input ends or a line ends the conversation. The writer has the reply of each,
-/// and `done` after it.
+/// What stands in the place of the next command, and what it came to.
+#[derive(Clone, Copy)]
+pub enum Step {
+    /// A command was done; another may follow.
+    Next(At),
+    /// A command was done; the input ends.
+    Last(At),
+    /// The line of a command ended the conversation, which is printed.
+    Bad,
+    /// A command was too long, which is printed.
+    Long,
+    /// There is none: the input ends.
+    End,
+}
+
+/// The step of a command whose turn came to this.
+fn stepped(at: Option<At>, is_last: bool) -> Step
+    ensures exact { result ≡ stepped at is_last }
+{
+    let Some(at) = at else {
+        return Step::Bad;
+    };
+    if is_last {
+        return Step::Last(at);
+    }
+    Step::Next(at)
+}
+
+/// Reads a command into an empty text and does it. The writer has its reply, and `done` after it.
+///
+/// # Errors
+/// A read fault, a write fault, and want of memory.
+fn turn_over<S: Read, W: Write>(
+    alloc: Global,
+    input: &mut S,
+    writer: &mut W,
+    buffer: &mut ReplyBuffer,
+    engine: &mut Engine,
+    prepared: &mut Vec<Prepared>,
+    text: &mut Vec<u8>,
+    number: u64,
+    ticks: u64,
+) -> Result<Step, SessionError>
+    requires sound { IsSound ⟦<dyn Driver as Driver>⟧ engine.old }
+    requires empty { text.old.items ≡ [] }
+    ensures sound { IsSound ⟦<dyn Driver as Driver>⟧ engine.new }
+    ensures registrations { registrations engine.new ≡ registrations engine.old }
+    ensures order { kinds_of (drivers_in engine.new) ≡ kinds_of (drivers_in engine.old) }
+    ensures done { IfOk result (Steps ⟦<dyn Driver as Driver>⟧ engine.old engine.new
+        prepared.old.items prepared.new.items (S.remaining input.old) (S.remaining input.new)
+        (W.contents writer.old) (W.contents writer.new) number ticks) }
+    ensures cut { OnErr result (StepsHalf ⟦<dyn Driver as Driver>⟧ engine.old engine.new
+        prepared.old.items prepared.new.items (S.remaining input.old) (S.remaining input.new)
+        (W.contents writer.old) (W.contents writer.new) number ticks) }
+{
+    match read_command(alloc, input, text)? {
+        Next::Command => {
+            let lines = text.as_slice();
+            let at = one_turn(
+                alloc, engine, writer, buffer, prepared, lines, number, ticks,
+            )?;
+            Ok(stepped(at, false))
+        }
+        Next::Last => {
+            let lines = text.as_slice();
+            let at = one_turn(
+                alloc, engine, writer, buffer, prepared, lines, number, ticks,
+            )?;
+            Ok(stepped(at, true))
+        }
+        Next::TooLong => {
+            print_too_long(writer)?;
+            Ok(Step::Long)
+        }
+        Next::End => Ok(Step::End),
+    }
+}
+
+/// The same with a text of its own.
+///
+/// # Errors
+/// A read fault, a write fault, and want of memory.
+fn next_turn<S: Read, W: Write>(
+    alloc: Global,
+    input: &mut S,
+    writer: &mut W,
+    buffer: &mut ReplyBuffer,
+    engine: &mut Engine,
+    prepared: &mut Vec<Prepared>,
+    number: u64,
+    ticks: u64,
+) -> Result<Step, SessionError>
+    requires sound { IsSound ⟦<dyn Driver as Driver>⟧ engine.old }
+    ensures sound { IsSound ⟦<dyn Driver as Driver>⟧ engine.new }
+    ensures registrations { registrations engine.new ≡ registrations engine.old }
+    ensures order { kinds_of (drivers_in engine.new) ≡ kinds_of (drivers_in engine.old) }
+    ensures done { IfOk result (Steps ⟦<dyn Driver as Driver>⟧ engine.old engine.new
+        prepared.old.items prepared.new.items (S.remaining input.old) (S.remaining input.new)
+        (W.contents writer.old) (W.contents writer.new) number ticks) }
+    ensures cut { OnErr result (StepsHalf ⟦<dyn Driver as Driver>⟧ engine.old engine.new
+        prepared.old.items prepared.new.items (S.remaining input.old) (S.remaining input.new)
+        (W.contents writer.old) (W.contents writer.new) number ticks) }
+{
+    let mut text = Vec::new(alloc);
+    let step = turn_over(
+        alloc, input, writer, buffer, engine, prepared, &mut text, number, ticks,
+    );
+    drop(text);
+    step
+}
+
+/// Reads commands and does them, until the input ends or a line ends the conversation. The writer has the reply of
+/// each, and `done` after it.
 ///
 /// # Errors
 /// A read fault, also after 4,294,967,295 commands; a write fault; and want of memory.
@@ -57,9 +167,11 @@ fn turns_on<S: Read, W: Write>(
     writer: &mut W,
     buffer: &mut ReplyBuffer,
     engine: &mut Engine,
+    prepared: &mut Vec<Prepared>,
     budget: u64,
 ) -> Result<Status, SessionError>
     requires sound { IsSound ⟦<dyn Driver as Driver>⟧ engine.old }
+    requires none { prepared.old.items ≡ [] }
     ensures sound { IsSound ⟦<dyn Driver as Driver>⟧ engine.new }
     ensures registrations { registrations engine.new ≡ registrations engine.old }
     ensures order { kinds_of (drivers_in engine.new) ≡ kinds_of (drivers_in engine.old) }
@@ -75,46 +187,19 @@ fn turns_on<S: Read, W: Write>(
     let mut number = 1;
     let mut ticks = budget;
     let mut all_ok = true;
-    let mut prepared = Vec::new(alloc);
     for _ in 0..u32::MAX {
-        let mut text = Vec::new(alloc);
-        match read_command(alloc, input, &mut text)? {
-            Next::Command => {
-                match one_turn(
-                    alloc,
-                    engine,
-                    writer,
-                    buffer,
-                    &mut prepared,
-                    &text,
-                    number,
-                    ticks,
-                )? {
-                    Some(at) => {
-                        all_ok &= at.ok;
-                        ticks = at.ticks;
-                        number = at.number;
-                    }
-                    None => return Ok(Status::BadInput),
-                }
+        match next_turn(
+            alloc, input, writer, buffer, engine, prepared, number, ticks,
+        )? {
+            Step::Next(at) => {
+                all_ok &= at.ok;
+                ticks = at.ticks;
+                number = at.number;
             }
-            Next::Last => {
-                return match one_turn(
-                    alloc,
-                    engine,
-                    writer,
-                    buffer,
-                    &mut prepared,
-                    &text,
-                    number,
-                    ticks,
-                )? {
-                    Some(at) => Ok(ended(all_ok & at.ok)),
-                    None => Ok(Status::BadInput),
-                };
-            }
-            Next::TooLong => return print_too_long(writer),
-            Next::End => return Ok(ended(all_ok)),
+            Step::Last(at) => return Ok(ended(all_ok & at.ok)),
+            Step::Bad => return Ok(Status::BadInput),
+            Step::Long => return Ok(Status::BadInput),
+            Step::End => return Ok(ended(all_ok)),
         }
     }
     Err(SessionError::Fault(IoFault::Read))
@@ -146,7 +231,10 @@ fn run_turns<S: Read, W: Write>(
         (W.contents writer.old) (W.contents writer.new))) }
 {
     print_done(writer)?;
-    turns_on(alloc, input, writer, buffer, engine, budget)
+    let mut prepared = Vec::new(alloc);
+    let ended = turns_on(alloc, input, writer, buffer, engine, &mut prepared, budget);
+    drop(prepared);
+    ended
 }
 
 /// Makes the engine, under the profile's limits, holds the conversation and discards the engine.
@@ -216,6 +304,35 @@ fn run_drivers<S: Read, W: Write>(
     }
 }
 
+/// Holds a conversation as `converse` does, with a buffer for what is printed.
+fn converse_with<P: Read, S: Read, W: Write>(
+    alloc: Global,
+    profile: &mut P,
+    input: &mut S,
+    out: &mut W,
+    buffer: &mut ReplyBuffer,
+    drivers: Vec<Box<dyn Driver>>,
+    budget: u64,
+) -> (Result<Status, SessionError>, Vec<Box<dyn Driver>>)
+    requires few { length drivers.items < 2 ^ 60 }
+    ensures told { IfSome (P.remaining profile.old) (λ text. Tells ⟦<dyn Driver as Driver>⟧
+        drivers.items result.1.items budget (S.remaining input.old) (S.remaining input.new)
+        (W.contents out.old) (W.contents out.new) (start_of text) (outcome_of result.0)) }
+{
+    let mut loaded = LoadedProfile::new(alloc);
+    match load_profile(alloc, profile, out, buffer, &mut loaded) {
+        Ok(true) => run_drivers(alloc, input, out, buffer, loaded, drivers, budget),
+        Ok(false) => {
+            drop(loaded);
+            (Ok(Status::BadInput), drivers)
+        }
+        Err(stop) => {
+            drop(loaded);
+            (Err(stop), drivers)
+        }
+    }
+}
+
 /// Holds a conversation over a profile with these drivers: reads a command, does it, writes its reply to `out` and then
 /// `done`, and so on. What the drivers are asked for a command, they are asked before its reply is begun.
 ///
@@ -240,25 +357,8 @@ pub fn converse<P: Read, S: Read, W: Write>(
             drivers,
         };
     };
-    let mut loaded = LoadedProfile::new(alloc);
-    match load_profile(alloc, profile, out, &mut buffer, &mut loaded) {
-        Ok(true) => {}
-        Ok(false) => {
-            drop(loaded);
-            return SessionEnd {
-                outcome: Ok(Status::BadInput),
-                drivers,
-            };
-        }
-        Err(stop) => {
-            drop(loaded);
-            return SessionEnd {
-                outcome: outcome_of(Err(stop)),
-                drivers,
-            };
-        }
-    }
-    let (ended, drivers) = run_drivers(alloc, input, out, &mut buffer, loaded, drivers, budget);
+    let (ended, drivers) = converse_with(alloc, profile, input, out, &mut buffer, drivers, budget);
+    drop(buffer);
     SessionEnd {
         outcome: outcome_of(ended),
         drivers,

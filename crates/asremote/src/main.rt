@@ -35,8 +35,8 @@ use std::{env, io};
 /// The program's name, which stands in front of what it says on standard error.
 const NAME: &str = "asremote";
 
-/// The text of the profile, or how the program ends without it, which it says: on standard output that the profile is too
-/// long, and on standard error all else.
+/// The text of the profile, or how the program ends without it, which it says: on standard output that the profile is
+/// too long, and on standard error all else.
 fn read_or_say(rt: &HostRuntime, path: &str) -> Result<Vec<u8>, ProgramExit> {
     let Ok(mut file) = File::open(rt, path) else {
         let _ = eprintln!(rt; "asremote: cannot open {path}");

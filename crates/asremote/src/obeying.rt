@@ -1,7 +1,8 @@
 //! Doing the lines of a conversation that no session has.
-ghost use Rattle.std.specs.Prelude.{◌≡◌, ℕ, IfOk, OnOk, OnErr};
+ghost use Rattle.std.specs.Prelude.{◌≡◌, ℕ, List, IfOk, OnOk, OnErr};
 ghost use Rattle.ang_engine.specs.Engines.{registrations, drivers_in};
 ghost use Rattle.ang_engine.specs.Sound.{IsSound};
+ghost use Rattle.ang_engine.specs.declared.prepared.Prepared.{Prepared};
 ghost use Rattle.asrun_session.specs.Drivers.{kinds_of};
 ghost use Rattle.asremote.specs.declared.own_lines.OwnLine.TheVariants.{Limit, Used, Trace, Check, Declarations};
 ghost use Rattle.asremote.specs.Turns.{Obeys, ObeysHalf};
@@ -31,10 +32,12 @@ fn set_limit<W: Write>(
     ensures sound { IsSound ⟦<dyn Driver as Driver>⟧ engine.new }
     ensures registrations { registrations engine.new ≡ registrations engine.old }
     ensures order { kinds_of (drivers_in engine.new) ≡ kinds_of (drivers_in engine.old) }
-    ensures obeyed { (ticks : ℕ) → IfOk result (λ ok. Obeys ⟦<dyn Driver as Driver>⟧ engine.old
-        engine.new (W.contents writer.old) (W.contents writer.new) ticks (Limit limit) ok) }
-    ensures cut { (ticks : ℕ) → OnErr result (ObeysHalf ⟦<dyn Driver as Driver>⟧ engine.old
-        engine.new (W.contents writer.old) (W.contents writer.new) ticks (Limit limit)) }
+    ensures obeyed { (ps : List Prepared) (ticks : ℕ) → IfOk result
+        (λ ok. Obeys ⟦<dyn Driver as Driver>⟧ engine.old engine.new ps ps (W.contents writer.old)
+        (W.contents writer.new) ticks (Limit limit) ok) }
+    ensures cut { (ps : List Prepared) (ticks : ℕ) → OnErr result
+        (ObeysHalf ⟦<dyn Driver as Driver>⟧ engine.old engine.new ps ps (W.contents writer.old)
+        (W.contents writer.new) ticks (Limit limit)) }
 {
     let limits = with_limit(engine.limits(), limit);
     engine.set_limits(limits);
@@ -52,10 +55,12 @@ fn tell_used<W: Write>(
     buffer: &mut ReplyBuffer,
 ) -> Result<bool, SessionError>
     requires sound { IsSound ⟦<dyn Driver as Driver>⟧ engine.now }
-    ensures obeyed { (ticks : ℕ) → IfOk result (λ ok. Obeys ⟦<dyn Driver as Driver>⟧ engine.now
-        engine.now (W.contents writer.old) (W.contents writer.new) ticks Used ok) }
-    ensures cut { (ticks : ℕ) → OnErr result (ObeysHalf ⟦<dyn Driver as Driver>⟧ engine.now
-        engine.now (W.contents writer.old) (W.contents writer.new) ticks Used) }
+    ensures obeyed { (ps : List Prepared) (ticks : ℕ) → IfOk result
+        (λ ok. Obeys ⟦<dyn Driver as Driver>⟧ engine.now engine.now ps ps (W.contents writer.old)
+        (W.contents writer.new) ticks Used ok) }
+    ensures cut { (ps : List Prepared) (ticks : ℕ) → OnErr result
+        (ObeysHalf ⟦<dyn Driver as Driver>⟧ engine.now engine.now ps ps (W.contents writer.old)
+        (W.contents writer.new) ticks Used) }
 {
     print_used(writer, buffer, engine.ticks_used(), engine.held())?;
     Ok(true)
@@ -71,10 +76,12 @@ fn tell_trace<W: Write>(
     buffer: &mut ReplyBuffer,
 ) -> Result<bool, SessionError>
     requires sound { IsSound ⟦<dyn Driver as Driver>⟧ engine.now }
-    ensures obeyed { (ticks : ℕ) → IfOk result (λ ok. Obeys ⟦<dyn Driver as Driver>⟧ engine.now
-        engine.now (W.contents writer.old) (W.contents writer.new) ticks Trace ok) }
-    ensures cut { (ticks : ℕ) → OnErr result (ObeysHalf ⟦<dyn Driver as Driver>⟧ engine.now
-        engine.now (W.contents writer.old) (W.contents writer.new) ticks Trace) }
+    ensures obeyed { (ps : List Prepared) (ticks : ℕ) → IfOk result
+        (λ ok. Obeys ⟦<dyn Driver as Driver>⟧ engine.now engine.now ps ps (W.contents writer.old)
+        (W.contents writer.new) ticks Trace ok) }
+    ensures cut { (ps : List Prepared) (ticks : ℕ) → OnErr result
+        (ObeysHalf ⟦<dyn Driver as Driver>⟧ engine.now engine.now ps ps (W.contents writer.old)
+        (W.contents writer.new) ticks Trace) }
 {
     print_trace(writer, buffer, engine)?;
     Ok(true)
@@ -94,10 +101,12 @@ fn check<W: Write>(
     ensures sound { IsSound ⟦<dyn Driver as Driver>⟧ engine.new }
     ensures registrations { registrations engine.new ≡ registrations engine.old }
     ensures order { kinds_of (drivers_in engine.new) ≡ kinds_of (drivers_in engine.old) }
-    ensures obeyed { (ticks : ℕ) → IfOk result (λ ok. Obeys ⟦<dyn Driver as Driver>⟧ engine.old
-        engine.new (W.contents writer.old) (W.contents writer.new) ticks (Check name.now) ok) }
-    ensures cut { (ticks : ℕ) → OnErr result (ObeysHalf ⟦<dyn Driver as Driver>⟧ engine.old
-        engine.new (W.contents writer.old) (W.contents writer.new) ticks (Check name.now)) }
+    ensures obeyed { (ps : List Prepared) (ticks : ℕ) → IfOk result
+        (λ ok. Obeys ⟦<dyn Driver as Driver>⟧ engine.old engine.new ps ps (W.contents writer.old)
+        (W.contents writer.new) ticks (Check name.now) ok) }
+    ensures cut { (ps : List Prepared) (ticks : ℕ) → OnErr result
+        (ObeysHalf ⟦<dyn Driver as Driver>⟧ engine.old engine.new ps ps (W.contents writer.old)
+        (W.contents writer.new) ticks (Check name.now)) }
 {
     let reply = engine.check(name);
     tell_reply(writer, buffer, reply)
@@ -115,12 +124,12 @@ fn list<W: Write>(
     name: &[u8],
 ) -> Result<bool, SessionError>
     requires sound { IsSound ⟦<dyn Driver as Driver>⟧ engine.now }
-    ensures obeyed { (ticks : ℕ) → IfOk result (λ ok. Obeys ⟦<dyn Driver as Driver>⟧ engine.now
-        engine.now (W.contents writer.old) (W.contents writer.new) ticks (Declarations name.now)
-        ok) }
-    ensures cut { (ticks : ℕ) → OnErr result (ObeysHalf ⟦<dyn Driver as Driver>⟧ engine.now
-        engine.now (W.contents writer.old) (W.contents writer.new) ticks
-        (Declarations name.now)) }
+    ensures obeyed { (ps : List Prepared) (ticks : ℕ) → IfOk result
+        (λ ok. Obeys ⟦<dyn Driver as Driver>⟧ engine.now engine.now ps ps (W.contents writer.old)
+        (W.contents writer.new) ticks (Declarations name.now) ok) }
+    ensures cut { (ps : List Prepared) (ticks : ℕ) → OnErr result
+        (ObeysHalf ⟦<dyn Driver as Driver>⟧ engine.now engine.now ps ps (W.contents writer.old)
+        (W.contents writer.new) ticks (Declarations name.now)) }
 {
     print_declarations(alloc, writer, buffer, engine, name)
 }
@@ -143,9 +152,11 @@ fn obey_lent<W: Write>(
     ensures registrations { registrations engine.new ≡ registrations engine.old }
     ensures order { kinds_of (drivers_in engine.new) ≡ kinds_of (drivers_in engine.old) }
     ensures obeyed { IfOk result (λ ok. Obeys ⟦<dyn Driver as Driver>⟧ engine.old engine.new
-        (W.contents writer.old) (W.contents writer.new) ticks line.now ok) }
+        prepared.old.items prepared.new.items (W.contents writer.old) (W.contents writer.new) ticks
+        line.now ok) }
     ensures cut { OnErr result (ObeysHalf ⟦<dyn Driver as Driver>⟧ engine.old engine.new
-        (W.contents writer.old) (W.contents writer.new) ticks line.now) }
+        prepared.old.items prepared.new.items (W.contents writer.old) (W.contents writer.new) ticks
+        line.now) }
 {
     match line {
         OwnLine::Limit(limit) => set_limit(engine, writer, *limit),
@@ -191,9 +202,11 @@ pub fn obey<W: Write>(
     ensures registrations { registrations engine.new ≡ registrations engine.old }
     ensures order { kinds_of (drivers_in engine.new) ≡ kinds_of (drivers_in engine.old) }
     ensures obeyed { IfOk result (λ ok. Obeys ⟦<dyn Driver as Driver>⟧ engine.old engine.new
-        (W.contents writer.old) (W.contents writer.new) ticks line ok) }
+        prepared.old.items prepared.new.items (W.contents writer.old) (W.contents writer.new) ticks
+        line ok) }
     ensures cut { OnErr result (ObeysHalf ⟦<dyn Driver as Driver>⟧ engine.old engine.new
-        (W.contents writer.old) (W.contents writer.new) ticks line) }
+        prepared.old.items prepared.new.items (W.contents writer.old) (W.contents writer.new) ticks
+        line) }
 {
     let done = obey_lent(alloc, engine, writer, buffer, prepared, &line, ticks);
     drop(line);

@@ -1,6 +1,7 @@
 //! The lines of a conversation that no session has.
-ghost use Rattle.std.specs.Prelude.{◌≡◌, IfOk};
+ghost use Rattle.std.specs.Prelude.{◌≡◌, IfOk, option_map};
 ghost use Rattle.asrun_lines.specs.Fields.{last_field_of};
+ghost use Rattle.asrun_lines.specs.Limits.{limit_of};
 ghost use Rattle.asrun_lines.specs.SessionLines.{Reads};
 ghost use Rattle.asremote.specs.OwnLines.{prepare_of, run_of, after_word, own_line_of};
 
@@ -77,6 +78,27 @@ fn run_line(alloc: Global, text: &[u8]) -> Result<OwnLine, LineError>
     })
 }
 
+fn check_line(alloc: Global, text: &[u8]) -> Result<OwnLine, LineError>
+    ensures exact { Reads result (option_map OwnLine.Check (last_field_of text.now)) }
+{
+    let name = named(alloc, text)?;
+    Ok(OwnLine::Check(name))
+}
+
+fn list_line(alloc: Global, text: &[u8]) -> Result<OwnLine, LineError>
+    ensures exact { Reads result (option_map OwnLine.Declarations (last_field_of text.now)) }
+{
+    let name = named(alloc, text)?;
+    Ok(OwnLine::Declarations(name))
+}
+
+fn limit_line(text: &[u8]) -> Result<OwnLine, LineError>
+    ensures exact { Reads result (option_map OwnLine.Limit (limit_of text.now)) }
+{
+    let limit = limit(text).ok_or(LineError::BadLine)?;
+    Ok(OwnLine::Limit(limit))
+}
+
 /// What a line of this first word spells, where it has more.
 #[tactic(auto, unfolding(crate::specs::OwnLines::after_word))]
 fn after_word(alloc: Global, word: &[u8], text: &[u8]) -> Result<OwnLine, LineError>
@@ -89,16 +111,13 @@ fn after_word(alloc: Global, word: &[u8], text: &[u8]) -> Result<OwnLine, LineEr
         return prepare_line(alloc, text);
     }
     if word == b"check".as_slice() {
-        let name = named(alloc, text)?;
-        return Ok(OwnLine::Check(name));
+        return check_line(alloc, text);
     }
     if word == b"list".as_slice() {
-        let name = named(alloc, text)?;
-        return Ok(OwnLine::Declarations(name));
+        return list_line(alloc, text);
     }
     if word == b"limit".as_slice() {
-        let limit = limit(text).ok_or(LineError::BadLine)?;
-        return Ok(OwnLine::Limit(limit));
+        return limit_line(text);
     }
     Err(LineError::BadLine)
 }

@@ -1,11 +1,11 @@
 //! Functions that were looked up once, and are called by the number that this gave.
-ghost use Rattle.std.specs.Prelude.{◌≡◌, ℕ, IfOk, IfErr, OnErr};
-ghost use Rattle.ang_engine.specs.Engines.{registrations, world_in, drivers_in};
-ghost use Rattle.ang_engine.specs.Prepared.{looked_up};
+ghost use Rattle.std.specs.Prelude.{◌≡◌, ◌++◌, ◌∷◌, [], ℕ, IfOk, IfErr, OnOk, OnErr, length, slice_get};
+ghost use Rattle.ang_engine.specs.Engines.{registrations, drivers_in};
 ghost use Rattle.ang_engine.specs.Sound.{IsSound};
 ghost use Rattle.ang_engine_modules.specs.declared.reply.Refusal.TheVariants.{Memory};
 ghost use Rattle.asrun_session.specs.Drivers.{kinds_of};
-ghost use Rattle.asremote.specs.Turns.{IsFound, Obeys, ObeysHalf};
+ghost use Rattle.asremote.specs.Standing.{LooksUp, standing};
+ghost use Rattle.asremote.specs.Turns.{Obeys, ObeysHalf};
 ghost use Rattle.asremote.specs.declared.own_lines.OwnLine.TheVariants.{Prepare, Run};
 
 use crate::replies::tell_reply;
@@ -20,6 +20,9 @@ use std::io::Write;
 /// # Errors
 /// `Memory`, where there is no room.
 fn keep(prepared: &mut Vec<Prepared>, function: Prepared) -> Result<u64, Refusal>
+    ensures place { IfOk result (λ n. n ≡ length prepared.old.items) }
+    ensures kept { OnOk result (prepared.new.items ≡ prepared.old.items ++ function ∷ []) }
+    ensures unchanged { OnErr result (prepared.new.items ≡ prepared.old.items) }
     ensures refused { IfErr result (λ why. why ≡ Memory) }
 {
     let number = prepared.len() as u64;
@@ -40,8 +43,8 @@ fn look_up(
     decl: &[u8],
 ) -> Result<u64, Refusal>
     requires sound { IsSound ⟦<dyn Driver as Driver>⟧ engine.now }
-    ensures found { IsFound
-        (looked_up name.now decl.now (world_in ⟦<dyn Driver as Driver>⟧ engine.now)) result }
+    ensures found { LooksUp (standing ⟦<dyn Driver as Driver>⟧ engine.now prepared.old.items)
+        name.now decl.now result prepared.new.items }
 {
     match engine.prepare(name, decl) {
         Ok(function) => keep(prepared, function),
@@ -49,7 +52,8 @@ fn look_up(
     }
 }
 
-/// Looks up a function of a module for later calls, and prints its number, or why there is none. Answers whether there is.
+/// Looks up a function of a module for later calls, and prints its number, or why there is none. Answers whether there
+/// is one.
 ///
 /// # Errors
 /// A write fault, and want of memory.
@@ -63,11 +67,11 @@ pub fn prepare<W: Write>(
 ) -> Result<bool, SessionError>
     requires sound { IsSound ⟦<dyn Driver as Driver>⟧ engine.now }
     ensures obeyed { (ticks : ℕ) → IfOk result (λ ok. Obeys ⟦<dyn Driver as Driver>⟧ engine.now
-        engine.now (W.contents writer.old) (W.contents writer.new) ticks
-        (Prepare name.now decl.now) ok) }
+        engine.now prepared.old.items prepared.new.items (W.contents writer.old)
+        (W.contents writer.new) ticks (Prepare name.now decl.now) ok) }
     ensures cut { (ticks : ℕ) → OnErr result (ObeysHalf ⟦<dyn Driver as Driver>⟧ engine.now
-        engine.now (W.contents writer.old) (W.contents writer.new) ticks
-        (Prepare name.now decl.now)) }
+        engine.now prepared.old.items prepared.new.items (W.contents writer.old)
+        (W.contents writer.new) ticks (Prepare name.now decl.now)) }
 {
     match look_up(engine, prepared, name, decl) {
         Ok(number) => {
@@ -81,6 +85,16 @@ pub fn prepare<W: Write>(
     }
 }
 
+/// What was looked up under this number.
+fn numbered(prepared: &Vec<Prepared>, number: u32) -> Option<Prepared>
+    ensures exact { result ≡ slice_get prepared.now.items number }
+{
+    match prepared.get(number as usize) {
+        Some(function) => Some(*function),
+        None => None,
+    }
+}
+
 /// Calls what has this number, with these values, and prints the reply. Answers whether it ended in `ok`.
 ///
 /// # Errors
@@ -89,7 +103,7 @@ pub fn run_prepared<W: Write>(
     engine: &mut Engine,
     writer: &mut W,
     buffer: &mut ReplyBuffer,
-    prepared: &[Prepared],
+    prepared: &Vec<Prepared>,
     number: u32,
     args: &[Value],
     ticks: u64,
@@ -99,14 +113,16 @@ pub fn run_prepared<W: Write>(
     ensures registrations { registrations engine.new ≡ registrations engine.old }
     ensures order { kinds_of (drivers_in engine.new) ≡ kinds_of (drivers_in engine.old) }
     ensures obeyed { IfOk result (λ ok. Obeys ⟦<dyn Driver as Driver>⟧ engine.old engine.new
-        (W.contents writer.old) (W.contents writer.new) ticks (Run number args.now) ok) }
+        prepared.now.items prepared.now.items (W.contents writer.old) (W.contents writer.new) ticks
+        (Run number args.now) ok) }
     ensures cut { OnErr result (ObeysHalf ⟦<dyn Driver as Driver>⟧ engine.old engine.new
-        (W.contents writer.old) (W.contents writer.new) ticks (Run number args.now)) }
+        prepared.now.items prepared.now.items (W.contents writer.old) (W.contents writer.new) ticks
+        (Run number args.now)) }
 {
-    let Some(function) = prepared.get(number as usize) else {
+    let Some(function) = numbered(prepared, number) else {
         print_refusal(writer, buffer, Refusal::NoFunction)?;
         return Ok(false);
     };
-    let reply = engine.call_prepared(*function, args, ticks);
+    let reply = engine.call_prepared(function, args, ticks);
     tell_reply(writer, buffer, reply)
 }

@@ -3,6 +3,7 @@ ghost use Rattle.std.specs.Prelude.{◌≡◌, ◌+◌, ℕ, false, List, None, 
 ghost use Rattle.std.specs.Io.KnownBytes.{Appends};
 ghost use Rattle.ang_engine.specs.Engines.{registrations, drivers_in};
 ghost use Rattle.ang_engine.specs.Sound.{IsSound};
+ghost use Rattle.ang_engine.specs.declared.prepared.Prepared.{Prepared};
 ghost use Rattle.asrun_session.specs.Drivers.{kinds_of};
 ghost use Rattle.asrun_session.specs.Writing.{HasFront};
 ghost use Rattle.asremote.specs.OwnLines.{own_line_of};
@@ -25,8 +26,8 @@ use std::io::Write;
 /// What a turn came to.
 #[derive(Clone, Copy)]
 pub enum Turn {
-    /// The turn was answered: whether with anything but `fault` and `refused`, the ticks of the next command, and how many
-    /// lines its section had.
+    /// The turn was answered: whether with anything but `fault` and `refused`, the ticks of the next command, and how
+    /// many lines its section had.
     Done(bool, u64, u64),
     /// The line ends the conversation, which is printed.
     Bad,
@@ -43,8 +44,8 @@ pub struct At {
     pub number: u64,
 }
 
-/// Answers a line of another form: it ends the conversation where its first letters are `section`, since what follows it
-/// may be the text of a section.
+/// Answers a line of another form: it ends the conversation where its first letters are `section`, since what follows
+/// it may be the text of a section.
 ///
 /// # Errors
 /// A write fault.
@@ -89,11 +90,13 @@ fn take_act<W: Write>(
     ensures sound { IsSound ⟦<dyn Driver as Driver>⟧ engine.new }
     ensures registrations { registrations engine.new ≡ registrations engine.old }
     ensures order { kinds_of (drivers_in engine.new) ≡ kinds_of (drivers_in engine.old) }
-    ensures turned { IfOk result (λ t. (whole : List ℕ) → line.now ≡ shown_of whole
-        → Turns ⟦<dyn Driver as Driver>⟧ engine.old engine.new (W.contents writer.old)
+    ensures turned { IfOk result
+        (λ t. (ps : List Prepared) (whole : List ℕ) → line.now ≡ shown_of whole
+        → Turns ⟦<dyn Driver as Driver>⟧ engine.old engine.new ps ps (W.contents writer.old)
         (W.contents writer.new) number ticks whole (lines_of after.now) t) }
-    ensures cut { OnErr result ((whole : List ℕ) → line.now ≡ shown_of whole
-        → TurnsHalf ⟦<dyn Driver as Driver>⟧ engine.old engine.new (W.contents writer.old)
+    ensures cut { OnErr result
+        ((ps : List Prepared) (whole : List ℕ) → line.now ≡ shown_of whole
+        → TurnsHalf ⟦<dyn Driver as Driver>⟧ engine.old engine.new ps ps (W.contents writer.old)
         (W.contents writer.new) number ticks whole (lines_of after.now)) }
 {
     match read_act(alloc, ticks, line, after) {
@@ -127,9 +130,11 @@ pub fn take_turn<W: Write>(
     ensures registrations { registrations engine.new ≡ registrations engine.old }
     ensures order { kinds_of (drivers_in engine.new) ≡ kinds_of (drivers_in engine.old) }
     ensures turned { IfOk result (TakesTurn ⟦<dyn Driver as Driver>⟧ engine.old engine.new
-        (W.contents writer.old) (W.contents writer.new) number ticks text.now) }
+        prepared.old.items prepared.new.items (W.contents writer.old) (W.contents writer.new)
+        number ticks text.now) }
     ensures cut { OnErr result (TakesHalf ⟦<dyn Driver as Driver>⟧ engine.old engine.new
-        (W.contents writer.old) (W.contents writer.new) number ticks text.now) }
+        prepared.old.items prepared.new.items (W.contents writer.old) (W.contents writer.new)
+        number ticks text.now) }
 {
     let Some((line, after)) = first_line(text) else {
         return Ok(Turn::Done(true, ticks, 0));
@@ -191,9 +196,11 @@ pub fn one_turn<W: Write>(
     ensures registrations { registrations engine.new ≡ registrations engine.old }
     ensures order { kinds_of (drivers_in engine.new) ≡ kinds_of (drivers_in engine.old) }
     ensures turned { IfOk result (TakesOne ⟦<dyn Driver as Driver>⟧ engine.old engine.new
-        (W.contents writer.old) (W.contents writer.new) number ticks text.now) }
+        prepared.old.items prepared.new.items (W.contents writer.old) (W.contents writer.new)
+        number ticks text.now) }
     ensures cut { OnErr result (TakesHalf ⟦<dyn Driver as Driver>⟧ engine.old engine.new
-        (W.contents writer.old) (W.contents writer.new) number ticks text.now) }
+        prepared.old.items prepared.new.items (W.contents writer.old) (W.contents writer.new)
+        number ticks text.now) }
 {
     match take_turn(alloc, engine, writer, buffer, prepared, text, number, ticks)? {
         Turn::Done(ok, ticks, lines) => {

@@ -13,6 +13,7 @@ use Rattle.ang_engine_modules.specs.declared.command.Command.{Command}
 use Rattle.ang_engine_modules.specs.declared.reply.Outcome.{Outcome}
 use Rattle.ang_engine_modules.specs.declared.reply.Outcome.TheVariants.{Done, Failed, Refused}
 use Rattle.ang_engine_modules.specs.declared.reply.Reply.{Reply}
+use Rattle.ang_engine.specs.Prepared.{HaveMoved, replaced}
 use Rattle.ang_engine.specs.Step.{Takes, Runs}
 use Rattle.ang_engine_modules.specs.World.{World}
 use Rattle.asrun_session.specs.Session.{Session}
@@ -84,6 +85,12 @@ status_of None deeds = if list_all is_ok deeds then AllOk else SomeRefused
 abbrev pub Does : RegistrationList → World → Deed → World → Type 0
 Does R w (Ran c r) after = Takes R w c r after
 Does R w (Set ticks) after = w ≡ after
+
+-- What a deed does to the numbers of builds, of n builds that had begun before and k after it: a command
+-- ends what was looked up in the module that it replaces, and nothing else (`HaveMoved` of ang_engine).
+abbrev pub MovesBuilds : World → Deed → ℕ → (ℕ → Option ℕ) → ℕ → (ℕ → Option ℕ) → Type 0
+MovesBuilds w (Ran c r) n before k after = HaveMoved (replaced c r.outcome w) n before k after
+MovesBuilds w (Set ticks) n before k after = (k ≡ n) × (after ≡ before)
 
 -- The session was done whole: its commands ran in their order, each with its reply, these are the
 -- events of all replies, and the text of all was printed.

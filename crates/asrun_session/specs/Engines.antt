@@ -4,10 +4,10 @@ use Rattle.std.specs.Prelude.{ℕ, Bool, List, Option}
 use Rattle.ang_host.specs.Meanings.{Meanings}
 use Rattle.ang_host.specs.declared.event.HostEvent.{HostEvent}
 use Rattle.ang_engine.specs.declared.engine.Engine.{Engine}
-use Rattle.ang_engine.specs.Engines.{registrations, world_in, drivers_in}
+use Rattle.ang_engine.specs.Engines.{registrations, world_in, drivers_in, builds_in, last_build}
 use Rattle.ang_engine.specs.Limited.{StaysWithin}
 use Rattle.ang_engine_modules.specs.World.{World}
-use Rattle.asrun_session.specs.Deeds.{deed_events, IsPrinted, IsHalfPrinted, IsDone, IsCut}
+use Rattle.asrun_session.specs.Deeds.{Deed, deed_events, MovesBuilds, IsPrinted, IsHalfPrinted, IsDone, IsCut}
 use Rattle.asrun_session.specs.Drivers.{ByEvents}
 use Rattle.asrun_session.specs.Session.{Session}
 use Rattle.asrun_session.specs.Whole.{RunsSession, StopsSession}
@@ -19,17 +19,23 @@ module _ {V : Type 0} {P : V → Type 0} (m : Meanings P) (e f : Engine V P) whe
   abbrev pub Comes : (List HostEvent → World → Type 0) → Type 0
   Comes S = ByEvents m (registrations e) (drivers_in e) (λ es. S es (world_in m f)) (drivers_in f)
 
+  -- what a deed does to the engine's numbers of builds
+  abbrev pub Builds : Deed → Type 0
+  Builds d = MovesBuilds (world_in m e) d (last_build e) (builds_in e) (last_build f) (builds_in f)
+
   -- One action is done, under the limits that hold and stay, and its text is printed.
   pub record Prints (a : Action) (old new : Option (List ℕ)) (ok : Bool) : Type 0 where
     pub done : IsPrinted m (registrations e) (world_in m e) (drivers_in e) a old new ok
         (world_in m f) (drivers_in f)
     pub within : StaysWithin m e.machine.store (deed_events done.deed) f.machine.store
+    pub builds : Builds done.deed
 
   -- One action is done so, and a front of its text is printed.
   pub record HalfPrints (a : Action) (old new : Option (List ℕ)) : Type 0 where
     pub done : IsHalfPrinted m (registrations e) (world_in m e) (drivers_in e) a old new
         (world_in m f) (drivers_in f)
     pub within : StaysWithin m e.machine.store (deed_events done.deed) f.machine.store
+    pub builds : Builds done.deed
 
   -- the lines of a session are done
   abbrev pub RunsLines : Session → Option (List ℕ) → Option (List ℕ) → Status → Type 0

@@ -257,14 +257,20 @@ fn hex_digit(d: u8) -> u8
     if d < 10 { b'0' + d } else { b'a' - 10 + d }
 }
 
-#[tactic(auto, using(crate::proofs::Texts::texts))]
 fn push_mask(out: &mut Vec<u8>, mask: Mask) -> Result<(), AllocError>
     ensures added { OnOk result (out.new.items ≡ out.old.items ++ mask_text mask.0) }
 {
-    for byte in mask.0.to_be_bytes() {
-        out.extend_from_slice(&[hex_digit(byte / 16), hex_digit(byte % 16)])?;
-    }
-    Ok(())
+    let [first, second, third, fourth] = mask.0.to_be_bytes();
+    out.extend_from_slice(&[
+        hex_digit(first / 16),
+        hex_digit(first % 16),
+        hex_digit(second / 16),
+        hex_digit(second % 16),
+        hex_digit(third / 16),
+        hex_digit(third % 16),
+        hex_digit(fourth / 16),
+        hex_digit(fourth % 16),
+    ])
 }
 
 /// The line of a denial, put after what stands in `out`.

@@ -1,6 +1,6 @@
 //! What calls hand out of the values that bodies give, by their types.
 use crate::machine::{answer_alone, end, with_drivers};
-use crate::program::{Module, Text, table_of};
+use crate::program::{BLANK, Module, Text, table_of};
 use ang_code::Instruction::{PushBits, PushNull, Return};
 use ang_kinds::{Prim, Value};
 use ang_meaning::Routine;
@@ -33,10 +33,7 @@ fn module_of(ty: Option<Prim>) -> Module {
         name: b'v',
         result: ty,
         texts: TEXTS,
-        imports: &[],
-        classes: &[],
-        slots: &[],
-        globals: &[],
+        ..BLANK
     }
 }
 

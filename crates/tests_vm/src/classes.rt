@@ -1,21 +1,18 @@
 //! A module of script classes.
 use crate::entities::{GET, NEW_CELL, NEW_COUNTER, PRINT, VALUE};
 use crate::operators::{ADD, DIVIDE, PLUS};
-use crate::program::{ClassRow, Module, Text};
+use crate::program::{BLANK, ClassRow, Module, Text};
 use ang_code::Instruction;
 use ang_code::Instruction::{
     Apply, Drop, DropUnder, Enter, Leave, Load, PushBits, PushNull, Return, Store, SwapField,
 };
-use ang_kinds::Prim;
 use ang_kinds::Prim::I8;
 use ang_meaning::{Callee, Operation, Passing, Slot, Update, ValueKind};
 
 /// The module `c`, with one global.
 pub const CLASSES: Module = Module {
     name: b'c',
-    result: Some(Prim::U64),
     texts: TEXTS,
-    imports: &[],
     classes: ROWS,
     slots: &[
         &[Passing::Object],
@@ -23,6 +20,7 @@ pub const CLASSES: Module = Module {
         &[Passing::In, Passing::Object],
     ],
     globals: &[Slot::Script(None)],
+    ..BLANK
 };
 
 const HANDLE: ValueKind = ValueKind::Handle;

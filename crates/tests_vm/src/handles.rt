@@ -3,38 +3,32 @@ use crate::entities::{
     BUMP, CELL_ABOVE, FAIL, GET, NEW_CELL, NEW_COUNTER, PICK, PRINT, SET, STEP, SUM, VALUE,
 };
 use crate::operators::{DIVIDE, PLUS};
-use crate::program::{Module, Text};
+use crate::program::{BLANK, Module, Text};
 use ang_code::Instruction;
 use ang_code::Instruction::{
     Apply, Drop, DropUnder, Enter, Leave, Load, LoopBack, PushBits, PushNull, Return, Store, Swap,
     Tick,
 };
-use ang_kinds::{Operator, Prim};
+use ang_kinds::Operator;
 use ang_meaning::{Callee, Operation, Passing, Routine, Slot, Update};
 
 /// The module `a`, with two globals.
 pub const HANDLES: Module = Module {
     name: b'a',
-    result: Some(Prim::U64),
     texts: TEXTS,
     imports: &[
         (&[Passing::In], None),
         (&[Passing::In], Some(Routine { home: 2, number: 0 })),
     ],
-    classes: &[],
-    slots: &[],
     globals: &[Slot::Script(None), Slot::Script(None)],
+    ..BLANK
 };
 
 /// The module `b`, of which the module `a` imports a function.
 pub const EXPORTER: Module = Module {
     name: b'b',
-    result: Some(Prim::U64),
     texts: &[(&[Passing::In], 1, EXPORTED)],
-    imports: &[],
-    classes: &[],
-    slots: &[],
-    globals: &[],
+    ..BLANK
 };
 
 /// `c.step += n`

@@ -1,27 +1,23 @@
 //! What a machine keeps of its last run.
 use crate::machine::{answer_alone, end, with_drivers};
 use crate::operators::DIVIDE;
-use crate::program::{Module, Text, table_of};
+use crate::program::{BLANK, Module, table_of};
 use ang_code::Frame;
 use ang_code::Instruction::{Drop, Enter, PushBits, Return};
-use ang_kinds::{Fault, Prim, Value};
+use ang_kinds::{Fault, Value};
 use ang_meaning::{Callee, Routine};
 use std::alloc::{AllocError, Global};
 
 /// A body that calls one that calls one that divides by 0, and a body that gives a value.
 const BODIES: Module = Module {
     name: b'l',
-    result: Some(Prim::U64),
     texts: list! {
         (&[], 1, &[Enter(Callee::Own(1)), Return(0)]),
         (&[], 1, &[PushBits(7), Drop, Enter(Callee::Own(2)), Return(0)]),
         (&[], 2, &[PushBits(1), PushBits(0), DIVIDE, Return(0)]),
         (&[], 1, &[PushBits(9), Return(0)]),
     },
-    imports: &[],
-    classes: &[],
-    slots: &[],
-    globals: &[],
+    ..BLANK
 };
 
 /// The body that is called, its budget, and what it gives; the bodies that ran, each with the place after its own; and the

@@ -1,24 +1,21 @@
 //! A module of numbers.
 use crate::entities::{FAIL, PRINT, REGISTER, SMALL_SUM, SUM};
 use crate::operators::{ADD, DIVIDE, LATER, PLUS, SUBTRACT};
-use crate::program::{Module, Text};
+use crate::program::{BLANK, Module, Text};
 use ang_code::Instruction;
 use ang_code::Instruction::{
     Apply, Drop, DropUnder, Enter, JumpIfFalse, Load, LoopBack, PushBits, Return, Store, Swap,
     Tick, Update as Changed,
 };
-use ang_kinds::{Comparison, Prim};
+use ang_kinds::Comparison;
 use ang_meaning::{Callee, Operation, Passing, Slot};
 
 /// The module `m`, with two globals.
 pub const NUMBERS: Module = Module {
     name: b'm',
-    result: Some(Prim::U64),
     texts: TEXTS,
-    imports: &[],
-    classes: &[],
-    slots: &[],
     globals: &[Slot::Bits(0), Slot::Bits(0)],
+    ..BLANK
 };
 
 /// Adds an `int` to the register; its value is the new one.

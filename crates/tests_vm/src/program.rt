@@ -44,6 +44,17 @@ pub struct Module {
     pub globals: &'static [Slot],
 }
 
+/// A module without anything, for the rest of one that has something: the value of its bodies is a `uint64`.
+pub const BLANK: Module = Module {
+    name: b'-',
+    result: Some(Prim::U64),
+    texts: &[],
+    imports: &[],
+    classes: &[],
+    slots: &[],
+    globals: &[],
+};
+
 /// The modules, by number.
 const MODULES: [Module; 4] = [NUMBERS, HANDLES, EXPORTER, CLASSES];
 

@@ -70,6 +70,8 @@ function typeIn(parameter) {
 const WIDE = 620;
 const ROW = 30;
 const BOX = 150;
+const MOST_IN_BOX = 20; // letters
+const MOST_ON_ARROW = 44;
 
 /** Draws modules that import on the left, those that they are bound to on the right, and the bindings between. */
 function drawArrows() {
@@ -108,10 +110,14 @@ function arrow(it, number, to) {
   const end = WIDE - BOX - 3;
   const path = `M${BOX} ${from} H${end - 90} C${end - 40} ${from} ${end - 50} ${to} ${end} ${to}`;
   const line = drawn("path", { class: it.to ? "bound" : "unbound", d: path, "marker-end": "url(#head)" });
-  return [line, drawn("text", { x: BOX + 8, y: from - 4 }, it.text)];
+  return [line, drawn("text", { x: BOX + 8, y: from - 4 }, cut(it.text, MOST_ON_ARROW))];
 }
 
 function box(x, y, name) {
   const frame = drawn("rect", { x, y: y - 12, width: BOX, height: 24, rx: 5 });
-  return [frame, drawn("text", { class: "box", x: x + BOX / 2, y: y + 4 }, name.length > 20 ? `${name.slice(0, 19)}…` : name)];
+  return [frame, drawn("text", { class: "box", x: x + BOX / 2, y: y + 4 }, cut(name, MOST_IN_BOX))];
+}
+
+function cut(text, most) {
+  return text.length > most ? `${text.slice(0, most - 1)}…` : text;
 }

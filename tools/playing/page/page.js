@@ -343,7 +343,11 @@ async function call(event) {
 
 async function setBudget(event) {
   event.preventDefault();
-  await command("budget", { ticks: Number(at("budget").value) });
+  const answer = await command("budget", { ticks: Number(at("budget").value) });
+  const step = answer.steps?.at(-1);
+  if (step?.means) {
+    say(`It was not done: ${step.means}.`);
+  }
   at("budget").value = state.budget;
 }
 

@@ -2,6 +2,7 @@
 
 import { state } from "./state.js";
 
+const MOST = 4 << 20; // bytes of a request, of which the server takes no more
 let last = Promise.resolve();
 let openAgain = async () => false; // has another engine where that of the page was ended
 let opening = null; // that being done
@@ -23,12 +24,12 @@ export async function ask(operation, fields = {}) {
 }
 
 async function asked(operation, fields) {
+  const body = new Blob([JSON.stringify({ page: state.page, ...fields })]);
+  if (body.size > MOST) {
+    return { problem: `These texts are too long: they have ${body.size.toLocaleString("en")} bytes in all, and may have ${MOST.toLocaleString("en")}.` };
+  }
   try {
-    const answer = await fetch(operation, {
-      method: "POST",
-      headers: { "Content-Type": "application/json" },
-      body: JSON.stringify({ page: state.page, ...fields }),
-    });
+    const answer = await fetch(operation, { method: "POST", headers: { "Content-Type": "application/json" }, body });
     return answer.ok ? await answer.json() : { problem: await answer.text() };
   } catch (error) {
     return { problem: `The server does not answer (${error.message}). Is tools/play.py still running?` };

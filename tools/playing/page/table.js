@@ -6,12 +6,13 @@ import { bitsOf, hex, lookOf, moduleOf, sees, state } from "./state.js";
 
 const WORDS = { seen: "seen", next: "seen from the next build on", still: "seen by the built program alone", hidden: "hidden" };
 const NAMED = 6; // entries that are named of those which appear or go
+const CELLS = new Map(Object.entries(WORDS).map(([look, word]) => [look, element("td", { role: "cell", class: `cell ${look}`, "aria-label": word })]));
 const columns = new Map(); // of each module: its cells, and how they look
 const BLOCK = 10; // rows that are laid out together
 let rows = [];
 let blocks = [];
 
-/** Draws the whole table. */
+/** Draws the whole table, but for what depends on which module is chosen. */
 export function drawTable() {
   columns.clear();
   for (const module of state.modules) {
@@ -23,7 +24,6 @@ export function drawTable() {
   at("table").classList.toggle("many", state.modules.length > 6);
   fill(at("table"), headOf(), ...blocks.map((it) => it.body));
   find();
-  chooseColumn();
 }
 
 function blockOf(own) {
@@ -54,7 +54,7 @@ function rowOf(entry, number) {
 function cellOf(entry, module) {
   const column = columns.get(module.name);
   const look = lookOf(entry, module);
-  const cell = element("td", { role: "cell", class: `cell ${look}`, "aria-label": WORDS[look] });
+  const cell = CELLS.get(look).cloneNode();
   column.cells.push(cell);
   column.looks.push(look);
   return cell;
@@ -91,12 +91,13 @@ export function chooseColumn() {
   }
 }
 
-/** Scrolls the table to a column that is out of view. */
+/** Scrolls the table to a column that is out of view, or behind the first columns, which stay where they are. */
 function bringIntoView(head) {
   const box = at("table-scrolls");
   const left = head.offsetLeft;
-  if (left < box.scrollLeft || left + head.offsetWidth > box.scrollLeft + box.clientWidth) {
-    box.scrollLeft = left - box.clientWidth / 2;
+  const stays = at("table").querySelector("thead .number").offsetWidth + at("table").querySelector("thead .told").offsetWidth;
+  if (left < box.scrollLeft + stays || left + head.offsetWidth > box.scrollLeft + box.clientWidth) {
+    box.scrollLeft = left - (stays + box.clientWidth) / 2;
   }
 }
 

@@ -1,6 +1,6 @@
 use Rattle.std.proofs.Common.{◌≡◌, drop}
 use Rattle.ang_check_uses.specs.Choosing.{constructor_entries}
-use Rattle.ang_check_uses.specs.Contest.{after, fresh}
+use Rattle.ang_check_contest.specs.Contest.{after, fresh}
 use Rattle.ang_check_uses.proofs.choosing.constructors_entered.Given as goal
 
 abbrev pub invariant-loop-constructor : goal.invariant-loop-constructor

@@ -3,7 +3,7 @@ use Rattle.ang_kinds.specs.declared.error.ErrorKind.TheVariants as kind
 use Rattle.ang_names_known.specs.Items.{is_empty}
 use Rattle.ang_check_uses.specs.declared.uses.Resolution.TheVariants as resolution
 use Rattle.ang_check_uses.specs.Choosing.{function_by}
-use Rattle.ang_check_uses.specs.Contest.{meant_by}
+use Rattle.ang_check_uses.specs.Contenders.{meant_by}
 use Rattle.ang_check_uses.specs.Uses.{best_function, best_of_those, functions_of}
 use Rattle.ang_check_uses.proofs.ChosenLaws.{functions_empty, functions_best}
 use Rattle.ang_check_uses.proofs.choosing.function_meant.Goals as goal

@@ -4,7 +4,7 @@ use Rattle.ang_types.specs.declared.arg_type.ArgType.TheVariants as type
 use Rattle.ang_names_known.specs.Items.{is_empty}
 use Rattle.ang_check_uses.specs.declared.uses.Resolution.TheVariants as resolution
 use Rattle.ang_check_uses.specs.Choosing.{method_by}
-use Rattle.ang_check_uses.specs.Contest.{meant_by}
+use Rattle.ang_check_uses.specs.Contenders.{meant_by}
 use Rattle.ang_check_uses.specs.Uses.{best_method, best_of_those, host_methods, unmatched}
 use Rattle.ang_check_uses.proofs.ChosenLaws.{methods_empty, methods_best}
 use Rattle.ang_check_uses.proofs.choosing.host_method_meant.Goals as goal

@@ -8,6 +8,7 @@ use Rattle.ang_engine_modules.proofs.Keeping.{placed_modules}
 use Rattle.ang_engine.specs.Sound.{IsBuiltBy}
 use Rattle.ang_engine.proofs.Starting.{globals_kept, set_again}
 use Rattle.ang_engine.proofs.Rebuilding.{apart_still, none-there, globals-there, empty-there, ready-there, counted-there, within-there, free-there, refused-leads, refused-asked, refused-sound, begun-drivers, begun-leads, begun-heard, begun-asked, begun-sound}
+use Rattle.ang_engine.proofs.Moved.{set_builds, begun_numbers}
 use Rattle.ang_engine.proofs.building.build_module.Goals as goal
 
 pub start-requires-clause-empty : goal.start-requires-clause-empty
@@ -160,3 +161,19 @@ returns-in-Ok-clause-build g c =
 pub returns-in-Err-clause-build : goal.returns-in-Err-clause-build
 returns-in-Err-clause-build g c =
     ap build_in (set_at c.args.list.now.places.items c.args.home c.compile_place.new.place None c.requires.within) ∙ c.compile_place.ensures.build
+
+pub returns-in-Ok-clause-others : goal.returns-in-Ok-clause-others
+returns-in-Ok-clause-others g c = set_builds c.args.list.now.places.items c.args.home c.compile_place.new.place
+
+pub returns-in-Ok-clause-numbered : goal.returns-in-Ok-clause-numbered
+returns-in-Ok-clause-numbered g c = λ h.
+    begun_numbers c.args.list.now _ c.args.home (set_builds c.args.list.now.places.items c.args.home c.compile_place.new.place) refl
+    (ap build_in (set_at c.args.list.now.places.items c.args.home c.compile_place.new.place None c.requires.within) ∙ c.compile_place.ensures.build) h
+
+pub returns-in-Err-clause-others : goal.returns-in-Err-clause-others
+returns-in-Err-clause-others g c = set_builds c.args.list.now.places.items c.args.home c.compile_place.new.place
+
+pub returns-in-Err-clause-numbered : goal.returns-in-Err-clause-numbered
+returns-in-Err-clause-numbered g c = λ h.
+    begun_numbers c.args.list.now _ c.args.home (set_builds c.args.list.now.places.items c.args.home c.compile_place.new.place) refl
+    (ap build_in (set_at c.args.list.now.places.items c.args.home c.compile_place.new.place None c.requires.within) ∙ c.compile_place.ensures.build) h

@@ -4,7 +4,8 @@ use Rattle.std.specs.Prelude.{IsSome, slice_index_or}
 use Rattle.ang_engine_modules.proofs.Finding.{found_same}
 use Rattle.ang_engine_modules.proofs.Keeping.{nothing_kept, one_kept}
 use Rattle.ang_engine_modules.proofs.PlaceLists.{any_default}
-use Rattle.ang_engine.proofs.Checks.{checked-none, checked-program, checked-refused, builds_set, alone, others}
+use Rattle.ang_engine.proofs.Checks.{checked-none, checked-program, checked-refused, alone, others}
+use Rattle.ang_engine_modules.proofs.Numbering.{same_builds, one_builds}
 use Rattle.ang_engine.proofs.checking.check_named.Goals as goal
 
 pub returns-in_default-clause-done : goal.returns-in_default-clause-done
@@ -60,12 +61,11 @@ returns-in-Ok-clause-kept c =
     one_kept x _ i c.index_mut.result.now c.judge_place.new.place (sym (c.index_mut.ensures.value ∙ any_default x.places.items i c.index_mut.result.now None lt)) c.judge_place.ensures.kept refl refl refl
 
 pub returns-in-Ok-clause-builds : goal.returns-in-Ok-clause-builds
-returns-in-Ok-clause-builds c = λ j.
+returns-in-Ok-clause-builds c =
     let x = c.args.list.now in
     let i = c.in-Some.home in
     let lt : i < length x.places.items = search rules in
-    let at = c.index_mut.ensures.value ∙ any_default x.places.items i c.index_mut.result.now None lt in
-    builds_set x.places.items i c.judge_place.new.place (c.judge_place.ensures.build ∙ ap build_in at) j
+    one_builds x _ i c.index_mut.result.now c.judge_place.new.place (c.index_mut.ensures.value ∙ any_default x.places.items i c.index_mut.result.now None lt) c.judge_place.ensures.build refl refl
 
 pub returns-in-Err-clause-done : goal.returns-in-Err-clause-done
 returns-in-Err-clause-done c = λ r.
@@ -110,9 +110,11 @@ returns-in-Err-clause-kept c =
     one_kept x _ i c.index_mut.result.now c.judge_place.new.place (sym (c.index_mut.ensures.value ∙ any_default x.places.items i c.index_mut.result.now None lt)) c.judge_place.ensures.kept refl refl refl
 
 pub returns-in-Err-clause-builds : goal.returns-in-Err-clause-builds
-returns-in-Err-clause-builds c = λ j.
+returns-in-Err-clause-builds c =
     let x = c.args.list.now in
     let i = c.in-Some.home in
     let lt : i < length x.places.items = search rules in
-    let at = c.index_mut.ensures.value ∙ any_default x.places.items i c.index_mut.result.now None lt in
-    builds_set x.places.items i c.judge_place.new.place (c.judge_place.ensures.build ∙ ap build_in at) j
+    one_builds x _ i c.index_mut.result.now c.judge_place.new.place (c.index_mut.ensures.value ∙ any_default x.places.items i c.index_mut.result.now None lt) c.judge_place.ensures.build refl refl
+
+pub returns-in_default-clause-builds : goal.returns-in_default-clause-builds
+returns-in_default-clause-builds c = same_builds c.args.list.now _ refl refl

@@ -10,7 +10,7 @@ returns-in-Err-clause-built c =
 pub returns-in-Err-check-clause-built : goal.returns-in-Err-check-clause-built
 returns-in-Err-check-clause-built c =
     bodies_refused c.args.view.now (list_map source_of c.args.scripts.now) c.in-Ok.names c.in-Ok.ensures.accepted c.in-Ok.ensures.names
-    c.with_denials-in-Err-check.result c.in-Err-check.unbuilt _ c.in-Err-check.ensures.refused c.with_denials-in-Err-check.ensures.exact
+    c.with_denials-why.result c.in-Err-check.unbuilt _ c.in-Err-check.ensures.refused c.with_denials-why.ensures.exact
 
 pub returns-in-Ok-check-clause-built : goal.returns-in-Ok-check-clause-built
 returns-in-Ok-check-clause-built c =

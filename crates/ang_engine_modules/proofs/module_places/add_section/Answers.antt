@@ -4,6 +4,7 @@ use Rattle.ang_engine_modules.specs.States.{states_in}
 use Rattle.ang_engine_modules.proofs.PlaceLists.{any_default}
 use Rattle.ang_engine_modules.proofs.Finding.{found_same, on_module-none, section_pushed}
 use Rattle.ang_engine_modules.proofs.Keeping.{nothing_kept, one_kept}
+use Rattle.ang_engine_modules.proofs.Numbering.{same_builds, one_builds}
 use Rattle.ang_engine_modules.proofs.module_places.add_section.Goals as goal
 
 pub returns-in_default-clause-done : goal.returns-in_default-clause-done
@@ -32,3 +33,13 @@ returns-clause-kept c =
     let lt : c.in-Some.i < length x.places.items = search rules in
     one_kept x _ c.in-Some.i c.index_mut.result.now c.push_text.new.place (sym (c.index_mut.ensures.value ∙ any_default x.places.items c.in-Some.i c.index_mut.result.now None lt)) c.push_text.ensures.kept refl refl
     refl
+
+pub returns-in_default-clause-builds : goal.returns-in_default-clause-builds
+returns-in_default-clause-builds c = same_builds c.args.list.now _ refl refl
+
+pub returns-clause-builds : goal.returns-clause-builds
+returns-clause-builds c =
+    let x = c.args.list.now in
+    let lt : c.in-Some.i < length x.places.items = search rules in
+    one_builds x _ c.in-Some.i c.index_mut.result.now c.push_text.new.place (c.index_mut.ensures.value ∙ any_default x.places.items c.in-Some.i c.index_mut.result.now None lt)
+    c.push_text.ensures.build refl refl

@@ -4,7 +4,6 @@ use Rattle.std.specs.List.{flat_map}
 use Rattle.std.proofs.lemmas.List.{take_all}
 use Rattle.ang_names_known.specs.declared.names.Family.{Family}
 use Rattle.ang_names_known.specs.Lookup.{FoundMethod, is_named, methods_in, methods_of, methods_named}
-use Rattle.ang_names_known.specs.Nearest.{at_places}
 use Rattle.ang_names_known.proofs.MembersByPlace.{methods_are}
 use Rattle.ang_names_known.proofs.NearestMethods.{nearest, methods_at, family_more}
 use Rattle.ang_names_known.proofs.methods.methods_in.Goals as goal
@@ -17,8 +16,8 @@ loop-number-preserved c =
     let i : ℕ = c.loop-number.number-index in
     let n : ℕ = get_or order i 0 in
     let before : List FoundMethod = filter (is_named name) (methods_at fs (take i order)) in (
-      c.in_ok-push_methods.ensures.pushed before c.loop-number.invariant.0
-          ∙ ap (λ ms. nearest (before ++ at_places n ms c.find-places.result.now)) c.own_methods-methods.ensures.exact
+      c.in_ok-push_methods.ensures.there,
+      c.in_ok-push_methods.ensures.pushed before c.loop-number.invariant.1
           ∙ ap (λ ms. nearest (before ++ ms)) (methods_are (slice_get fs n) n name c.find-places.result.now (c.find-places.ensures.exact ∙ c.requires.indexed n name))
           ∙ ap nearest (family_more fs name order i c.loop-number-test.true),
       c.in_ok-push_methods.ensures.slots,
@@ -29,8 +28,9 @@ unfolding methods_named methods_of
 returns c =
     let over : length c.order_of-order.result.now ≤ c.loop-number.number-index = omega arith in
     record {
+      there = c.loop-number.invariant.0;
       exact =
-          c.loop-number.invariant.0
+          c.loop-number.invariant.1
           ∙ ap (λ ns. nearest (filter (is_named c.args.name.now) (methods_at c.args.families.now ns))) (take_all c.loop-number.number-index c.order_of-order.result.now over)
           ∙ ap (λ kin. nearest (filter (is_named c.args.name.now) (flat_map methods_in kin))) c.order_of-order.ensures.exact;
     }

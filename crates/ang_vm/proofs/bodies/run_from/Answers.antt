@@ -12,7 +12,8 @@ use Rattle.ang_vm_stack.specs.declared.place.RunResult.TheVariants as ending
 use Rattle.ang_vm_stack.specs.Stacks.{values}
 use Rattle.ang_vm_stack.specs.Tables.{body_of, setting_of, texts_of}
 use Rattle.ang_vm_steps.proofs.Paths.{reach_same, reach_told, reach_then, lead_reach}
-use Rattle.ang_vm.specs.Crossings.{pause_of, IfFault, HasFaulted}
+use Rattle.ang_vm_steps.specs.Crossings.{pause_of}
+use Rattle.ang_vm.specs.Crossings.{IfFault, HasFaulted}
 use Rattle.ang_vm.proofs.Moving.{moved_by, moved_none, moved_then, may_go_on}
 use Rattle.ang_vm.specs.Legs.{AllFit, Fits, handed, resumed}
 use Rattle.ang_vm.proofs.Calling.{no_callers, push_front}

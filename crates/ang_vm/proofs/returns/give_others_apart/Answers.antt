@@ -7,7 +7,7 @@ use Rattle.ang_meaning.proofs.Enough.{first_enough}
 use Rattle.ang_heap.specs.Stores.{world_of}
 use Rattle.ang_heap.proofs.Storing.{moves_none, moves_join}
 use Rattle.ang_vm_stack.specs.Stacks.{values}
-use Rattle.ang_vm.proofs.Calling.{none_left, value_turn}
+use Rattle.ang_vm_steps.proofs.WantedObjects.{none_left, value_turn}
 use Rattle.ang_vm.proofs.Counting.{param_can}
 use Rattle.ang_vm.proofs.Leaving.{others_turn}
 use Rattle.ang_vm.proofs.returns.give_others_apart.Goals as goal

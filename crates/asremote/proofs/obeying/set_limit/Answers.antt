@@ -7,27 +7,35 @@ use Rattle.asremote.proofs.obeying.set_limit.Goals as goal
 pub returns-in_err-write_text-clause-cut : goal.returns-in_err-write_text-clause-cut
 returns-in_err-write_text-clause-cut g c =
     let p = err_from_is_err_and c.from_residual.result c.from_residual.ensures.1 in
-    λ ticks. rw p.1 record {
+    λ ps ticks. rw p.1 record {
       did = Limited c.args.limit;
       says = refl;
       budgeted = tt;
       comes = record {
-        limits = c.set_limits.ensures.set ∙ c.with_limit-limits.ensures.exact ∙ ap (λ l. with_limit l c.args.limit) c.limits.ensures.exact;
-        world = c.set_limits.ensures.same;
-        drivers = c.set_limits.ensures.drivers;
+        comes = record {
+          limits = c.set_limits.ensures.set ∙ c.with_limit-limits.ensures.exact ∙ ap (λ l. with_limit l c.args.limit) c.limits.ensures.exact;
+          world = c.set_limits.ensures.same;
+          numbers = record { last = c.set_limits.ensures.last; builds = c.set_limits.ensures.builds };
+          drivers = c.set_limits.ensures.drivers;
+        };
+        functions = refl;
       };
       front = c.in_err-write_text.ensures.front;
     }
 
 pub returns-clause-obeyed : goal.returns-clause-obeyed
-returns-clause-obeyed g c = λ ticks. record {
+returns-clause-obeyed g c = λ ps ticks. record {
   did = Limited c.args.limit;
   says = refl;
   budgeted = tt;
   comes = record {
-    limits = c.set_limits.ensures.set ∙ c.with_limit-limits.ensures.exact ∙ ap (λ l. with_limit l c.args.limit) c.limits.ensures.exact;
-    world = c.set_limits.ensures.same;
-    drivers = c.set_limits.ensures.drivers;
+    comes = record {
+      limits = c.set_limits.ensures.set ∙ c.with_limit-limits.ensures.exact ∙ ap (λ l. with_limit l c.args.limit) c.limits.ensures.exact;
+      world = c.set_limits.ensures.same;
+      numbers = record { last = c.set_limits.ensures.last; builds = c.set_limits.ensures.builds };
+      drivers = c.set_limits.ensures.drivers;
+    };
+    functions = refl;
   };
   right = refl;
   printed = c.in_ok-write_text.ensures.whole;

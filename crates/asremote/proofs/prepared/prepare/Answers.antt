@@ -8,7 +8,7 @@ returns-in_ok-print_prepared-in-Ok-clause-obeyed g c = λ ticks. record {
   did = LookedUp c.args.name.now c.args.decl.now (Ok c.in-Ok.number);
   says = refl;
   budgeted = tt;
-  comes = (refl, c.in-Ok.ensures.found);
+  comes = record { comes = refl; functions = c.in-Ok.ensures.found };
   right = refl;
   printed = c.in_ok-print_prepared-in-Ok.ensures.whole;
 }
@@ -20,7 +20,7 @@ returns-in_err-print_prepared-in-Ok-clause-cut g c =
       did = LookedUp c.args.name.now c.args.decl.now (Ok c.in-Ok.number);
       says = refl;
       budgeted = tt;
-      comes = (refl, c.in-Ok.ensures.found);
+      comes = record { comes = refl; functions = c.in-Ok.ensures.found };
       front = c.in_err-print_prepared-in-Ok.ensures.front;
     }
 
@@ -29,7 +29,7 @@ returns-in_ok-print_refusal-in-Err-clause-obeyed g c = λ ticks. record {
   did = LookedUp c.args.name.now c.args.decl.now (Err c.in-Err.refusal);
   says = refl;
   budgeted = tt;
-  comes = (refl, c.in-Err.ensures.found);
+  comes = record { comes = refl; functions = c.in-Err.ensures.found };
   right = refl;
   printed = c.in_ok-print_refusal-in-Err.ensures.whole;
 }
@@ -41,6 +41,6 @@ returns-in_err-print_refusal-in-Err-clause-cut g c =
       did = LookedUp c.args.name.now c.args.decl.now (Err c.in-Err.refusal);
       says = refl;
       budgeted = tt;
-      comes = (refl, c.in-Err.ensures.found);
+      comes = record { comes = refl; functions = c.in-Err.ensures.found };
       front = c.in_err-print_refusal-in-Err.ensures.front;
     }

@@ -1,6 +1,5 @@
-use Rattle.std.proofs.Common.{refl}
+use Rattle.std.proofs.Common.{refl, sym, ◌∙◌}
 use Rattle.std.proofs.lemmas.Result.{err_from_is_err_and}
-use Rattle.ang_engine.specs.Engines.{builds_in}
 use Rattle.asremote.specs.Talk.{Called, Missed}
 use Rattle.asremote.proofs.Turning.{ok_both, err_turn}
 use Rattle.asremote.proofs.prepared.run_prepared.Goals as goal
@@ -10,7 +9,7 @@ returns-in_default-clause-obeyed g c = record {
   did = Missed c.args.number c.args.args.now;
   says = refl;
   budgeted = tt;
-  comes = refl;
+  comes = record { comes = refl; functions = (sym c.numbered.ensures.exact ∙ c.in_default.is, refl) };
   right = refl;
   printed = c.in_ok-print_refusal.ensures.whole;
 }
@@ -22,26 +21,29 @@ returns-in_err-print_refusal-clause-cut g c =
       did = Missed c.args.number c.args.args.now;
       says = refl;
       budgeted = tt;
-      comes = refl;
+      comes = record { comes = refl; functions = (sym c.numbered.ensures.exact ∙ c.in_default.is, refl) };
       front = c.in_err-print_refusal.ensures.front;
     }
 
 pub returns-clause-obeyed : goal.returns-clause-obeyed
 returns-clause-obeyed g c = ok_both c.tell_reply.result _ _ _ (λ ok ended told. record {
-  did = Called c.args.number c.args.args.now c.in-Some.function.now c.args.ticks c.call_prepared-reply.result;
+  did = Called c.args.number c.args.args.now c.in-Some.function c.args.ticks c.call_prepared-reply.result;
   says = refl;
   budgeted = refl;
   comes = record {
-    takes = record {
-      builds = builds_in c.args.engine.now;
-      takes = c.call_prepared-reply.ensures.takes;
-      gone = λ no. (c.call_prepared-reply.ensures.gone no, c.call_prepared-reply.ensures.unchanged no);
+    comes = record {
+      takes = record {
+        takes = c.call_prepared-reply.ensures.takes;
+        gone = λ no. (c.call_prepared-reply.ensures.gone no, c.call_prepared-reply.ensures.unchanged no);
+      };
+      numbers = record { last = c.call_prepared-reply.ensures.last; builds = c.call_prepared-reply.ensures.builds };
+      follow = c.call_prepared-reply.ensures.follow;
+      within = record {
+        limits = c.call_prepared-reply.ensures.limits;
+        limited = record { few_events = c.call_prepared-reply.ensures.few_events; few_slots = c.call_prepared-reply.ensures.few_slots; few_objects = c.call_prepared-reply.ensures.few_objects };
+      };
     };
-    follow = c.call_prepared-reply.ensures.follow;
-    within = record {
-      limits = c.call_prepared-reply.ensures.limits;
-      limited = record { few_events = c.call_prepared-reply.ensures.few_events; few_slots = c.call_prepared-reply.ensures.few_slots; few_objects = c.call_prepared-reply.ensures.few_objects };
-    };
+    functions = (sym c.numbered.ensures.exact ∙ c.in-Some.is, refl);
   };
   right = ended;
   printed = told;
@@ -49,20 +51,23 @@ returns-clause-obeyed g c = ok_both c.tell_reply.result _ _ _ (λ ok ended told.
 
 pub returns-clause-cut : goal.returns-clause-cut
 returns-clause-cut g c = err_turn c.tell_reply.result _ _ (λ front. record {
-  did = Called c.args.number c.args.args.now c.in-Some.function.now c.args.ticks c.call_prepared-reply.result;
+  did = Called c.args.number c.args.args.now c.in-Some.function c.args.ticks c.call_prepared-reply.result;
   says = refl;
   budgeted = refl;
   comes = record {
-    takes = record {
-      builds = builds_in c.args.engine.now;
-      takes = c.call_prepared-reply.ensures.takes;
-      gone = λ no. (c.call_prepared-reply.ensures.gone no, c.call_prepared-reply.ensures.unchanged no);
+    comes = record {
+      takes = record {
+        takes = c.call_prepared-reply.ensures.takes;
+        gone = λ no. (c.call_prepared-reply.ensures.gone no, c.call_prepared-reply.ensures.unchanged no);
+      };
+      numbers = record { last = c.call_prepared-reply.ensures.last; builds = c.call_prepared-reply.ensures.builds };
+      follow = c.call_prepared-reply.ensures.follow;
+      within = record {
+        limits = c.call_prepared-reply.ensures.limits;
+        limited = record { few_events = c.call_prepared-reply.ensures.few_events; few_slots = c.call_prepared-reply.ensures.few_slots; few_objects = c.call_prepared-reply.ensures.few_objects };
+      };
     };
-    follow = c.call_prepared-reply.ensures.follow;
-    within = record {
-      limits = c.call_prepared-reply.ensures.limits;
-      limited = record { few_events = c.call_prepared-reply.ensures.few_events; few_slots = c.call_prepared-reply.ensures.few_slots; few_objects = c.call_prepared-reply.ensures.few_objects };
-    };
+    functions = (sym c.numbered.ensures.exact ∙ c.in-Some.is, refl);
   };
   front = front;
 }) c.tell_reply.ensures.front

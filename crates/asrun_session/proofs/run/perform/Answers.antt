@@ -19,6 +19,7 @@ returns-in_err-write_text-in-Budget-clause-cut g c =
     rw (p.1, c.in-Budget.is) record {
       done = record { deed = Set c.in-Budget.ticks; action = refl; does = refl; follow = follow_nothing _ _ _; front = c.in_err-write_text-in-Budget.ensures.front };
       within = within_none (λ v. (g.dyn-1.0.entry v).1) c.args.engine.now.machine.store;
+      builds = (refl, refl);
     }
 
 pub returns-in_ok-write_text-in-Budget-clause-done : goal.returns-in_ok-write_text-in-Budget-clause-done
@@ -32,4 +33,5 @@ returns-in_ok-write_text-in-Budget-clause-done g c = rw c.in-Budget.is record {
     ended = refl;
   };
   within = within_none (λ v. (g.dyn-1.0.entry v).1) c.args.engine.now.machine.store;
+  builds = (refl, refl);
 }

@@ -12,6 +12,7 @@ returns-in_err-print_reply-clause-cut g c =
         limits = c.apply-reply.ensures.limits;
         limited = record { few_events = c.apply-reply.ensures.few_events; few_slots = c.apply-reply.ensures.few_slots; few_objects = c.apply-reply.ensures.few_objects };
       };
+      builds = c.apply-reply.ensures.prepared;
     }
 
 pub returns-clause-done : goal.returns-clause-done
@@ -28,4 +29,5 @@ returns-clause-done g c = record {
     limits = c.apply-reply.ensures.limits;
     limited = record { few_events = c.apply-reply.ensures.few_events; few_slots = c.apply-reply.ensures.few_slots; few_objects = c.apply-reply.ensures.few_objects };
   };
+  builds = c.apply-reply.ensures.prepared;
 }

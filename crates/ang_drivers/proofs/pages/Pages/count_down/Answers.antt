@@ -6,7 +6,7 @@ use Rattle.ang_drivers.specs.declared.pages.Counted.{Counted}
 use Rattle.ang_drivers.specs.Pages.{objects_in, is_blank}
 use Rattle.ang_drivers.specs.PagesHeld.{entries_of}
 use Rattle.ang_drivers.proofs.Ledgers.{by_key-kept, by_key-less, read_at}
-use Rattle.ang_drivers.proofs.Paging.{IsSpot, page_from, page_to, spot_found, spot_written, spot_kept, home_recounted}
+use Rattle.ang_drivers.proofs.Paging.{IsSpot, page_from, page_to, spot_found, spot_written, spot_kept, home_recounted, each_kept}
 use Rattle.ang_drivers.proofs.pages.Pages.count_down.Goals as goal
 
 pub invariant_of-self : goal.invariant_of-self
@@ -21,7 +21,12 @@ invariant_of-self g c =
     record { home = record { paged = s.paged; from = page_from k; to = page_to k; page = t.page; there = t.there; page_is = c.index_mut.ensures.value }; object_is = c.index_mut-2.ensures.value } in
     let w : Counted g.row.T.Denot = record { count = x.1.count - 1; value = x.1.value } in
     let p' : ℕ × Vec (ℕ × Counted g.row.T.Denot) Global = (p.0, with_item p.1 at.index (x.0, w)) in
-    record { paged = spot_kept spot p' w refl refl; counted = home_recounted spot.home is_blank p' refl ∙ s.counted; few = s.few }
+    record {
+      paged = spot_kept spot p' w refl refl;
+      counted = home_recounted spot.home is_blank p' refl ∙ s.counted;
+      few = s.few;
+      led = each_kept s.leading k (entries_of s) _ w (spot_written spot p' w refl) s.led;
+    }
 
 pub returns-then-object-gt1-clause-exact : goal.returns-then-object-gt1-clause-exact
 returns-then-object-gt1-clause-exact g c =
@@ -76,7 +81,12 @@ invariant_of-self-else-object-gt1 g c =
     record { home = record { paged = s.paged; from = page_from k; to = page_to k; page = t.page; there = t.there; page_is = c.index_mut.ensures.value }; object_is = c.index_mut-2.ensures.value } in
     let w : Counted g.row.T.Denot = x.1 in
     let p' : ℕ × Vec (ℕ × Counted g.row.T.Denot) Global = (p.0, with_item p.1 at.index (x.0, w)) in
-    record { paged = spot_kept spot p' w refl refl; counted = home_recounted spot.home is_blank p' refl ∙ s.counted; few = s.few }
+    record {
+      paged = spot_kept spot p' w refl refl;
+      counted = home_recounted spot.home is_blank p' refl ∙ s.counted;
+      few = s.few;
+      led = each_kept s.leading k (entries_of s) _ w (spot_written spot p' w refl) s.led;
+    }
 
 pub returns-clause-exact : goal.returns-clause-exact
 returns-clause-exact g c =

@@ -1,9 +1,9 @@
-use Rattle.std.proofs.Common.{◌≡◌, ◌+◌, ◌/◌, [], true, false, cond, count_by, length, slice_set, vec_len, refl, ap, ◌∙◌, arith, ℕ, Vec, Global}
+use Rattle.std.proofs.Common.{◌≡◌, ◌/◌, slice_set, vec_len, refl, ap, ◌∙◌, arith, ℕ, Vec, Global}
 use Rattle.ang_drivers.specs.declared.pages.Counted.{Counted}
 use Rattle.ang_drivers.specs.Pages.{objects_in, is_blank}
 use Rattle.ang_drivers.specs.PagesHeld.{entries_of}
 use Rattle.ang_drivers.proofs.Ledgers.{by_key-removed}
-use Rattle.ang_drivers.proofs.Paging.{IsHome, at, page_from, page_to, home_removed, home_left, home_within, home_counted, ones, thinned_pages, thinned_all, none_if_zero, some_if}
+use Rattle.ang_drivers.proofs.Paging.{IsHome, at, page_from, page_to, home_removed, home_left, home_within, home_counted, ones, thinned_pages, thinned_all, none_if_zero, some_if, each_before}
 use Rattle.ang_drivers.proofs.pages.Pages.take_out.Goals as goal
 
 pub remove_from-is_gone-requires : goal.remove_from-is_gone-requires
@@ -37,16 +37,21 @@ invariant_of-self g c =
     let s = c.args.self.now in
     let k = c.args.key in
     let t = c.place-place.ensures.there in
-    let at = c.place-place.result in
+    let i = c.place-place.result in
     let p = c.index_mut.result.now in
-    let home : IsHome objects_in s.next k (k / 64) at.page at.index s.pages.items p =
+    let home : IsHome objects_in s.next k (k / 64) i.page i.index s.pages.items p =
     record { paged = s.paged; from = page_from k; to = page_to k; page = t.page; there = t.there; page_is = c.index_mut.ensures.value } in
     let p' : ℕ × Vec (ℕ × Counted g.row.T.Denot) Global = (p.0, c.remove_from-is_gone.new.page) in
     let thin = c.thinned-self.ensures.thinned in
+    let same = thinned_all objects_in is_blank (λ v e. none_if_zero (vec_len v.1) v.1.items v.1.ok.0 e) (slice_set s.pages.items i.page p') c.thinned-self.new.pages.items thin.0 thin.1 in
+    let least = c.least-self.ensures in
     record {
-      paged = thinned_pages objects_in is_blank s.next (slice_set s.pages.items at.page p') c.thinned-self.new.pages.items thin.0 thin.1 (home_left home p' refl c.remove_from-is_gone.ensures.removed);
+      paged = thinned_pages objects_in is_blank s.next (slice_set s.pages.items i.page p') c.thinned-self.new.pages.items thin.0 thin.1 (home_left home p' refl c.remove_from-is_gone.ensures.removed);
       counted = c.thinned-self.ensures.counted;
       few = c.thinned-self.ensures.few;
+      led =
+          each_before s.leading k c.least-self.result (entries_of s) _ (λ q. ap (at q) same ∙ home_removed home p' c.remove_from-is_gone.ensures.removed q)
+          least.among least.before s.led;
     }
 
 pub returns-clause-counts : goal.returns-clause-counts

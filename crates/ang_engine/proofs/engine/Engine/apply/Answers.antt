@@ -9,6 +9,7 @@ use Rattle.ang_engine.specs.Outcomes.{IfRefusedAtOnce}
 use Rattle.ang_engine.specs.Step.{Takes, IsEntitled}
 use Rattle.ang_engine_modules.specs.Ended.{is_fault, may_have_run}
 use Rattle.ang_engine.specs.Trace.{trace_in, ticks_in}
+use Rattle.ang_engine.specs.Prepared.{HasMovedPrepared}
 use Rattle.ang_engine.proofs.engine.Engine.apply.Goals as goal
 
 -- what is said of the command that has finished is said of its reply
@@ -50,3 +51,6 @@ returns-clause-no_ticks g c = subst (λ (r : Reply). may_have_run r.outcome ≡ 
 
 pub returns-clause-ticks : goal.returns-clause-ticks
 returns-clause-ticks g c = c.finish.ensures.ticks
+
+pub returns-clause-prepared : goal.returns-clause-prepared
+returns-clause-prepared g c = subst (λ (r : Reply). HasMovedPrepared (λ v. (g.dyn-1.0.entry v).1) c.args.self.now c.args.command r.outcome c.finish.new.self) (sym c.heard_reply.ensures.exact) c.finish.ensures.prepared

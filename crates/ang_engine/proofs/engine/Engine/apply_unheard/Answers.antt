@@ -6,6 +6,7 @@ use Rattle.ang_engine.specs.Applied.{HasApplied}
 use Rattle.ang_engine.specs.Engines.{limits_in, held_in}
 use Rattle.ang_engine_modules.specs.Ended.{is_fault, may_have_run}
 use Rattle.ang_engine.specs.Trace.{trace_in, ticks_in}
+use Rattle.ang_engine.specs.Prepared.{HasMovedPrepared}
 use Rattle.ang_engine.proofs.engine.Engine.apply_unheard.Goals as goal
 
 pub returns-clause-there_is : goal.returns-clause-there_is
@@ -31,3 +32,6 @@ returns-clause-no_ticks g c = subst (λ (r : Reply). may_have_run r.outcome ≡ 
 
 pub returns-clause-ticks : goal.returns-clause-ticks
 returns-clause-ticks g c = c.finish.ensures.ticks
+
+pub returns-clause-prepared : goal.returns-clause-prepared
+returns-clause-prepared g c = subst (λ (r : Reply). HasMovedPrepared (λ v. (g.dyn-1.0.entry v).1) c.args.self.now c.args.command r.outcome c.finish.new.self) (sym c.unheard_reply.ensures.exact) c.finish.ensures.prepared

@@ -1,10 +1,12 @@
-use Rattle.std.proofs.Common.{refl}
+use Rattle.std.proofs.Common.{refl, ap, None}
 use Rattle.ang_heap.specs.Globals.{values_in}
 use Rattle.ang_heap.specs.Stores.{world_of}
 use Rattle.ang_engine.specs.Engines.{registrations, world_in}
 use Rattle.ang_engine.proofs.Kept.{same_places}
 use Rattle.ang_engine.proofs.Whole.{applied-bind}
 use Rattle.ang_engine.proofs.Limiting.{within_none, within_reply}
+use Rattle.ang_engine_modules.proofs.Numbering.{same_builds}
+use Rattle.ang_engine.proofs.Moved.{same_numbers, same_moved}
 use Rattle.ang_engine.proofs.engine.Engine.bind.Goals as goal
 
 pub bind-done-requires : goal.bind-done-requires
@@ -25,9 +27,13 @@ returns-clause-sound g c = record {
   in_list = c.requires.sound.in_list;
   kept = c.requires.sound.kept;
   counted = c.requires.sound.counted;
+  numbered = same_numbers c.args.self.now.modules c.bind-done.new.list (same_builds c.args.self.now.modules c.bind-done.new.list (ap (λ v. v.items) c.bind-done.ensures.places) c.bind-done.ensures.builds) c.requires.sound.numbered;
 }
 
 pub returns-clause-within : goal.returns-clause-within
 returns-clause-within g c =
     let s = c.args.self.now.machine.store in
     within_reply (λ v. (g.dyn-1.0.entry v).1) s s _ _ c.answer.ensures.exact (within_none (λ v. (g.dyn-1.0.entry v).1) s)
+
+pub returns-clause-prepared : goal.returns-clause-prepared
+returns-clause-prepared g c = same_moved c.args.self.now.modules c.bind-done.new.list None refl (same_builds c.args.self.now.modules c.bind-done.new.list (ap (λ v. v.items) c.bind-done.ensures.places) c.bind-done.ensures.builds)

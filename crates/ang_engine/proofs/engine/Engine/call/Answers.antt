@@ -1,13 +1,17 @@
-use Rattle.std.proofs.Common.{refl, sym, subst}
+use Rattle.std.proofs.Common.{refl, sym, subst, None}
 use Rattle.ang_heap.specs.Globals.{values_in}
 use Rattle.ang_engine.specs.Engines.{registrations, world_in}
 use Rattle.ang_engine_modules.specs.declared.command.Command.TheVariants.{Call}
 use Rattle.ang_engine_modules.specs.Sound.{HaveGlobals}
-use Rattle.ang_engine.specs.Sound.{AreSoundModules}
+use Rattle.ang_engine.specs.Sound.{AreSoundModules, AreNumbered}
 use Rattle.ang_engine.proofs.Kept.{run_globals}
 use Rattle.ang_engine.proofs.Whole.{applied-call, applied-memory, sound-asked}
 use Rattle.ang_host.specs.Logs.{listed_in}
 use Rattle.ang_engine.proofs.Limiting.{within_none, within_reply}
+use Rattle.ang_engine.proofs.Moved.{same_moved, nothing_built}
+use Rattle.ang_engine.specs.Prepared.{HaveMoved}
+use Rattle.ang_engine_modules.specs.States.{build_at}
+use Rattle.ang_engine_modules.specs.declared.module.ModuleList.{ModuleList}
 use Rattle.ang_engine.proofs.engine.Engine.call.Goals as goal
 
 pub returns-in_default-clause-applied : goal.returns-in_default-clause-applied
@@ -29,7 +33,7 @@ returns-clause-sound g c =
     sound-asked (λ v. (g.dyn-1.0.entry v).1) c.args.self.now c.call_named-done.new.self _ _ c.requires.sound c.call_named-done.ensures.registrations
     (subst (λ x. AreSoundModules (registrations c.args.self.now) x) (sym c.call_named-done.ensures.modules) c.requires.sound.modules)
     (subst (λ x. HaveGlobals x hs) (sym c.call_named-done.ensures.modules) (run_globals c.args.self.now.modules gs hs c.call_named-done.ensures.globals c.requires.sound.globals))
-    c.call_named-done.ensures.asked
+    c.call_named-done.ensures.asked (subst (λ x. AreNumbered x) (sym c.call_named-done.ensures.modules) c.requires.sound.numbered)
 
 pub returns-in_default-clause-within : goal.returns-in_default-clause-within
 returns-in_default-clause-within g c =
@@ -39,3 +43,11 @@ returns-in_default-clause-within g c =
 pub returns-clause-within : goal.returns-clause-within
 returns-clause-within g c =
     within_reply (λ v. (g.dyn-1.0.entry v).1) c.args.self.now.machine.store c.call_named-done.new.self.machine.store _ _ c.call_reply.ensures.exact c.call_named-done.ensures.asked.within
+
+pub returns-clause-prepared : goal.returns-clause-prepared
+returns-clause-prepared g c =
+    let x = c.args.self.now.modules in
+    subst (λ (y : ModuleList). HaveMoved None x.builds (build_at x.places.items) y.builds (build_at y.places.items)) (sym c.call_named-done.ensures.modules) (same_moved x x None refl (nothing_built x))
+
+pub returns-in_default-clause-prepared : goal.returns-in_default-clause-prepared
+returns-in_default-clause-prepared g c = same_moved c.args.self.now.modules c.args.self.now.modules None refl (nothing_built c.args.self.now.modules)

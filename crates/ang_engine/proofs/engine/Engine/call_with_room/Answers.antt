@@ -3,7 +3,7 @@ use Rattle.ang_host.specs.Logs.{listed_in}
 use Rattle.ang_heap.specs.Globals.{values_in}
 use Rattle.ang_engine_modules.specs.Sound.{HaveGlobals}
 use Rattle.ang_engine.specs.Engines.{registrations, world_in, builds_in}
-use Rattle.ang_engine.specs.Sound.{AreSoundModules}
+use Rattle.ang_engine.specs.Sound.{AreSoundModules, AreNumbered}
 use Rattle.ang_engine.proofs.Kept.{run_globals}
 use Rattle.ang_engine.proofs.Preparing.{prepared-memory, prepared-called}
 use Rattle.ang_engine.proofs.Whole.{sound-asked}
@@ -27,4 +27,4 @@ returns-clause-sound g c =
     sound-asked (λ v. (g.dyn-1.0.entry v).1) c.args.self.now c.call_there-done.new.self _ _ c.requires.sound c.call_there-done.ensures.registrations
     (subst (λ x. AreSoundModules (registrations c.args.self.now) x) (sym c.call_there-done.ensures.modules) c.requires.sound.modules)
     (subst (λ x. HaveGlobals x hs) (sym c.call_there-done.ensures.modules) (run_globals c.args.self.now.modules gs hs c.call_there-done.ensures.globals c.requires.sound.globals))
-    c.call_there-done.ensures.asked
+    c.call_there-done.ensures.asked (subst (λ x. AreNumbered x) (sym c.call_there-done.ensures.modules) c.requires.sound.numbered)

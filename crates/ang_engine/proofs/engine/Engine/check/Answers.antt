@@ -8,6 +8,7 @@ use Rattle.ang_engine.specs.Outcomes.{reply_to_build}
 use Rattle.ang_engine.specs.Step.{Leads}
 use Rattle.ang_engine.proofs.Checks.{silent}
 use Rattle.ang_engine.proofs.Kept.{kept_sound, kept_globals}
+use Rattle.ang_engine.proofs.Moved.{same_numbers}
 use Rattle.ang_engine.proofs.engine.Engine.check.Goals as goal
 
 pub returns-clause-checks : goal.returns-clause-checks
@@ -41,4 +42,11 @@ returns-clause-sound g c =
       in_list = c.requires.sound.in_list;
       kept = c.requires.sound.kept;
       counted = c.requires.sound.counted;
+      numbered = same_numbers x y c.check_named-done.ensures.builds c.requires.sound.numbered;
     }
+
+pub returns-clause-builds : goal.returns-clause-builds
+returns-clause-builds g c = c.check_named-done.ensures.builds.each
+
+pub returns-clause-last : goal.returns-clause-last
+returns-clause-last g c = c.check_named-done.ensures.builds.count

@@ -7,4 +7,4 @@ pub returns-in_default : goal.returns-in_default
 returns-in_default g c = record { exact = ap (option_map (declared_in c.args.kind)) c.in_default.ensures.program }
 
 pub returns : goal.returns
-returns g c = record { exact = ap Some c.count_of.ensures.exact ∙ ap (option_map (declared_in c.args.kind)) c.in-Some.ensures.program }
+returns g c = record { exact = ap Some c.declared_count.ensures.exact ∙ ap (option_map (declared_in c.args.kind)) c.in-Some.ensures.program }

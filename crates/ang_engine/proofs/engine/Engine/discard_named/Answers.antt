@@ -1,4 +1,4 @@
-use Rattle.std.proofs.Common.{◌≡◌, [], Some, refl, inr}
+use Rattle.std.proofs.Common.{◌≡◌, [], Some, None, refl, inr, subst}
 use Rattle.ang_heap.specs.Globals.{values_in}
 use Rattle.ang_engine_modules.specs.Commands.{discard}
 use Rattle.ang_engine_modules.specs.World.{module_named}
@@ -9,6 +9,9 @@ use Rattle.ang_engine.proofs.Kept.{removed_sound, removed_globals}
 use Rattle.ang_engine.proofs.Removing.{removed-values, removed-leads, removed-asked}
 use Rattle.ang_engine.proofs.Whole.{sound-asked}
 use Rattle.ang_host.specs.Logs.{listed_in}
+use Rattle.ang_engine.proofs.Moved.{same_moved, nothing_built, gone_numbers, gone_moved}
+use Rattle.ang_engine_modules.specs.States.{build_at}
+use Rattle.ang_engine.specs.Prepared.{HaveMoved}
 use Rattle.ang_engine.proofs.engine.Engine.discard_named.Goals as goal
 
 -- ---- there is no module of that name
@@ -53,6 +56,19 @@ returns-clause-sound g c =
     (removed-values (λ v. (g.dyn-1.0.entry v).1) R x y c.in-Some.home s t c.args.events.now c.end_globals.new.events c.requires.first c.end_globals.ensures.ended) c.requires.sound.globals)
     (removed-asked (λ v. (g.dyn-1.0.entry v).1) R x y c.in-Some.home s t c.args.events.now c.end_globals.new.events c.requires.first c.end_globals.ensures.ended _ c.requires.ready c.requires.sound.counted
     c.end_globals.ensures.moves)
+    (gone_numbers x y c.in-Some.home c.remove_module.ensures.places c.remove_module.ensures.builds c.requires.sound.numbered)
 
 pub returns-clause-heard : goal.returns-clause-heard
 returns-clause-heard g c = (c.end_globals.ensures.moves []).heard
+
+pub returns-in_default-clause-prepared : goal.returns-in_default-clause-prepared
+returns-in_default-clause-prepared g c = same_moved c.args.self.now.modules c.args.self.now.modules None refl (nothing_built c.args.self.now.modules)
+
+pub returns-clause-prepared : goal.returns-clause-prepared
+returns-clause-prepared g c =
+    let x = c.args.self.now.modules in
+    let y = c.remove_module.new.list in
+    let found : Some c.in-Some.home ≡ module_named c.args.name.now (world_in (λ v. (g.dyn-1.0.entry v).1) c.args.self.now) =
+    found_same _ _ _ x.code _ _ (c.in-Some.ensures.exact x.code) c.deref.ensures.value refl in
+    subst (λ o. HaveMoved o x.builds (build_at x.places.items) y.builds (build_at y.places.items)) found
+    (gone_moved x y c.in-Some.home c.remove_module.ensures.places c.remove_module.ensures.builds)

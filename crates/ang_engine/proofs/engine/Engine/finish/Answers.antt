@@ -4,14 +4,15 @@ use Rattle.ang_meaning.specs.Counting.{IsCounted}
 use Rattle.ang_heap.specs.Globals.{values_in}
 use Rattle.ang_heap.specs.Stores.{world_of}
 use Rattle.ang_engine_modules.specs.Sound.{HaveGlobals}
-use Rattle.ang_engine_modules.specs.States.{places_of, states_in}
+use Rattle.ang_engine_modules.specs.States.{places_of, states_in, build_at}
 use Rattle.ang_engine_modules.specs.World.{left_to}
 use Rattle.ang_engine_modules.proofs.Keeping.{same_modules}
 use Rattle.ang_engine.specs.Applied.{Applied}
-use Rattle.ang_engine.specs.Engines.{registrations, world_in, drivers_in}
+use Rattle.ang_engine.specs.Engines.{registrations, world_in, drivers_in, last_build, builds_in}
 use Rattle.ang_engine.specs.Limited.{StaysWithin}
 use Rattle.ang_engine.specs.Replies.{reply_in}
 use Rattle.ang_engine.specs.Sound.{IsBuiltBy, HaveDrivers}
+use Rattle.ang_engine.specs.Prepared.{HaveMoved, replaced}
 use Rattle.ang_engine.proofs.engine.Engine.finish.Goals as goal
 
 -- a command that has begun is over the same world
@@ -27,6 +28,7 @@ dispatch-finished-requires g c =
         in_list = subst (λ bs. HaveDrivers R (length bs)) (sym (ap (λ s. members s.drivers) c.begin_command.ensures.set)) c.requires.sound.in_list;
         kept = c.begin_command.ensures.kept;
         counted = subst (λ w. IsCounted [] w) (sym c.begin_command.ensures.world) c.requires.sound.counted;
+        numbered = record { begun = c.requires.sound.numbered.begun };
       };
     }
 
@@ -49,7 +51,7 @@ returns-clause-within g c =
 pub returns-clause-sound : goal.returns-clause-sound
 returns-clause-sound g c =
     let s = c.dispatch-finished.ensures.sound in
-    record { modules = s.modules; globals = s.globals; in_list = s.in_list; kept = s.kept; counted = s.counted }
+    record { modules = s.modules; globals = s.globals; in_list = s.in_list; kept = s.kept; counted = s.counted; numbered = s.numbered }
 
 pub returns-clause-heard : goal.returns-clause-heard
 returns-clause-heard g c = c.dispatch-finished.ensures.heard
@@ -65,3 +67,14 @@ returns-clause-ticks g c = subst (λ n. c.end_last-ticks.result ≤ n) c.budget_
 
 pub returns-clause-no_ticks : goal.returns-clause-no_ticks
 returns-clause-no_ticks g c = c.end_last-ticks.ensures.none
+
+pub returns-clause-prepared : goal.returns-clause-prepared
+returns-clause-prepared g c =
+    let x = c.args.self.now.modules in
+    let after = c.dispatch-finished.new.self in
+    subst (λ s. HaveMoved (replaced c.args.command c.dispatch-finished.result.outcome (left_to (states_in x) (world_of (λ v. (g.dyn-1.0.entry v).1) s))) x.builds (build_at x.places.items) (last_build after) (builds_in after))
+    c.begin_command.ensures.set
+    (subst (λ k. HaveMoved (replaced c.args.command c.dispatch-finished.result.outcome
+    (left_to (record { places = places_of x.places.items k; order = x.order.items }) (world_of (λ v. (g.dyn-1.0.entry v).1) c.begin_command.new.store)))
+    x.builds (build_at x.places.items) (last_build after) (builds_in after))
+    c.forget_failed.ensures.same c.dispatch-finished.ensures.prepared)

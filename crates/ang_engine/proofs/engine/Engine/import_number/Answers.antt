@@ -6,7 +6,7 @@ use Rattle.ang_engine.proofs.engine.Engine.import_number.Goals as goal
 
 pub returns-in-Some : goal.returns-in-Some
 returns-in-Some g c = record {
-  exact = subst (λ o. IfOk c.import_in.result (λ number. number ≡ option_and_then (λ (p : Program). import_in p c.args.decl.now) o)) c.in-Some.ensures.program c.import_in.ensures.exact;
+  exact = subst (λ o. IfOk c.declared_import.result (λ number. number ≡ option_and_then (λ (p : Program). import_in p c.args.decl.now) o)) c.in-Some.ensures.program c.declared_import.ensures.exact;
 }
 
 pub returns-in-None : goal.returns-in-None

@@ -16,7 +16,7 @@ pub returns-in-Some-loaded-clause-program : goal.returns-in-Some-loaded-clause-p
 returns-in-Some-loaded-clause-program g c =
     let m = c.args.self.now.modules in
     let w = world_in (λ v. (g.dyn-1.0.entry v).1) c.args.self.now in
-    let found : Some c.in-Some.home ≡ module_named c.args.module.now w = found_same _ _ _ m.code _ _ (c.in-Some.ensures.exact m.code) c.deref.ensures.value refl in
+    let found : Some c.in-Some.home ≡ module_named c.args.name.now w = found_same _ _ _ m.code _ _ (c.in-Some.ensures.exact m.code) c.deref.ensures.value refl in
     let there : IsSome (slice_index_or m.places.items c.in-Some.home None) = subst (λ xs. IsSome (slice_index_or xs c.in-Some.home None)) c.deref.ensures.value c.in-Some.ensures.there in
     sym (program_there m.places.items m.code c.in-Some.home (Some c.in-Some-loaded.loaded.now) there c.in-Some-loaded.ensures.exact) ∙ ap (λ o. program_at o w) found
 
@@ -29,6 +29,6 @@ pub returns-in-None-clause-program : goal.returns-in-None-clause-program
 returns-in-None-clause-program g c =
     let m = c.args.self.now.modules in
     let w = world_in (λ v. (g.dyn-1.0.entry v).1) c.args.self.now in
-    let found : Some c.in-Some.home ≡ module_named c.args.module.now w = found_same _ _ _ m.code _ _ (c.in-Some.ensures.exact m.code) c.deref.ensures.value refl in
+    let found : Some c.in-Some.home ≡ module_named c.args.name.now w = found_same _ _ _ m.code _ _ (c.in-Some.ensures.exact m.code) c.deref.ensures.value refl in
     let there : IsSome (slice_index_or m.places.items c.in-Some.home None) = subst (λ xs. IsSome (slice_index_or xs c.in-Some.home None)) c.deref.ensures.value c.in-Some.ensures.there in
     sym (program_there m.places.items m.code c.in-Some.home None there c.in-None.ensures.exact) ∙ ap (λ o. program_at o w) found

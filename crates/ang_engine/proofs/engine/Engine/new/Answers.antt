@@ -5,6 +5,7 @@ use Rattle.ang_heap.specs.Globals.{values_in}
 use Rattle.ang_heap.specs.Stores.{world_of}
 use Rattle.ang_engine_modules.specs.declared.module.ModuleList.{ModuleList}
 use Rattle.ang_engine.specs.Sound.{HaveDrivers}
+use Rattle.ang_engine.proofs.Moved.{no_numbers}
 use Rattle.ang_engine.proofs.Beginning.{no_sound_modules, no_globals, world_begun}
 use Rattle.ang_engine.proofs.engine.Engine.new.Goals as goal
 
@@ -26,4 +27,5 @@ returns-in-Ok-clause-sound g c =
       in_list = subst (λ bs. HaveDrivers R (length bs)) (sym c.machine_of.ensures.drivers) have;
       kept = c.machine_of.ensures.kept;
       counted = c.machine_of.ensures.counted;
+      numbered = no_numbers x c.new.ensures.items;
     }

@@ -1,4 +1,4 @@
-use Rattle.std.proofs.Common.{refl}
+use Rattle.std.proofs.Common.{refl, None}
 use Rattle.ang_heap.specs.Globals.{values_in}
 use Rattle.ang_heap.specs.Stores.{world_of}
 use Rattle.ang_engine.specs.Engines.{registrations, world_in}
@@ -7,6 +7,7 @@ use Rattle.ang_engine_modules.proofs.Worlds.{zip_length}
 use Rattle.ang_engine.proofs.Kept.{nothing_built, added_sound, added_globals, added_counted}
 use Rattle.ang_engine.proofs.Whole.{applied-done}
 use Rattle.ang_engine.proofs.Limiting.{within_globals, within_reply}
+use Rattle.ang_engine.proofs.Moved.{same_numbers, same_moved}
 use Rattle.ang_engine.proofs.engine.Engine.new_module.Goals as goal
 
 pub add_module-done-requires-clause-zipped : goal.add_module-done-requires-clause-zipped
@@ -39,6 +40,7 @@ returns-clause-sound g c =
       in_list = c.requires.sound.in_list;
       kept = record { drivers = c.requires.sound.kept.drivers; alive = c.requires.sound.kept.alive; none = c.requires.sound.kept.none; due = c.requires.sound.kept.due; tallied = c.requires.sound.kept.tallied };
       counted = added_counted x a.new.list gs hs c.args.name a.result w a.ensures.taken a.ensures.globals_unchanged c.requires.sound.counted;
+      numbered = same_numbers x a.new.list a.ensures.builds c.requires.sound.numbered;
     }
 
 pub returns-clause-within : goal.returns-clause-within
@@ -46,3 +48,6 @@ returns-clause-within g c =
     let s = c.args.self.now.machine.store in
     let gs = c.add_module-done.new.globals in
     within_reply (λ v. (g.dyn-1.0.entry v).1) s (record s { globals = gs }) _ _ c.answer.ensures.exact (within_globals (λ v. (g.dyn-1.0.entry v).1) s gs)
+
+pub returns-clause-prepared : goal.returns-clause-prepared
+returns-clause-prepared g c = same_moved c.args.self.now.modules c.add_module-done.new.list None refl c.add_module-done.ensures.builds

@@ -25,4 +25,5 @@ returns-clause-sound g c = record {
   in_list = subst (λ bs. HaveDrivers (registrations c.args.self.now) (length bs)) (sym (ap (λ s. members s.drivers) c.set_limits.ensures.set)) c.requires.sound.in_list;
   kept = c.set_limits.ensures.kept;
   counted = subst (λ w. IsCounted [] w) (sym c.set_limits.ensures.world) c.requires.sound.counted;
+  numbered = c.requires.sound.numbered;
 }

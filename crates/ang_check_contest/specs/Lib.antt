@@ -1,0 +1,9 @@
+pub mod Host
+pub mod Among
+pub mod Added
+pub mod EntryKinds
+pub mod Scopes
+pub mod Contest
+pub mod Scores
+pub mod Told
+pub mod Levels

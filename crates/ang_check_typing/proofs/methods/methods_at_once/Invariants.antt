@@ -1,0 +1,15 @@
+use Rattle.std.proofs.Common.{◌≡◌, drop}
+use Rattle.ang_names_known.specs.Kinds.{numbered}
+use Rattle.ang_check_contest.specs.Contest.{after, fresh}
+use Rattle.ang_check_typing.specs.Methods.{method_entries}
+use Rattle.ang_check_typing.proofs.methods.methods_at_once.Given as goal
+
+abbrev pub invariant-loop-place : goal.invariant-loop-place
+invariant-loop-place l = record {
+  ancestors : l.contest.telling.ancestors ≡ l.lineage;
+  kinds : l.contest.telling.kinds ≡ numbered l.number l.methods.kinds;
+  args : l.contest.telling.args ≡ l.args;
+  entered :
+      after l.lineage l.args l.contest.standing (method_entries l.dispatch l.number l.place (drop l.place l.methods.methods))
+      ≡ after l.lineage l.args fresh (method_entries l.dispatch l.number 0 l.methods.methods);
+}

@@ -1,7 +1,0 @@
-use Rattle.std.proofs.Common.{◌≡◌, ◌++◌, drop}
-use Rattle.ang_names_known.specs.Among.{found_among}
-use Rattle.ang_names_known.proofs.host.functions_among.Given as goal
-
-abbrev pub invariant-loop-number : goal.invariant-loop-number
-invariant-loop-number l =
-    found_among l.wanted l.view l.numbers ≡ l.functions.items ++ found_among l.wanted l.view (drop l.number-index l.numbers)

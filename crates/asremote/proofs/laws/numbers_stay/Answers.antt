@@ -1,0 +1,8 @@
+use Rattle.asremote.proofs.Numbers.{turns_stay, turns_gone}
+use Rattle.asremote.proofs.laws.numbers_stay.Goals as goal
+
+pub returns : goal.returns
+returns c = record {
+  kept = λ R s after turns h number p there. turns_stay number p R s after turns h there;
+  gone = λ R s after turns h p begun gone. (turns_gone p R s after turns h (begun, gone)).1;
+}
