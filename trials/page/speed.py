@@ -9,17 +9,26 @@ from served import seconds_of
 from tabs import bit, choose, opened
 
 ENTRIES, MODULES, MOST, MOST_OPENING = 1000, 64, 100.0, 2000.0  # milliseconds
+MOST_WORK = 50.0  # milliseconds of the page's thread for a change, where all processors are taken
 BITS = [0, 1, 2, 3, 5, 8, 13, 21, 30, 31]
-TRIES = 3
-WATCH = """(() => { window.clicks = []; window.frames = {};
+CLICKS, KEYS = 30, 10
+WATCH = """(() => { window.changes = []; window.frames = {}; window.shown = [];
     document.querySelector('#bits').addEventListener('click', (event) => { if (!event.target.matches('input')) return;
-        window.clicks.push(event.timeStamp); }, true);
+        window.changes.push(event.timeStamp); requestAnimationFrame(() => window.shown.push(LOOKS)); }, true);
     new PerformanceObserver((list) => list.getEntries().forEach(it => {
         window.frames[it.startTime] = Math.max(window.frames[it.startTime] || 0, it.duration); }))
         .observe({ type: 'event', durationThreshold: 16 }); })()"""
 OPENED = "document.querySelector('#share-note').innerText.includes('64 commands')"
-LIT = """[...document.querySelectorAll('#table tbody tr')].filter(row =>
-    row.querySelectorAll('td.cell')[{column}].className === 'cell seen').length"""
+LOOKS = """[...document.querySelectorAll('#table tbody tr')].map(row =>
+    [Number(row.querySelector('.number').textContent), row.querySelectorAll('td.cell')[40].className])"""
+IN_VIEW = """(() => { const box = document.querySelector('#table-scrolls').getBoundingClientRect();
+    const rows = [...document.querySelectorAll('#table tbody tr')].map(it => it.getBoundingClientRect());
+    const head = document.querySelector('#table thead').getBoundingClientRect();
+    return rows.length > 0 && Math.min(...rows.map(it => it.top)) <= head.bottom + 1 && Math.max(...rows.map(it => it.bottom)) >= box.bottom - 2; })()"""
+SETTLED = "new Promise(done => requestAnimationFrame(() => requestAnimationFrame(() => setTimeout(done, 300))))"
+PLACED = """[...document.querySelectorAll('#table tbody tr')].every(it =>
+    Number(it.ariaRowIndex) === Number(it.querySelector('.number').textContent) + 2)"""
+SCROLL = "(() => { const it = document.querySelector('#table-scrolls'), before = it.scrollTop; it.scrollTop += it.clientHeight / 2; return it.scrollTop > before; })()"
 
 
 def masks():
@@ -43,9 +52,11 @@ def try_speed(trial):
         choose(tab, "m40")
         seen = "(() => { const it = document.querySelector('.of-module.chosen').getBoundingClientRect(); return it.right <= innerWidth && it.left > 0; })()"
         trial.that("the chosen module's column is in view", tab.value(seen))
-        tab.value(WATCH)
-        try_bits(trial, tab, 1 << 8)
+        tab.value(WATCH.replace("LOOKS", LOOKS))
+        mask = try_changes(trial, tab, 1 << 8)
         trial.picture(tab, "many", whole=False)
+        try_reading(trial, tab)
+        try_rows(trial, tab, mask)
         trial.same("the console was told no error", tab.complaints(), [])
         tab.close()
 
@@ -67,42 +78,97 @@ def try_opening(trial, served, tab):
         trial.that(f"opening takes {MOST_OPENING:.0f} ms at most", took <= MOST_OPENING, took)
 
 
-def try_bits(trial, tab, mask):
-    """Flips bits of the module m40, each time with as many cells lit as have to be. Each is flipped three times, of which the
-    least time counts. Where more programs run than there are processors, the time of the page's own thread counts alone."""
-    frames, threads, times = [], [], []
-    for number in BITS:
-        tried = []
-        for _ in range(TRIES):
-            tried.append(flip_times(tab, number))
+def looks(numbers, mask):
+    """How the rows of some entries look in the column of a module that is not built and has a mask."""
+    return [[it, "cell seen" if masks()[it] & mask else "cell hidden"] for it in numbers]
+
+
+def try_changes(trial, tab, mask):
+    """Flips bits of the module m40, by clicks and then by the space bar: the next frame has the table as it has to be. Where
+    more programs run than there are processors, the time of the page's own thread counts alone. Gives the mask."""
+    idle = sorted(idle_work(tab) for _ in range(5))[2]
+    print(f"a click on nothing takes {idle:.0f} ms of the page's thread, which are in what it works for a change too")
+    for what, count, do in (("click", CLICKS, tab.click), ("key", KEYS, lambda selector: press(tab, selector))):
+        frames, work = [], []
+        for number in (BITS * CLICKS)[:count]:
             mask ^= 1 << number
-            trial.same(
-                f"entries that m40 sees under {mask:08x}",
-                tab.value(LIT.format(column=40)),
-                sum(bool(it & mask) for it in masks()),
-            )
-        frames.append(min(it[0] for it in tried))
-        threads.append(min(it[1] for it in tried))
-        times += [it[0] for it in tried]
-    waiting, times = os.getloadavg()[0], sorted(times)
-    print(f"from a click on a bit to the next frame: {times[0]:.0f} ms at least, {times[len(times) // 2]:.0f} in the middle, {times[-1]:.0f} at most; "
-          f"work for it: {max(threads):.0f} ms at most; {waiting:.1f} programs on {os.cpu_count()} processors")
-    trial.that(f"a change of a mask takes {MOST:.0f} ms of work at most", max(threads) <= MOST, threads)
+            took, worked, shown = change_times(tab, number, do)
+            trial.same(f"what the next frame shows of m40 under {mask:08x}", shown, looks([it[0] for it in shown], mask))
+            trial.that("with the rows in view", len(shown) > 12 and tab.value(IN_VIEW), len(shown))
+            frames.append(took)
+            work.append(worked)
+        judge(trial, what, frames, work)
+    return mask
+
+
+def judge(trial, what, frames, work):
+    """Prints and compares the times of changes."""
+    waiting, frames, work = os.getloadavg()[0], sorted(frames), sorted(work)
+    within = sum(it <= MOST for it in frames)
+    print(f"from a {what} on a bit to the next frame, {len(frames)} times: {frames[0]:.0f} ms at least, {frames[len(frames) // 2]:.0f} in the middle, "
+          f"{frames[-1]:.0f} at most, {within} within {MOST:.0f}; the page's thread worked {work[0]:.0f} to {work[-1]:.0f} ms, {work[len(work) // 2]:.0f} in the "
+          f"middle; {waiting:.1f} programs on {os.cpu_count()} processors")
+    trial.that(f"a change takes {MOST_WORK:.0f} ms of work in the middle", work[len(work) // 2] <= MOST_WORK, work)
     if waiting < os.cpu_count():
-        trial.that(f"a change of a mask shows within {MOST:.0f} ms", max(frames) <= MOST, frames)
+        trial.that(f"each {what} shows within {MOST:.0f} ms", within == len(frames), frames)
     else:
         print("frames are not judged: the machine is too busy")
 
 
-def flip_times(tab, number):
-    """The milliseconds from a click on a bit to the frame that shows what it changed, of which those below 16 are told as 16;
-    and those that the page's thread worked for it, up to the engine's answer and what is drawn then."""
+def press(tab, selector):
+    """Presses the space bar on an element."""
+    tab.value(f"document.querySelector({json.dumps(selector)}).focus()")
+    tab.press("Space")
+
+
+def change_times(tab, number, do):
+    """The milliseconds from an event on a bit to the frame that shows what it changed, of which those below 16 are told as 16;
+    those that the page's thread worked for it, up to the engine's answer and what is drawn then; and what that frame shows."""
     tab.middle(bit(number))
-    worked, before = worked_so_far(tab), tab.value("window.clicks.length")
-    tab.click(bit(number))
-    tab.wait(f"window.clicks.length === {before + 1}")
-    tab.value("new Promise(done => requestAnimationFrame(() => requestAnimationFrame(() => setTimeout(done, 300))))")
-    return tab.value("window.frames[window.clicks.at(-1)] || 16"), worked_so_far(tab) - worked
+    worked, before = worked_so_far(tab), tab.value("window.changes.length")
+    do(bit(number))
+    tab.wait(f"window.changes.length === {before + 1}")
+    tab.value(SETTLED)
+    return tab.value("window.frames[window.changes.at(-1)] || 16"), worked_so_far(tab) - worked, tab.value("window.shown.at(-1)")
+
+
+def idle_work(tab):
+    """The milliseconds that the page's thread works for a click that changes nothing, its driver's questions among them."""
+    tab.middle("#registrations .above")
+    worked = worked_so_far(tab)
+    tab.click("#registrations .above")
+    tab.value(SETTLED)
+    return worked_so_far(tab) - worked
+
+
+def try_reading(trial, tab):
+    """Rows that are there tell where they stand among all; and one whose text is selected stays, where the table is scrolled away."""
+    trial.same("the table tells how many rows it has", tab.value("document.querySelector('#table').ariaRowCount"), str(ENTRIES + 1))
+    trial.that("each row tells its place", tab.value(PLACED))
+    trial.that("each cell is told in words", tab.value("[...document.querySelectorAll('#table td.cell')].every(it => it.ariaLabel)"))
+    tab.value("getSelection().selectAllChildren(document.querySelector('#table tbody tr .told'))")
+    tab.value("document.querySelector('#table-scrolls').scrollTop = 5000")
+    trial.that("the table is scrolled", tab.wait(f"{IN_VIEW} && {PLACED} && document.querySelectorAll('#table tbody tr').length < 60"))
+    trial.that("what is selected stays", "int64 entry_0(int64, int64)" in tab.value("getSelection().toString()"))
+    tab.value("getSelection().removeAllRanges(); document.querySelector('#table-scrolls').scrollTop = 0")
+
+
+def try_rows(trial, tab, mask):
+    """Goes through the table: rows that come into view show what was changed before they came. Others are found by their text."""
+    seen = {}
+    while True:
+        trial.that("the view is full of rows", tab.wait(IN_VIEW), len(seen))
+        seen.update(tab.value(LOOKS))
+        if not tab.value(SCROLL):
+            break
+    trial.same("all rows come into view, as they have to look", [[it, seen.get(it)] for it in range(ENTRIES)], looks(range(ENTRIES), mask))
+    trial.picture(tab, "many-end", whole=False)
+    tab.write("#find", "ENTRY_98")
+    trial.same("rows that are found", tab.value(LOOKS), looks([98, *range(980, 990)], mask))
+    tab.write("#find", "")
+    trial.same("there is a first row again", tab.value(LOOKS)[0], looks([0], mask)[0])
+    tab.value("document.querySelector('#table-scrolls').scrollTop = 0")
+    trial.that("and it is in view", tab.wait(f"{IN_VIEW} && document.querySelector('#table tbody tr .number').textContent === '0'"))
 
 
 def worked_so_far(tab):

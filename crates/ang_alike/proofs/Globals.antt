@@ -81,7 +81,9 @@ module _ (apart : Type 0) (r : Renaming) where
     hosts = h.hosts;
     globals = ap (λ ls. slice_set ls m k) h.globals ∙ ap (λ q. slice_set (renamed_lists r v.globals) m q) e ∙ lists_set apart r v.globals m l;
     events = h.events;
+    reserved = h.reserved;
     spent = h.spent;
+    bounds = h.bounds;
     inputs = h.inputs;
   }
 
@@ -129,6 +131,8 @@ place_alike apart r v w h = record {
   hosts = h.hosts;
   globals = ap (λ ls. ls ++ [] ∷ []) h.globals ∙ sym (map-append (renamed_all r) v.globals ([] ∷ []));
   events = h.events;
+  reserved = h.reserved;
   spent = h.spent;
+  bounds = h.bounds;
   inputs = h.inputs;
 }

@@ -13,3 +13,4 @@ pub mod Steps
 pub mod Unseen
 pub mod Compared
 pub mod Sessions
+pub mod Unrefused

@@ -1,5 +1,6 @@
 -- Lists of commands over two lists that show the same to the masks of builds have the same replies, apart from denials.
 use Rattle.std.proofs.Common.{◌≡◌, ◌≤◌, ℕ, inl, inr, List, [], ◌∷◌, ◌++◌, length, refl, sym, ap, ap₂, ◌∙◌, subst, Option, Some, None, map as list_map}
+use Rattle.std.proofs.Math.Nat.{sub-zero}
 use Rattle.std.specs.Prelude.{option_map}
 use Rattle.std.specs.FinMap.{get-empty}
 use Rattle.std.specs.Ordering.{nat_cmp}
@@ -8,7 +9,7 @@ use Rattle.ang_engine_modules.specs.Modules.{link_at}
 use Rattle.ang_host.specs.State.{count_of}
 use Rattle.ang_view.specs.Registration.{RegistrationList}
 use Rattle.ang_view.specs.Values.{TakesValues}
-use Rattle.ang_meaning.specs.World.{Input, World as RunWorld}
+use Rattle.ang_meaning.specs.World.{Bounds, Input, World as RunWorld}
 use Rattle.ang_meaning.specs.Counting.{IsCounted}
 use Rattle.ang_meaning.specs.Alike.{Renaming, unchanged, renamed_record}
 use Rattle.ang_meaning.proofs.AlikeWorlds.{three}
@@ -19,10 +20,10 @@ use Rattle.ang_code_laws.proofs.AlikeRuns.{LeftAlike, match_then, begun}
 use Rattle.ang_engine_modules.specs.declared.command.Command.{Command}
 use Rattle.ang_engine_modules.specs.declared.command.Command.TheVariants.{NewModule, SetMask, AddSection, Build, Bind, Unbind, Call, Discard}
 use Rattle.ang_engine_modules.specs.declared.reply.Reply.{Reply}
-use Rattle.ang_engine_modules.specs.World.{ModuleStates, World, no_modules, running, left_to}
+use Rattle.ang_engine_modules.specs.World.{ModuleStates, World, no_modules, bounded_by, running, left_to}
 use Rattle.ang_engine_modules.specs.Commands.{Stepped}
 use Rattle.ang_engine.specs.Step.{step, Takes}
-use Rattle.ang_alike.specs.Alike.{Grants, InTurn, SeesSame, grants_in, Agree, TakenAlike, BothInTurn, answers_in, undenied, HiddenDoesNotMatter, AnswersDecide, ToldAlikeReplyAlike, ToldAlikeReplySame}
+use Rattle.ang_alike.specs.Alike.{BoundedCommand, Grants, InTurn, SeesSame, grants_in, Agree, TakenAlike, BothInTurn, answers_in, undenied, HiddenDoesNotMatter, AnswersDecide, ToldAlikeReplyAlike, ToldAlikeReplySame}
 use Rattle.ang_alike.proofs.Modules.{AreGood}
 use Rattle.ang_alike.proofs.Steps.{AreSame, SteppedAlike, BothAlike, step_alike}
 use Rattle.ang_alike.proofs.Unseen.{bare, hidden_same}
@@ -37,6 +38,29 @@ pub record AreBetween (w u : World) : Type 0 where
   pub alike : AreAlike by (running w []) (running u [])
   pub counted : IsCounted [] (running w [])
   pub good : AreGood w.modules
+
+-- both hosts allow as much from now on
+within_both : (b : Bounds) (w u : World) → AreBetween w u → AreBetween (bounded_by b w) (bounded_by b u)
+within_both b w u h = record {
+  modules = h.modules;
+  by = h.by;
+  alike = record {
+    objects = h.alike.objects;
+    hosts = h.alike.hosts;
+    globals = h.alike.globals;
+    events = refl;
+    reserved = h.alike.reserved;
+    spent = h.alike.spent;
+    bounds = refl;
+    inputs = refl;
+  };
+  counted = h.counted;
+  good = h.good;
+}
+
+-- a world is what is left of a run that begins there and does nothing
+begun_from : (w : World) → w ≡ left_to w.modules (running w [])
+begun_from w = ap (λ n. record w { live = n }) (sym (sub-zero w.live))
 
 -- ---- what two commands leave
 
@@ -59,7 +83,7 @@ between_of : (a b : Stepped) → AreSame ⊥ a b → AreBetween a.world b.world
 between_of a b m = record {
   modules = m.modules;
   by = m.by;
-  alike = record { objects = m.alike.objects; hosts = m.alike.hosts; globals = m.alike.globals; events = refl; spent = m.alike.spent; inputs = refl };
+  alike = record { objects = m.alike.objects; hosts = m.alike.hosts; globals = m.alike.globals; events = refl; reserved = m.alike.reserved; spent = m.alike.spent; bounds = m.alike.bounds; inputs = refl };
   counted = m.counted;
   good = m.good;
 }
@@ -129,31 +153,33 @@ module _ (R S : RegistrationList) (values : TakesValues R) (few : length R ≤ 1
 
   between_commands : (w u : World) (c : Command) (reply answer : Reply) (after left : World) → AreBetween w u → TakenAlike R S w u c reply answer after left → AreTold (R ≡ S) reply answer after left
   between_commands w u c reply answer after left b h =
-      let there : u ≡ left_to w.modules (running u []) = ap (λ ss. left_to ss (running u [])) b.modules in
-      let two = subst (λ x. (t : Takes S x c answer left) × Agree (grants_in h.one.used) (grants_in t.used)) there (h.other, h.granted) in
-      command_alike w.modules b.good b.by (running w []) (running u []) b.counted b.alike c (sees_again R S w (running u []) c h.sees) reply answer after left h.one two.0 two.1 h.answers
+      let here : w ≡ left_to w.modules (running w []) = begun_from w in
+      let there : u ≡ left_to w.modules (running u []) = begun_from u ∙ ap (λ ss. left_to ss (running u [])) b.modules in
+      let one = subst (λ x. (t : Takes R x c reply after) × Agree (grants_in t.used) (grants_in h.other.used)) here (h.one, h.granted) in
+      let two = subst (λ x. (t : Takes S x c answer left) × Agree (grants_in one.0.used) (grants_in t.used)) there (h.other, one.1) in
+      command_alike w.modules b.good b.by (running w []) (running u []) b.counted b.alike c (sees_again R S w (running u []) c h.sees) reply answer after left one.0 two.0 two.1 h.answers
 
   -- ---- commands in turn
 
-  pub all_alike : (cs : List Command) (rs ss : List Reply) (w u v x : World) → AreBetween w u → BothInTurn (TakenAlike R S) w u cs rs ss v x → list_map undenied rs ≡ list_map undenied ss
+  pub all_alike : (cs : List BoundedCommand) (rs ss : List Reply) (w u v x : World) → AreBetween w u → BothInTurn (TakenAlike R S) w u cs rs ss v x → list_map undenied rs ≡ list_map undenied ss
   all_alike [] [] [] w u v x b d = refl
   all_alike [] [] (s ∷ ss) w u v x b d = absurd d
   all_alike [] (r ∷ rs) ss w u v x b d = absurd d
   all_alike (c ∷ cs) [] ss w u v x b d = absurd d
   all_alike (c ∷ cs) (r ∷ rs) [] w u v x b d = absurd d
   all_alike (c ∷ cs) (r ∷ rs) (s ∷ ss) w u v x b d =
-      let one = between_commands w u c r s d.0 d.1 b d.2 in
+      let one = between_commands (bounded_by c.bounds w) (bounded_by c.bounds u) c.command r s d.0 d.1 (within_both c.bounds w u b) d.2 in
       ap₂ (λ y ys. y ∷ ys) one.same (all_alike cs rs ss d.0 d.1 v x one.between d.3)
 
   -- over one list
-  pub all_same : R ≡ S → (cs : List Command) (rs ss : List Reply) (w u v x : World) → AreBetween w u → BothInTurn (TakenAlike R S) w u cs rs ss v x → rs ≡ ss
+  pub all_same : R ≡ S → (cs : List BoundedCommand) (rs ss : List Reply) (w u v x : World) → AreBetween w u → BothInTurn (TakenAlike R S) w u cs rs ss v x → rs ≡ ss
   all_same one_list [] [] [] w u v x b d = refl
   all_same one_list [] [] (s ∷ ss) w u v x b d = absurd d
   all_same one_list [] (r ∷ rs) ss w u v x b d = absurd d
   all_same one_list (c ∷ cs) [] ss w u v x b d = absurd d
   all_same one_list (c ∷ cs) (r ∷ rs) [] w u v x b d = absurd d
   all_same one_list (c ∷ cs) (r ∷ rs) (s ∷ ss) w u v x b d =
-      let one = between_commands w u c r s d.0 d.1 b d.2 in
+      let one = between_commands (bounded_by c.bounds w) (bounded_by c.bounds u) c.command r s d.0 d.1 (within_both c.bounds w u b) d.2 in
       ap₂ (λ y ys. y ∷ ys) (one.whole one_list) (all_same one_list cs rs ss d.0 d.1 v x one.between d.3)
 
 -- ---- what was granted was told alike
@@ -166,7 +192,7 @@ later : {A : Type 0} → List A → List A
 later [] = []
 later (x ∷ xs) = xs
 
-together : (R S : RegistrationList) (cs : List Command) (rs ss : List Reply) (w u v x : World) → InTurn (λ y c r t. Grants R y c r t × SeesSame R S y c) w cs rs v → InTurn (Grants S) u cs ss x
+together : (R S : RegistrationList) (cs : List BoundedCommand) (rs ss : List Reply) (w u v x : World) → InTurn (λ y c r t. Grants R y c r t × SeesSame R S y c) w cs rs v → InTurn (Grants S) u cs ss x
     → list_map answers_in rs ≡ list_map answers_in ss → BothInTurn (TakenAlike R S) w u cs rs ss v x
 unfolding first_or later
 together R S [] [] [] w u v x d e k = (d, e)
@@ -197,7 +223,9 @@ empty_between = record {
     hosts = refl;
     globals = refl;
     events = refl;
+    reserved = refl;
     spent = refl;
+    bounds = refl;
     inputs = refl;
   };
   counted = nothing_counted (running no_modules []) refl (λ d k. ap count_of (get-empty {X = ℕ} nat_cmp k)) (λ x. refl);
@@ -225,11 +253,11 @@ sees_itself R w (Unbind name index) = tt
 sees_itself R w (Call name decl args budget) = tt
 sees_itself R w (Discard name) = tt
 
-with_itself : (R : RegistrationList) (cs : List Command) (rs : List Reply) (w v : World) → InTurn (Grants R) w cs rs v → InTurn (λ y c r t. Grants R y c r t × SeesSame R R y c) w cs rs v
+with_itself : (R : RegistrationList) (cs : List BoundedCommand) (rs : List Reply) (w v : World) → InTurn (Grants R) w cs rs v → InTurn (λ y c r t. Grants R y c r t × SeesSame R R y c) w cs rs v
 with_itself R [] [] w v d = d
 with_itself R [] (r ∷ rs) w v d = d
 with_itself R (c ∷ cs) [] w v d = d
-with_itself R (c ∷ cs) (r ∷ rs) w v d = (d.0, (d.1, sees_itself R w c), with_itself R cs rs d.0 v d.2)
+with_itself R (c ∷ cs) (r ∷ rs) w v d = (d.0, (d.1, sees_itself R (bounded_by c.bounds w) c.command), with_itself R cs rs d.0 v d.2)
 
 pub answers_decide : AnswersDecide
 answers_decide R cs rs ss v w registered d e k =

@@ -1,5 +1,5 @@
 -- One command does the same in two worlds that are alike.
-use Rattle.std.proofs.Common.{◌≡◌, ◌≤◌, ◌+◌, ℕ, inl, inr, List, [], ◌∷◌, ◌++◌, length, refl, sym, ap, subst, Option, Some, None}
+use Rattle.std.proofs.Common.{◌≡◌, ◌≤◌, ◌+◌, ◌-◌, ℕ, inl, inr, List, [], ◌∷◌, ◌++◌, length, refl, sym, ap, ap₂, subst, Option, Some, None}
 use Rattle.std.specs.Prelude.{◌⊎◌, Bool, true, false, Result, Ok, Err, nat_le, is_none, position, slice_get, slice_set, slice_index_or, if◌then◌else◌}
 use Rattle.ang_kinds.specs.declared.error.Error.{Error}
 use Rattle.ang_kinds.specs.declared.error.Denial.{Denial}
@@ -11,7 +11,7 @@ use Rattle.ang_view.specs.Registration.{RegistrationList, seen}
 use Rattle.ang_view.specs.Values.{TakesValues}
 use Rattle.ang_meaning.specs.declared.slot.Slot.{Slot}
 use Rattle.ang_meaning.specs.declared.routine.Routine.{Routine}
-use Rattle.ang_meaning.specs.World.{Input, Room, Said, Tallied, Fresh, World as RunWorld, with_inputs}
+use Rattle.ang_meaning.specs.World.{Input, Room, Said, Tallied, Fresh, World as RunWorld, with_inputs, live_hosts}
 use Rattle.ang_meaning.specs.Counting.{IsCounted}
 use Rattle.ang_meaning.specs.Alike.{Renaming}
 use Rattle.ang_meaning.proofs.AlikeWorlds.{three, HasMore}
@@ -63,6 +63,23 @@ none_first apart (Some b) = tt
 more_is : (w : RunWorld) → HasMore w → IsMore w.inputs
 more_is w h = subst IsMore (sym h.inputs) tt
 
+-- as many host objects live
+live_same : (apart : Type 0) (r : Renaming) (v w : RunWorld) → AlikeUpTo apart r v w → live_hosts w ≡ live_hosts v
+live_same apart r v w h = ap₂ (λ n es. n - length es) h.reserved h.events
+
+-- what a run leaves is alike where the next one begins
+begins_again : (apart : Type 0) (ms : ModuleStates) (r : Renaming) (v w : RunWorld) → AlikeUpTo apart r v w → AlikeUpTo apart r (running (left_to ms v) v.inputs) (running (left_to ms w) w.inputs)
+begins_again apart ms r v w h = record {
+  objects = h.objects;
+  hosts = h.hosts;
+  globals = h.globals;
+  events = refl;
+  reserved = live_same apart r v w h;
+  spent = h.spent;
+  bounds = h.bounds;
+  inputs = h.inputs;
+}
+
 module _ (apart : Type 0) where
   if_alike : (b : Bool) (o p q s : Option Stepped) → BothAlike apart o q → BothAlike apart p s → BothAlike apart (if b then o else p) (if b then q else s)
   if_alike true o p q s h k = h
@@ -76,7 +93,7 @@ module _ (apart : Type 0) where
     modules = refl;
     counted = p;
     good = good;
-    alike = record { objects = h.objects; hosts = h.hosts; globals = h.globals; events = refl; spent = h.spent; inputs = h.inputs };
+    alike = begins_again apart ms r v w h;
   })
 
   -- a run has ended
@@ -87,7 +104,7 @@ module _ (apart : Type 0) where
     modules = refl;
     counted = p;
     good = good;
-    alike = record { objects = h.objects; hosts = h.hosts; globals = h.globals; events = refl; spent = h.spent; inputs = h.inputs };
+    alike = begins_again apart ms r v w h;
   })
 
   errors_alike : (es : List Error) (ds : List Denial) (ms : ModuleStates) (r : Renaming) (v w : RunWorld) → AreGood ms → IsCounted [] v → AlikeUpTo apart r v w → BothAlike apart (Some (after_errors es ds ms v)) (Some (after_errors es ds ms w))
@@ -97,7 +114,7 @@ module _ (apart : Type 0) where
     modules = refl;
     counted = p;
     good = good;
-    alike = record { objects = h.objects; hosts = h.hosts; globals = h.globals; events = refl; spent = h.spent; inputs = h.inputs };
+    alike = begins_again apart ms r v w h;
   })
 
   -- Modules and two worlds of runs beside them, which are alike and told these inputs.
@@ -158,7 +175,7 @@ module _ (apart : Type 0) where
     X = running U w.inputs
 
     begins : AlikeUpTo apart r V X
-    begins = record { objects = h.objects; hosts = h.hosts; globals = h.globals; events = refl; spent = h.spent; inputs = h.inputs }
+    begins = begins_again apart ms r v w h
 
     -- ---- Discard
 
@@ -310,14 +327,14 @@ module _ (apart : Type 0) (R : RegistrationList) (values : TakesValues R) (few :
       let h = alike is js m.1 in
       let V = running before is in
       let X = running again js in
-      let begins : AlikeUpTo apart r V X = record { objects = h.objects; hosts = h.hosts; globals = h.globals; events = refl; spent = h.spent; inputs = h.inputs } in
+      let begins : AlikeUpTo apart r V X = begins_again apart ms r (with_inputs is v) (with_inputs js w) h in
       built_alike apart ms good r (with_inputs is v) (with_inputs js w) counted h R values few i budget r (globals_ended i V) (globals_ended i X)
       (build_of (seen R (module_at before i).mask) (module_at before i).sections) refl (ended_none i V) (ended_counted i V counted) (ended_alike apart r i V X begins)
   build_alike i budget (Room false ∷ is) (Room false ∷ js) m =
       let h = alike is js m.1 in
       let V = running before is in
       let X = running again js in
-      let begins : AlikeUpTo apart r V X = record { objects = h.objects; hosts = h.hosts; globals = h.globals; events = refl; spent = h.spent; inputs = h.inputs } in
+      let begins : AlikeUpTo apart r V X = begins_again apart ms r (with_inputs is v) (with_inputs js w) h in
       no_memory apart ms good r (with_inputs is v) (with_inputs js w) counted h R values few i r (globals_ended i V) (globals_ended i X) (ended_counted i V counted) (ended_alike apart r i V X begins)
 
   judged_alike : (c : Command) (is js : List Input) → Match apart is js → BothAlike apart (judged R before c is) (judged R again c js)

@@ -7,7 +7,7 @@ ghost use Rattle.ang_typed.specs.Typed.{Program};
 ghost use Rattle.ang_meaning.specs.Environment.{Environment};
 ghost use Rattle.ang_source.specs.Meaning.{Codes};
 ghost use Rattle.ang_alike.specs.SourcesAlike.{AreSoundSources, AreAlikeInRuns};
-ghost use Rattle.ang_alike.specs.Alike.{HiddenDoesNotMatter, AnswersDecide, ToldAlikeReplyAlike, ToldAlikeReplySame};
+ghost use Rattle.ang_alike.specs.Alike.{HiddenDoesNotMatter, AnswersDecide, ToldAlikeReplyAlike, ToldAlikeReplySame, UnrefusedReplyAlike, UnrefusedReplySame};
 
 /// Two calls of a function of sound trees, and a module's initializers run twice, in worlds that are
 /// equal up to the numbers of script objects, and told the same but for these, come to the same but for
@@ -20,14 +20,14 @@ pub fn sources_alike()
 {}
 
 /// Two registration lists that show the same to each mask with which a build is done give equal replies
-/// to equal commands, apart from their denials, where drivers answer the same and all was granted that
-/// was asked for.
+/// to equal commands under equal limits, apart from their denials, where drivers answer the same and
+/// neither memory nor one more reference was refused. A limit may have been met.
 pub fn alike()
     ensures alike { HiddenDoesNotMatter }
 {}
 
-/// Over one registration list equal commands have equal replies, where drivers answer the same and all
-/// was granted that was asked for.
+/// Over one registration list equal commands under equal limits have equal replies, where drivers answer
+/// the same and neither memory nor one more reference was refused.
 pub fn answers_decide()
     ensures same { AnswersDecide }
 {}
@@ -37,4 +37,11 @@ pub fn answers_decide()
 pub fn told_alike()
     ensures alike { ToldAlikeReplyAlike }
     ensures same { ToldAlikeReplySame }
+{}
+
+/// The same as a host can read it off the replies: of commands none of whose replies tells that memory or
+/// one more reference was refused. A limit that was met is told as want of memory, so nothing is said of it.
+pub fn unrefused_alike()
+    ensures alike { UnrefusedReplyAlike }
+    ensures same { UnrefusedReplySame }
 {}

@@ -266,7 +266,7 @@ together z code c d apart m n o p counted h e f =
 -- ---- a command's call, and an initializer
 
 pub begun : (apart : Type 0) (r : Renaming) (is js : List Input) (v w : World) → AreAlike r v w → Match apart is js → AlikeUpTo apart r (with_inputs is v) (with_inputs js w)
-begun apart r is js v w h m = record { objects = h.objects; hosts = h.hosts; globals = h.globals; events = h.events; spent = h.spent; inputs = m }
+begun apart r is js v w h m = record { objects = h.objects; hosts = h.hosts; globals = h.globals; events = h.events; reserved = h.reserved; spent = h.spent; bounds = h.bounds; inputs = m }
 
 module _ (z : Environment) (code : Texts) (r : Renaming) (v w : World) (alike : AreAlike r v w) where
   call_pairs : (budget : ℕ) (g : Routine) (vs : List Slot) → IsCounted vs v → (apart : Type 0) (is js : List Input) (o p : Outcome) → Match apart is js

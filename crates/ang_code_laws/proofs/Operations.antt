@@ -1,5 +1,5 @@
 -- Each strict operation leaves the modules as many globals as they had.
-use Rattle.std.proofs.Common.{ℕ, List, [], ◌∷◌, ◌++◌, Option, Some, None}
+use Rattle.std.proofs.Common.{ℕ, suc, List, [], ◌∷◌, ◌++◌, Option, Some, None}
 use Rattle.std.specs.Prelude.{Bool, true, false, cond, reverse}
 use Rattle.std.specs.FinMap as map
 use Rattle.ang_kinds.specs.declared.mask.EntityNo.{EntityNo}
@@ -21,8 +21,8 @@ use Rattle.ang_meaning.specs.declared.operation.Operation.TheVariants.{Binary, C
 use Rattle.ang_meaning.specs.Numbers.{Worked, Is, Cannot, Changed, Into, Never, binary_result}
 use Rattle.ang_meaning.specs.World.{World, Input, Room, Said, Tallied, Fresh, Tried, Yes, No, memory_step, hold, give, or_else}
 use Rattle.ang_meaning.specs.Environment.{Environment, class_at, use_at}
-use Rattle.ang_meaning.specs.Hosts.{Done, Fine, Fails, accepted, is_void, slot_of, replied_by, is_reply_to, asked_from, asked, value_of, values_of}
-use Rattle.ang_meaning.specs.Perform.{work_done, change_of, global_or, global_put, stored_global, changed_global, Receiver, NoReceiver, Of, NullReceiver, receiver_of, arguments_of, gives_up, called_of, read_of, write_of, in_place_of, altered_to, altered_of, field_or, field_put, may_take, stored_field, changed_field, is_under, cast_to, made_from, perform}
+use Rattle.ang_meaning.specs.Hosts.{Done, Fine, Fails, accepted, is_void, slot_of, one_reserved, replied_by, is_reply_to, may_ask, asked_from, asked, value_of, values_of}
+use Rattle.ang_meaning.specs.Perform.{work_done, change_of, global_or, global_put, stored_global, changed_global, Receiver, NoReceiver, Of, NullReceiver, receiver_of, arguments_of, gives_up, called_of, read_of, write_of, in_place_of, altered_to, altered_of, field_or, field_put, may_take, stored_field, changed_field, is_under, cast_to, may_make, made_from, perform}
 use Rattle.ang_code_laws.proofs.Worlds.{Has, give_has, give_all_has, put_has, field_has, TriedHas, memory_has, more_has, hold_has}
 
 module _ (ns : List ℕ) where
@@ -46,7 +46,7 @@ module _ (ns : List ℕ) where
 
   replied_has : (d : ℕ) (result : HostValueType) (r : HostReply) (w : World) → Has ns w → DoneHas (replied_by d result r w)
   unfolding replied_by
-  replied_has d result (Making (MadeKey k)) w h = more_has ns (Host d (Some k)) w h
+  replied_has d result (Making (MadeKey k)) w h = more_has ns (Host d (Some k)) (one_reserved w) h
   replied_has d result (Making MadeNothing) w h = h
   replied_has d result (Making (MadeFault n)) w h = h
   replied_has d result (Making MadeMemory) w h = h
@@ -66,7 +66,7 @@ module _ (ns : List ℕ) where
     asked_said object args result (Said reply ∷ rest) w h =
         let event = Called (z.name m) e (use_at z m e).driver object args reply in
         kind_has (is_reply_to (use_at z m e).role reply) w _ h
-        (replied_has (use_at z m e).driver result reply (record w { inputs = rest; events = w.events ++ event ∷ [] }) h)
+        (replied_has (use_at z m e).driver result reply (record w { inputs = rest; events = w.events ++ event ∷ []; reserved = suc w.reserved }) h)
     asked_said object args result [] w h = h
     asked_said object args result (Room b ∷ rest) w h = h
     asked_said object args result (Tallied b ∷ rest) w h = h
@@ -78,7 +78,7 @@ module _ (ns : List ℕ) where
 
     asked_has : (object : Option ℕ) (args : List Value) (result : HostValueType) (w : World) → Has ns w → DoneHas (asked z m e object args result w)
     unfolding asked
-    asked_has object args result w h = asked_tried object args result (memory_step w) (memory_has ns w h)
+    asked_has object args result w h = kind_has (may_ask (use_at z m e).role w) w _ h (asked_tried object args result (memory_step w) (memory_has ns w h))
 
     called_has : (r : Receiver) (args : List Slot) (w : World) → Has ns w → DoneHas (called_of z m e r args w)
     called_has NoReceiver args w h = asked_has None (values_of (use_at z m e).driver (use_at z m e).params args) (use_at z m e).result w h
@@ -216,7 +216,7 @@ module _ (ns : List ℕ) where
       let r = receiver_of (use_at z m e) (o ∷ []) in
       gives_up_has (o ∷ []) _ (altered_has z m e r c v (read_of z m e r w) (read_has z m e r w h))
   perform_has z m (Alter e c) (o ∷ (v ∷ (u ∷ us))) w h = h
-  perform_has z m (Make c) [] w h = made_has (class_at z m c) (memory_step w) (memory_has ns w h)
+  perform_has z m (Make c) [] w h = kind_has (may_make (class_at z m c) w) w _ h (made_has (class_at z m c) (memory_step w) (memory_has ns w h))
   perform_has z m (Make c) (v ∷ vs) w h = h
   perform_has z m (FieldGet i) [] w h = h
   perform_has z m (FieldGet i) (Bits x ∷ us) w h = h

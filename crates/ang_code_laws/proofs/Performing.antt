@@ -25,8 +25,8 @@ use Rattle.ang_meaning.specs.Numbers.{Worked, Is, Cannot, Changed, Into, Never, 
 use Rattle.ang_meaning.specs.World.{World, Input, Room, Said, Tallied, Fresh, Tried, Yes, No, memory_step, hold, give, give_all, or_else}
 use Rattle.ang_meaning.specs.declared.class.Class.{Class}
 use Rattle.ang_meaning.specs.Environment.{Environment, class_at, host_in, use_at, is_called_by, is_property, may_call, may_access, may_write, is_fit}
-use Rattle.ang_meaning.specs.Hosts.{Done, Fine, Fails, accepted, is_void, slot_of, replied_by, is_reply_to, asked_from, asked, value_of, values_of}
-use Rattle.ang_meaning.specs.Perform.{work_done, change_of, global_or, global_put, stored_global, changed_global, Receiver, Of, key_at, receiver_of, behind_first, arguments_of, gives_up, called_of, read_of, write_of, in_place_of, altered_to, altered_of, field_or, field_put, may_take, stored_field, changed_field, is_under, cast_to, made_from, perform, member_count, operands, NoReceiver, NullReceiver}
+use Rattle.ang_meaning.specs.Hosts.{Done, Fine, Fails, accepted, is_void, slot_of, one_reserved, replied_by, is_reply_to, may_ask, asked_from, asked, value_of, values_of}
+use Rattle.ang_meaning.specs.Perform.{work_done, change_of, global_or, global_put, stored_global, changed_global, Receiver, Of, key_at, receiver_of, behind_first, arguments_of, gives_up, called_of, read_of, write_of, in_place_of, altered_to, altered_of, field_or, field_put, may_take, stored_field, changed_field, is_under, cast_to, may_make, made_from, perform, member_count, operands, NoReceiver, NullReceiver}
 use Rattle.ang_meaning.proofs.Moving.{give_moves, give_all_moves, put_moves, field_moves}
 use Rattle.ang_code_laws.specs.Asked.{MayBeAsked, ArgumentsBy, FitsUse, Asks}
 use Rattle.ang_code_laws.proofs.Events.{asks_then, nothing, untold, TriedAsks, memory_asks, more_asks, hold_asks}
@@ -131,7 +131,8 @@ module _ (z : Environment) (m : ℕ) where
 
   replied_asks : (d : ℕ) (result : HostValueType) (r : HostReply) (w : World) → DoneAsks w (replied_by d result r w)
   unfolding replied_by
-  replied_asks d result (Making (MadeKey k)) w = more_asks z (Host d (Some k)) w
+  replied_asks d result (Making (MadeKey k)) w =
+      let p = more_asks z (Host d (Some k)) (one_reserved w) in record { more = p.more; events = p.events; askings = p.askings }
   replied_asks d result (Making MadeNothing) w = nothing z w
   replied_asks d result (Making (MadeFault n)) w = nothing z w
   replied_asks d result (Making MadeMemory) w = nothing z w
@@ -142,7 +143,7 @@ module _ (z : Environment) (m : ℕ) where
   replied_asks d result (Asking SaidMemory) w = nothing z w
   replied_asks d result (Asking Full) w = nothing z w
 
-  -- a reply of another kind is left
+  -- a reply of another kind is left, and nothing is asked where a bound is met
   kind_asks : (b : Bool) (w : World) (o : Done) → (b ≡ true → DoneAsks w o) → DoneAsks w (cond b o (Fails Memory w))
   kind_asks true w o p = p refl
   kind_asks false w o p = nothing z w
@@ -152,7 +153,7 @@ module _ (z : Environment) (m : ℕ) where
     asked_said : (object : Option ℕ) (args : List Value) (result : HostValueType) (inputs : List Input) (w : World) → FitsUse (use_at z m e) object args → DoneAsks w (asked_from z m e object args result inputs w)
     asked_said object args result (Said reply ∷ rest) w fits =
         let event = Called (z.name m) e (use_at z m e).driver object args reply in
-        let u : World = record w { inputs = rest; events = w.events ++ event ∷ [] } in
+        let u : World = record w { inputs = rest; events = w.events ++ event ∷ []; reserved = suc w.reserved } in
         kind_asks (is_reply_to (use_at z m e).role reply) w _
         (λ kind. done_then w u _ (record { more = event ∷ []; events = refl; askings = ((m, refl, may, refl, fits, kind), tt) }) (replied_asks (use_at z m e).driver result reply u))
     asked_said object args result [] w fits = nothing z w
@@ -166,7 +167,7 @@ module _ (z : Environment) (m : ℕ) where
 
     asked_asks : (object : Option ℕ) (args : List Value) (result : HostValueType) (w : World) → FitsUse (use_at z m e) object args → DoneAsks w (asked z m e object args result w)
     unfolding asked
-    asked_asks object args result w fits = asked_tried object args result w (memory_step w) fits (memory_asks z w)
+    asked_asks object args result w fits = kind_asks (may_ask (use_at z m e).role w) w _ (λ b. asked_tried object args result w (memory_step w) fits (memory_asks z w))
 
     called_asks : (r : Receiver) (args : List Slot) (w : World) → IsReceiver (use_at z m e) r
         → ArgumentsBy (use_at z m e).role (use_at z m e) (values_of (use_at z m e).driver (use_at z m e).params args) → DoneAsks w (called_of z m e r args w)
@@ -340,7 +341,7 @@ module _ (z : Environment) (m : ℕ) where
   perform_asks (Alter e c) (v ∷ []) w h len = alter_fit_asks e c [] v w h
   perform_asks (Alter e c) (o ∷ (v ∷ [])) w h len = gives_up_asks (o ∷ []) w _ (alter_fit_asks e c (o ∷ []) v w h)
   perform_asks (Alter e c) (o ∷ (v ∷ (u ∷ us))) w h len = nothing z w
-  perform_asks (Make c) [] w h len = made_asks (class_at z m c) w (memory_step w) (memory_asks z w)
+  perform_asks (Make c) [] w h len = kind_asks (may_make (class_at z m c) w) w _ (λ b. made_asks (class_at z m c) w (memory_step w) (memory_asks z w))
   perform_asks (Make c) (v ∷ vs) w h len = nothing z w
   perform_asks (FieldGet i) [] w h len = nothing z w
   perform_asks (FieldGet i) (Bits x ∷ us) w h len = nothing z w

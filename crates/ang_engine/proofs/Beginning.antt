@@ -1,5 +1,5 @@
 -- An engine that begins: nothing lives, and nothing is held.
-use Rattle.std.proofs.Common.{false, ◌≡◌, ℕ, refl, sym, ap, ◌∙◌, subst, List, [], length, arith, Some}
+use Rattle.std.proofs.Common.{false, ◌≡◌, ◌+◌, ℕ, refl, sym, ap, ◌∙◌, subst, List, [], length, arith, Some}
 use Rattle.std.specs.FinMap as map
 use Rattle.std.specs.FinMap.{get-empty}
 use Rattle.std.specs.Ordering.{nat_cmp}
@@ -10,13 +10,13 @@ use Rattle.ang_host.specs.State.{State, count_of}
 use Rattle.ang_host.specs.Members.{AreFresh}
 use Rattle.ang_view.specs.Registration.{RegistrationList}
 use Rattle.ang_meaning.specs.declared.slot.Slot.{Slot}
-use Rattle.ang_meaning.specs.World.{World as RunWorld, ScriptObjects}
+use Rattle.ang_meaning.specs.World.{World as RunWorld, Bounds, ScriptObjects}
 use Rattle.ang_meaning.specs.Counting.{IsCounted, counts_by}
 use Rattle.ang_meaning.proofs.Roots.{nothing_counted}
 use Rattle.ang_heap.specs.Parts.{world_by, AreReady}
 use Rattle.ang_engine_modules.specs.declared.module.Module.{Module}
 use Rattle.ang_engine_modules.specs.declared.module.ModuleList.{ModuleList}
-use Rattle.ang_engine_modules.specs.World.{no_modules, running, left_to}
+use Rattle.ang_engine_modules.specs.World.{unbounded, no_modules, running, left_to}
 use Rattle.ang_engine_modules.specs.States.{places_of, states_in}
 use Rattle.ang_engine_modules.specs.Sound.{HaveGlobals}
 use Rattle.ang_engine.specs.Sound.{IsSoundPlace, AreSoundModules}
@@ -24,13 +24,14 @@ use Rattle.ang_engine.proofs.States.{counts_fresh, ready_fresh}
 
 -- ---- a machine on fresh drivers, without script objects and globals
 
-pub fresh_world : (ss : List State) (os : ScriptObjects) (gs : List (List Slot)) (es : List HostEvent) → AreFresh ss → os ≡ map.empty → gs ≡ [] → es ≡ []
-    → world_by os (counts_by ss) gs es false [] ≡ running no_modules []
-fresh_world ss os gs es fresh objects globals events =
-    ap (λ o. world_by o (counts_by ss) gs es false []) objects
-    ∙ ap (λ h. world_by map.empty h gs es false []) (counts_fresh ss fresh)
-    ∙ ap (λ g. world_by map.empty (λ d. map.empty) g es false []) globals
-    ∙ ap (λ l. world_by map.empty (λ d. map.empty) [] l false []) events
+pub fresh_world : (ss : List State) (os : ScriptObjects) (gs : List (List Slot)) (es : List HostEvent) (b : Bounds) → AreFresh ss → os ≡ map.empty → gs ≡ [] → es ≡ [] → b ≡ unbounded
+    → world_by os (counts_by ss) gs es (length es + 0) false b [] ≡ running no_modules []
+fresh_world ss os gs es b fresh objects globals events bounds =
+    ap (λ o. world_by o (counts_by ss) gs es (length es + 0) false b []) objects
+    ∙ ap (λ h. world_by map.empty h gs es (length es + 0) false b []) (counts_fresh ss fresh)
+    ∙ ap (λ g. world_by map.empty (λ d. map.empty) g es (length es + 0) false b []) globals
+    ∙ ap (λ l. world_by map.empty (λ d. map.empty) [] l (length l + 0) false b []) events
+    ∙ ap (λ k. world_by map.empty (λ d. map.empty) [] [] 0 false k []) bounds
 
 empty_counted : IsCounted [] (running no_modules [])
 empty_counted = nothing_counted (running no_modules []) refl (λ d k. ap count_of (get-empty nat_cmp k)) (λ x. refl)

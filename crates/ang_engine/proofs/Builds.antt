@@ -25,10 +25,10 @@ use Rattle.ang_engine_modules.specs.declared.reply.Refusal.TheVariants.{BuildMem
 use Rattle.ang_engine_modules.specs.World.{Program, ModuleState, ModuleStates, World, placed, all_unbound_from, built_in, running, left_to, globals_ended}
 use Rattle.ang_engine.specs.Engines.{resolved_in}
 use Rattle.ang_engine_modules.specs.States.{program_in}
-use Rattle.ang_engine.specs.Step.{Leads, after_errors, errors_reply, emptied, with_program, program_over, globals_begun, started, initialized, after_build, build}
+use Rattle.ang_engine.specs.Step.{Leads, after_errors, errors_reply, emptied, with_program, program_over, globals_begun, started, initialized, after_build, build, fault_told}
 use Rattle.ang_engine_modules.specs.Commands.{after_run, reply_of}
 use Rattle.ang_engine.specs.Outcomes.{IsCompiled, HasStarted, refused_by, reply_to_build}
-use Rattle.ang_engine.proofs.Leading.{told_by}
+use Rattle.ang_engine.proofs.Leading.{told_by, fault_in}
 
 -- Module i of these is built, whose globals have ended and left a run's world u, in which no answer is listed.
 module _ (R : RegistrationList) (w : World) (i : ℕ) (m : ModuleState) (budget : ℕ) (u : RunWorld) (ended : (is : List Input) → globals_ended i (running w is) ≡ with_inputs is u)
@@ -43,7 +43,7 @@ module _ (R : RegistrationList) (w : World) (i : ℕ) (m : ModuleState) (budget 
   build-memory = record {
     used = Room false ∷ [];
     tells = λ rest. ap (λ r. Some (after_run (Refused BuildMemory) [] (placed others i (emptied m)) r)) (ended rest);
-    told = inr refl;
+    told = inr (refl, refl);
     answers = sym silent;
   }
 
@@ -62,6 +62,10 @@ module _ (R : RegistrationList) (w : World) (i : ℕ) (m : ModuleState) (budget 
 
   module _ (p : Program) (built : (r : RunWorld) → after_build (seen R m.mask) (denials_in R m.mask m.sections) (build_of (seen R m.mask) m.sections) others i m budget r
       ≡ started (end_of (initialization_of (built_in (placed others i (with_program p m))) budget i (globals_begun i p r))) others i m p) where
+    started-fault : (r : Result Slot Fault) (x : RunWorld) → fault_in r ≡ fault_told (initialized r x others i m p).reply.outcome
+    started-fault (Ok v) x = refl
+    started-fault (Err f) x = refl
+
     -- they have ended: what the build comes to
     build-started : (r : Result Slot Fault) (x : RunWorld) (reply : Reply) (after : World)
         → ((rest : List Input) → initialized r (with_inputs rest x) others i m p ≡ record { reply = reply; world = after; left = rest })
@@ -75,7 +79,7 @@ module _ (R : RegistrationList) (w : World) (i : ℕ) (m : ModuleState) (budget 
           ∙ ap (λ q. Some (started (end_of (initialization_of (built_in (placed others i (with_program p m))) budget i (globals_begun i p q))) others i m p)) (ended (ends.used ++ rest))
           ∙ ap (λ e. Some (started e others i m p)) (ends.ends rest)
           ∙ ap Some (so rest);
-      told = told_by r ends.used ends.told;
+      told = told_by r ends.used reply.outcome (started-fault r (with_inputs [] x) ∙ ap (λ s. fault_told s.reply.outcome) (so [])) ends.told;
       answers = sym (ap (λ l. l ++ answers_told ends.used) silent) ∙ sym ends.answers ∙ listed;
     }
 

@@ -36,12 +36,12 @@ use Rattle.ang_engine.specs.declared.calling.ChosenCall.{ChosenCall}
 use Rattle.ang_engine_modules.proofs.PlaceLists.{get-map, map-get, get-front}
 use Rattle.ang_engine_modules.specs.declared.reply.Outcome.{Outcome}
 use Rattle.ang_engine_modules.specs.declared.reply.Refusal.TheVariants.{NotCallable}
-use Rattle.ang_engine_modules.specs.World.{Program, ModuleStates, World, built_in, running, left_to}
-use Rattle.ang_engine.specs.Step.{Choice, Chosen, Not}
+use Rattle.ang_engine_modules.specs.World.{Program, World, built_in, running, left_to}
+use Rattle.ang_engine.specs.Step.{Choice, Chosen, Not, fault_told}
 use Rattle.ang_engine.specs.Step.{of_function, with_arguments, Leads, call_chosen, call_ended, called}
 use Rattle.ang_engine_modules.specs.Commands.{reply_of}
 use Rattle.ang_engine.specs.Outcomes.{NameNothing, HasCalled, IsTyped, outcome_as, outcome_by}
-use Rattle.ang_engine.proofs.Leading.{told_by}
+use Rattle.ang_engine.proofs.Leading.{told_by, fault_in}
 
 -- ---- the function of a call
 
@@ -225,14 +225,17 @@ called-so : (f : ScriptFunction) (r : Result Slot Fault) (x : RunWorld) (w : Wor
 called-so f (Ok v) x w rest = refl
 called-so f (Err fault) x w rest = refl
 
+called-fault : (f : ScriptFunction) (r : Result Slot Fault) → fault_in r ≡ fault_told (outcome_by f r)
+called-fault f (Ok v) = refl
+called-fault f (Err fault) = refl
+
 same_function : (o : Option ScriptFunction) (f g : ScriptFunction) → o ≡ Some f → o ≡ Some g → f ≡ g
 same_function o f g e h = cc
 
-pub call-run : (p : Program) (ms : List Module) (q : Choice) (home budget : ℕ) (c : ChosenCall) (f : ScriptFunction) (outcome : Outcome) (ss : ModuleStates) (u x : RunWorld)
-    → built_in ss ≡ ms → u.events ≡ [] → q ≡ Chosen c.number f c.args.items → slice_get p.names.functions c.number ≡ Some f → HasCalled ms p.names home budget c u outcome x
-    → Leads (call_chosen q (left_to ss u) home budget) (reply_of outcome x.events []) (left_to ss x)
-call-run p ms q home budget c f outcome ss u x built first choice at h =
-    let w = left_to ss u in
+pub call-run : (p : Program) (ms : List Module) (q : Choice) (home budget : ℕ) (c : ChosenCall) (f : ScriptFunction) (outcome : Outcome) (w v : World) (u x : RunWorld)
+    → built_in w.modules ≡ ms → u.events ≡ [] → ((is : List Input) → running w is ≡ with_inputs is u) → left_to w.modules x ≡ v → q ≡ Chosen c.number f c.args.items → slice_get p.names.functions c.number ≡ Some f → HasCalled ms p.names home budget c u outcome x
+    → Leads (call_chosen q w home budget) (reply_of outcome x.events []) v
+call-run p ms q home budget c f outcome w v u x built first begins leaves choice at h =
     let same : h.function ≡ f = same_function (slice_get p.names.functions c.number) h.function f h.at at in
     let ended : outcome_by f h.value ≡ outcome = ap (λ g. outcome_by g h.value) (sym same) ∙ sym h.ended in
     record {
@@ -240,10 +243,11 @@ call-run p ms q home budget c f outcome ss u x built first choice at h =
       tells = λ rest.
           ap (λ y. call_chosen y w home budget (h.ends.used ++ rest)) choice
           ∙ ap (λ y. Some (call_ended (end_of (call_of y budget home c.number c.args.items (running w (h.ends.used ++ rest)))) w f)) built
-          ∙ ap (λ es. Some (call_ended (end_of (call_of ms budget home c.number c.args.items (record (running w (h.ends.used ++ rest)) { events = es }))) w f)) (sym first)
+          ∙ ap (λ r. Some (call_ended (end_of (call_of ms budget home c.number c.args.items r)) w f)) (begins (h.ends.used ++ rest))
           ∙ ap (λ e. Some (call_ended e w f)) (h.ends.ends rest)
           ∙ ap Some (called-so f h.value x w rest)
-          ∙ ap (λ o. Some (record { reply = reply_of o x.events []; world = left_to ss x; left = rest })) ended;
-      told = told_by h.value h.ends.used h.ends.told;
+          ∙ ap (λ o. Some (record { reply = reply_of o x.events []; world = left_to w.modules x; left = rest })) ended
+          ∙ ap (λ z. Some (record { reply = reply_of outcome x.events []; world = z; left = rest })) leaves;
+      told = told_by h.value h.ends.used outcome (called-fault f h.value ∙ ap fault_told ended) h.ends.told;
       answers = sym (ap (λ es. answers_listed es ++ answers_told h.ends.used) first) ∙ sym h.ends.answers;
     }

@@ -149,7 +149,7 @@ module _ (R : RegistrationList) (ms : List (Option Module)) (ls : List (Option L
       used = Room false ∷ [];
       tells = λ rest.
           one (Room false ∷ rest) ∙ ap (λ w. Some (record { reply = reply_of (Refused BuildMemory) [] []; world = w; left = rest })) (sym (stays same));
-      told = inr refl;
+      told = inr (refl, refl);
       answers = refl;
     }
 

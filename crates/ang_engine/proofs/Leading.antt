@@ -16,7 +16,7 @@ use Rattle.ang_engine_modules.specs.declared.reply.Refusal.{Refusal}
 use Rattle.ang_engine_modules.specs.declared.reply.Refusal.TheVariants.{Memory}
 use Rattle.ang_engine_modules.specs.World.{World}
 use Rattle.ang_engine_modules.specs.Commands.{Stepped, answered, reply_of}
-use Rattle.ang_engine.specs.Step.{Leads, Takes, judged, granted, may_want_memory, step}
+use Rattle.ang_engine.specs.Step.{Leads, Takes, TellsRefusal, fault_told, judged, granted, may_want_memory, step}
 use Rattle.ang_engine_modules.specs.Outcomes.{IsRefused, IsDone, IsDoneWithoutMemory, outcome_of}
 use Rattle.ang_engine.specs.Outcomes.{IsCalled, IsDiscarded, reply_to_call, reply_to_discard}
 
@@ -25,11 +25,16 @@ use Rattle.ang_engine.specs.Outcomes.{IsCalled, IsDiscarded, reply_to_call, repl
 some_stop : {A : Type 0} (o : Option A) (x : A) → o ≡ Some x → IsSome o
 some_stop o x e = ap is_some e
 
--- a run that was told enough, or stopped by its last input
-pub told_by : (r : Result Slot Fault) (used : List Input) → IsTold r used → (has_room used ≡ true) ⊎ IsSome (stopped_by used)
-told_by (Ok v) used h = inl h
-told_by (Err f) used (inl h) = inl h
-told_by (Err f) used (inr h) = inr (some_stop (stopped_by used) f h)
+-- the fault with which a run ended
+abbrev pub fault_in : Result Slot Fault → Option Fault
+fault_in (Ok v) = None
+fault_in (Err f) = Some f
+
+-- a run that was told enough, or stopped by its last input, as the outcome tells
+pub told_by : (r : Result Slot Fault) (used : List Input) (o : Outcome) → fault_in r ≡ fault_told o → IsTold r used → (has_room used ≡ true) ⊎ TellsRefusal o used
+told_by (Ok v) used o e h = inl h
+told_by (Err f) used o e (inl h) = inl h
+told_by (Err f) used o e (inr h) = inr (some_stop (stopped_by used) f h, h ∙ e)
 
 -- ---- commands that asked for no more
 
@@ -65,7 +70,7 @@ pub takes-memory : (R : RegistrationList) (w v : World) (c : Command) → may_wa
 takes-memory R w v c wants same = record {
   used = Room false ∷ [];
   tells = λ rest. step-granted R w c (Room false ∷ rest) wants ∙ ap (λ x. Some (record { reply = reply_of (Refused Memory) [] []; world = x; left = rest })) (sym same);
-  told = inr refl;
+  told = inr (refl, refl);
   answers = refl;
 }
 

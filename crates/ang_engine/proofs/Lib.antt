@@ -1,4 +1,5 @@
 pub mod Roles
+pub mod Between
 pub mod States
 pub mod Beginning
 pub mod Entries

@@ -18,8 +18,6 @@ use Rattle.ang_meaning.specs.Told.{answers_listed}
 use Rattle.ang_meaning.specs.Counting.{IsCounted}
 use Rattle.ang_heap.specs.declared.store.Store.{Store}
 use Rattle.ang_heap.specs.Globals.{values_in}
-use Rattle.ang_heap.specs.Heaps.{objects_of}
-use Rattle.ang_heap.specs.Parts.{counts_of, world_by}
 use Rattle.ang_heap.specs.Stores.{world_of, IsReady, StoreMoves}
 use Rattle.ang_engine_build.specs.declared.program.NoProgram.{NoProgram}
 use Rattle.ang_engine_build.specs.declared.program.NoProgram.TheVariants as no
@@ -47,6 +45,7 @@ use Rattle.ang_engine_modules.proofs.Keeping.{was_there}
 use Rattle.ang_engine.proofs.Unloading.{unbound_twice, emptied_place}
 use Rattle.ang_engine.proofs.Entries.{AreApart, roles_agree, drivers_there}
 use Rattle.ang_engine_modules.proofs.Finding.{on_module-found}
+use Rattle.ang_engine.proofs.Between.{left_without, run_begins}
 use Rattle.ang_engine.proofs.Asking.{run-join, run-ended, asked-run, asked-ends}
 use Rattle.ang_engine.proofs.Starting.{none_there, ended_silent, ended_lengths}
 use Rattle.ang_engine.proofs.Emptied.{before, refused_states, refused_zip, begun_states, begun_zip, begun_built}
@@ -122,14 +121,13 @@ module _ {V : Type 0} {P : V → Type 0} (m : Meanings P) (R : RegistrationList)
 
   -- the world before, and the one after the end of its globals
   abbrev pub old : World
-  old = left_to (record { places = places_of ms ls; order = order }) (world_of m (record s { events = es }))
+  old = left_to (record { places = places_of ms ls; order = order }) (world_of m s)
 
   abbrev pub now : RunWorld
   now = world_of m (record t { events = fs })
 
   has_ended : (is : List Input) → globals_ended home (running old is) ≡ with_inputs is now
-  has_ended is =
-      ap (λ l. globals_ended home (world_by (objects_of s.heap) (counts_of m (members s.drivers)) (values_in s.globals) l s.spent is)) (sym first) ∙ ended is
+  has_ended is = ap (globals_ended home) (run_begins m (record { places = places_of ms ls; order = order }) s es is first) ∙ ended is
 
   silent : answers_listed now.events ≡ []
   silent = sym (ended_silent home (running old []) now (has_ended []))
@@ -186,15 +184,16 @@ module _ {V : Type 0} {P : V → Type 0} (m : Meanings P) (R : RegistrationList)
     pub refused-leads : (U : Type 0) (e : NoProgram) (x : BuildRefused) → x ≡ refused_by e
         → ((l : Option LoadedModule) → IsCompiled (Err e) (build_of (seen R (module_in (place_of d l)).mask) (module_in (place_of d l)).sections))
         → ((l : Option LoadedModule) → HasDenials {A = LoadedModule} (Err e) (denials_in R (module_in (place_of d l)).mask (module_in (place_of d l)).sections))
-        → Leads (build R old home (module_at old home) budget) (reply_to_build {U = U} (Err x) (listed_in fs)) (left_to (states_by cs) now)
+        → Leads (build R old home (module_at old home) budget) (reply_to_build {U = U} (Err x) (listed_in fs)) (left_to (states_by cs) (world_of m t))
     refused-leads U e x is c denied =
         let l = slice_index_or ls home None in
-        subst (λ q. Leads (build R old home (module_at old home) budget) (reply_to_build {U = U} (Err q) (listed_in fs)) (left_to (states_by cs) now)) (sym is)
+        subst (λ v. Leads (build R old home (module_at old home) budget) (reply_to_build {U = U} (Err x) (listed_in fs)) v) (left_without m (states_by cs) t fs)
+        (subst (λ q. Leads (build R old home (module_at old home) budget) (reply_to_build {U = U} (Err q) (listed_in fs)) (left_to (states_by cs) now)) (sym is)
         (subst (λ q. Leads (build R old home q budget) (reply_to_build {U = U} (Err (refused_by e)) (listed_in fs)) (left_to (states_by cs) now)) (sym it_stood)
         (subst (λ ss. Leads (build R old home it budget) (reply_to_build {U = U} (Err (refused_by e)) (listed_in fs)) (left_to ss now)) (sym left_emptied)
         (build-refused R old home it budget now has_ended silent U e
         (subst (λ q. IsCompiled (Err e) (build_of (seen R (module_in (place_of q l)).mask) (module_in (place_of q l)).sections)) (sym at) (c l))
-        (subst (λ q. HasDenials {A = LoadedModule} (Err e) (denials_in R (module_in (place_of q l)).mask (module_in (place_of q l)).sections)) (sym at) (denied l)))))
+        (subst (λ q. HasDenials {A = LoadedModule} (Err e) (denials_in R (module_in (place_of q l)).mask (module_in (place_of q l)).sections)) (sym at) (denied l))))))
 
     pub refused-asked : (U : Type 0) (e : NoProgram) (x : BuildRefused) → x ≡ refused_by e → (w : World) → IsReady m (record s { events = es }) → IsCounted [] (world_of m s)
         → HasAsked m R w (reply_to_build {U = U} (Err x) (listed_in fs)).events s t
@@ -264,9 +263,10 @@ module _ {V : Type 0} {P : V → Type 0} (m : Meanings P) (R : RegistrationList)
 
         pub begun-leads : {U : Type 0} (r : Result U BuildRefused) (ks : List (Option LoadedModule)) (u : Store V P) (gs : EventBuffer) → OnOk r (ks ≡ with_it)
             → OnErr r (ks ≡ cs) → HasStarted (modules_of with_it) home budget (program_in l) now r (world_of m (record u { events = gs }))
-            → Leads (build R old home (module_at old home) budget) (reply_to_build r (listed_in gs)) (left_to (states_by ks) (world_of m (record u { events = gs })))
+            → Leads (build R old home (module_at old home) budget) (reply_to_build r (listed_in gs)) (left_to (states_by ks) (world_of m u))
         begun-leads r ks u gs ok err started =
             let y = world_of m (record u { events = gs }) in
-            subst (λ x. Leads (build R old home x budget) (reply_to_build r (listed_in gs)) (left_to (states_by ks) y)) (sym it_stood)
+            subst (λ v. Leads (build R old home (module_at old home) budget) (reply_to_build r (listed_in gs)) v) (left_without m (states_by ks) u gs)
+            (subst (λ x. Leads (build R old home x budget) (reply_to_build r (listed_in gs)) (left_to (states_by ks) y)) (sym it_stood)
             (build-begun R old home it budget now has_ended silent l view_here unbound compiled_here r (modules_of with_it) y built_with started
-            (λ end h. ended_silent home (with_inputs [] end) (with_inputs [] y) (h [])) (states_by ks) (placed_by r ks ok err))
+            (λ end h. ended_silent home (with_inputs [] end) (with_inputs [] y) (h [])) (states_by ks) (placed_by r ks ok err)))

@@ -6,7 +6,6 @@ use Rattle.std.specs.declared.alloc.Global.{Global}
 use Rattle.ang_host.specs.Logs.{listed_in}
 use Rattle.ang_host.specs.declared.event_buffer.EventBuffer.{EventBuffer}
 use Rattle.ang_host.specs.declared.event.HostEvent.{HostEvent}
-use Rattle.ang_host.specs.Boxes.{members}
 use Rattle.ang_host.specs.Meanings.{Meanings}
 use Rattle.ang_view.specs.Registration.{RegistrationList}
 use Rattle.ang_meaning.specs.World.{Input, World as RunWorld, with_inputs}
@@ -14,8 +13,6 @@ use Rattle.ang_meaning.specs.Told.{answers_listed}
 use Rattle.ang_meaning.specs.Counting.{IsCounted}
 use Rattle.ang_heap.specs.declared.store.Store.{Store}
 use Rattle.ang_heap.specs.Globals.{values_in}
-use Rattle.ang_heap.specs.Heaps.{objects_of}
-use Rattle.ang_heap.specs.Parts.{counts_of, world_by}
 use Rattle.ang_heap.specs.Stores.{world_of, IsReady, StoreBecomes, HasMoved}
 use Rattle.ang_engine_modules.specs.Loaded.{unbound_in}
 use Rattle.ang_engine_modules.specs.declared.module.ModuleList.{ModuleList}
@@ -30,6 +27,7 @@ use Rattle.ang_engine.specs.Asked.{HasAsked}
 use Rattle.ang_engine.specs.Outcomes.{discarding}
 use Rattle.ang_engine.specs.Sound.{IsSoundPlace}
 use Rattle.ang_engine.specs.Step.{Leads}
+use Rattle.ang_engine.proofs.Between.{left_without, run_begins}
 use Rattle.ang_engine.proofs.Asking.{asked-ends, run-ended}
 use Rattle.ang_engine.proofs.GlobalsEnd.{ended_globals}
 use Rattle.ang_engine.proofs.Starting.{ended_silent}
@@ -53,7 +51,7 @@ module _ {V : Type 0} {P : V → Type 0} (m : Meanings P) (R : RegistrationList)
   now = world_of m (record t { events = fs })
 
   has_ended : (is : List Input) → globals_ended home (running before is) ≡ with_inputs is now
-  has_ended is = ap (λ l. globals_ended home (world_by (objects_of s.heap) (counts_of m (members s.drivers)) (values_in s.globals) l s.spent is)) (sym first) ∙ ended is
+  has_ended is = ap (globals_ended home) (run_begins m (states_in x) s es is first) ∙ ended is
 
   silent : answers_listed now.events ≡ []
   silent = sym (ended_silent home (running before []) now (has_ended []))
@@ -71,13 +69,14 @@ module _ {V : Type 0} {P : V → Type 0} (m : Meanings P) (R : RegistrationList)
         ∙ ap (λ l. record { places = places_of l y.code; order = filter (λ j. not (j == home)) x.order.items }) (sym places)
         ∙ ap (λ l. record { places = places_of y.places.items y.code; order = l }) (sym order)
 
-    pub removed-leads : (name : List ℕ) → Some home ≡ module_named name before → Leads (discarding name before) (reply_of (Done None) (listed_in fs) []) (left_to (states_in y) now)
+    pub removed-leads : (name : List ℕ) → Some home ≡ module_named name before → Leads (discarding name before) (reply_of (Done None) (listed_in fs) []) (left_to (states_in y) (world_of m t))
     removed-leads name found = record {
       used = [];
       tells = λ rest.
           on_module-found name before home rest (discard before) found
           ∙ ap (λ u. Some (after_run (Done None) [] (without home (all_unbound_from home before).modules) u)) (has_ended rest)
-          ∙ ap (λ (ss : ModuleStates). Some (after_run (Done None) [] ss (with_inputs rest now))) removed_states;
+          ∙ ap (λ (ss : ModuleStates). Some (after_run (Done None) [] ss (with_inputs rest now))) removed_states
+          ∙ ap (λ (v : World). Some (record { reply = reply_of (Done None) (listed_in fs) []; world = v; left = rest })) (left_without m (states_in y) t fs);
       told = inl refl;
       answers = sym silent;
     }

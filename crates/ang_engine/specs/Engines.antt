@@ -2,8 +2,6 @@
 use Rattle.std.specs.Prelude.{ℕ, List, Vec, Option}
 use Rattle.std.specs.declared.alloc.Global.{Global}
 use Rattle.std.specs.declared.dyn_box.DynBox.{DynBox}
-use Rattle.ang_host.specs.declared.event_buffer.EventBuffer.{EventBuffer}
-use Rattle.ang_host.specs.declared.event.HostEvent.{HostEvent}
 use Rattle.ang_host.specs.Boxes.{members}
 use Rattle.ang_host.specs.Meanings.{Meanings}
 use Rattle.ang_view.specs.Registration.{RegistrationList}
@@ -12,7 +10,6 @@ use Rattle.ang_heap.specs.declared.limits.Limits.{Limits}
 use Rattle.ang_heap.specs.declared.limits.Held.{Held}
 use Rattle.ang_heap.specs.Stores.{world_of}
 use Rattle.ang_vm.specs.declared.machines.Machine.{Machine}
-use Rattle.ang_vm.specs.Machines.{lent}
 use Rattle.ang_engine_build.specs.Build.{Resolved}
 use Rattle.ang_engine_modules.specs.declared.modules.LoadedModule.{LoadedModule}
 use Rattle.ang_engine.specs.declared.engine.Engine.{Engine}
@@ -54,7 +51,7 @@ limits_in e = e.machine.store.limits
 abbrev pub held_in : {V : Type 0} {P : V → Type 0} → Meanings P → Engine V P → Held
 held_in m e = held_of m e.machine.store
 
--- the world in the midst of a command, which has listed these events
+-- the world in the midst of a command
 abbrev pub world_during : {V : Type 0} {P : V → Type 0} → Meanings P → ModuleList → Machine V P
-    → EventBuffer → World
-world_during m list machine events = left_to (states_in list) (world_of m (lent machine events))
+    → World
+world_during m list machine = left_to (states_in list) (world_of m machine.store)

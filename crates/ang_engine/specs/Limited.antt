@@ -8,7 +8,7 @@ use Rattle.ang_heap.specs.declared.limits.Held.{Held}
 use Rattle.ang_heap.specs.declared.store.Store.{Store}
 use Rattle.ang_heap.specs.Heaps.{objects_of}
 use Rattle.ang_heap.specs.Parts.{live_of}
-use Rattle.ang_heap.specs.Slots.{slots_of}
+use Rattle.ang_meaning.specs.Slots.{slots_of}
 
 -- what an engine begins with: as much as there are numbers for
 abbrev pub no_limits : Limits

@@ -3,6 +3,7 @@ use Rattle.std.specs.Prelude.{ℕ, ◌≡◌, ◌⊎◌, Bool, true, false, ◌&
 use Rattle.ang_kinds.specs.declared.error.Denial.{Denial}
 use Rattle.ang_kinds.specs.declared.error.Error.{Error}
 use Rattle.ang_kinds.specs.declared.fault.Fault.{Fault}
+use Rattle.ang_kinds.specs.declared.fault.Fault.TheVariants.{Memory as MemoryFault}
 use Rattle.ang_kinds.specs.declared.value.Value.{Value}
 use Rattle.ang_host.specs.declared.event.HostEvent.{HostEvent}
 use Rattle.ang_host.specs.declared.event.HostEvent.TheVariants.{Called, Ended as ObjectEnded}
@@ -22,9 +23,10 @@ use Rattle.ang_engine_modules.specs.Ends.{Ended, end_of}
 use Rattle.ang_engine_modules.specs.declared.command.Command.{Command}
 use Rattle.ang_engine_modules.specs.declared.command.Command.TheVariants.{NewModule, SetMask, AddSection, Build, Bind, Unbind, Call, Discard}
 use Rattle.ang_engine_modules.specs.declared.reply.Reply.{Reply}
+use Rattle.ang_engine_modules.specs.declared.reply.Outcome.{Outcome}
 use Rattle.ang_engine_modules.specs.declared.reply.Outcome.TheVariants.{Done, Failed, Refused}
 use Rattle.ang_engine_modules.specs.declared.reply.Refusal.{Refusal}
-use Rattle.ang_engine_modules.specs.declared.reply.Refusal.TheVariants.{NotBuilt, BadBudget, BuildMemory, BuildErrors, InitFailed, NoFunction, NoImport, SignatureDiffers, NotCallable, BadArguments, Memory}
+use Rattle.ang_engine_modules.specs.declared.reply.Refusal.TheVariants.{BadName, ModuleExists, Limit, NoModule, NotBuilt, BadBudget, BuildMemory, BuildErrors, InitFailed, NoFunction, NoImport, SignatureDiffers, NotCallable, BadArguments, Memory}
 use Rattle.ang_engine_modules.specs.World.{Program, ModuleState, ModuleStates, World, module_named, module_at, placed, all_unbound_from, built_in, running, left_to, globals_ended}
 use Rattle.ang_engine_modules.specs.Commands.{Stepped, answered, refused, after_run, linked, added_module, set_mask, add_section, unbind, discard, on_module, on_both}
 
@@ -252,16 +254,47 @@ granted R w c _ = None
 abbrev pub step : RegistrationList → World → Command → List Input → Option Stepped
 step R w c inputs = if may_want_memory c then granted R w c inputs else judged R w c inputs
 
+-- ---- what an outcome tells
+
+-- the fault that a refusal of a command tells
+abbrev pub fault_of_refusal : Refusal → Option Fault
+fault_of_refusal BadName = None
+fault_of_refusal ModuleExists = None
+fault_of_refusal Limit = None
+fault_of_refusal NoModule = None
+fault_of_refusal NotBuilt = None
+fault_of_refusal BadBudget = None
+fault_of_refusal BuildMemory = Some MemoryFault
+fault_of_refusal BuildErrors = None
+fault_of_refusal (InitFailed f) = Some f
+fault_of_refusal NoFunction = None
+fault_of_refusal NoImport = None
+fault_of_refusal SignatureDiffers = None
+fault_of_refusal NotCallable = None
+fault_of_refusal BadArguments = None
+fault_of_refusal Memory = Some MemoryFault
+
+-- the fault that an outcome tells
+abbrev pub fault_told : Outcome → Option Fault
+fault_told (Done v) = None
+fault_told (Failed f) = Some f
+fault_told (Refused why) = fault_of_refusal why
+
 -- ---- relations
 
+-- the last of these inputs alone refused, and the outcome tells the fault of that
+abbrev pub TellsRefusal : Outcome → List Input → Type 0
+TellsRefusal outcome used =
+    IsSome (stopped_by used) × (stopped_by used ≡ fault_told outcome)
+
 -- Told these inputs, and whatever further ones it leaves, it gives this reply and leaves this
--- world. There was memory and room each time, or the last input alone refused it; and drivers
--- answered just what the reply's events list.
+-- world. There was memory and room each time, or the last input alone refused it, as the reply
+-- tells; and drivers answered just what the reply's events list.
 pub record Leads (go : List Input → Option Stepped) (reply : Reply) (after : World) : Type 0 where
   pub used : List Input
   pub tells : (rest : List Input)
       → go (used ++ rest) ≡ Some (record { reply = reply; world = after; left = rest })
-  pub told : (has_room used ≡ true) ⊎ IsSome (stopped_by used)
+  pub told : (has_room used ≡ true) ⊎ TellsRefusal reply.outcome used
   pub answers : answers_told used ≡ answers_listed reply.events
 
 -- The command takes the world from `before` to `after` with this reply, told what it asked for and

@@ -345,11 +345,11 @@ fn build_module(
     requires first { listed_in events.old ≡ [] }
     requires more { list.old.builds < 2 ^ 64 - 1 }
     ensures done { Leads (build registry.now.entries
-        (world_during ⟦<dyn Driver as Driver>⟧ list.old machine.old events.old) home
-        (module_at (world_during ⟦<dyn Driver as Driver>⟧ list.old machine.old events.old) home)
+        (world_during ⟦<dyn Driver as Driver>⟧ list.old machine.old) home
+        (module_at (world_during ⟦<dyn Driver as Driver>⟧ list.old machine.old) home)
         budget)
         (reply_to_build result (listed_in events.new))
-        (world_during ⟦<dyn Driver as Driver>⟧ list.new machine.new events.new) }
+        (world_during ⟦<dyn Driver as Driver>⟧ list.new machine.new) }
     ensures asked { HasAsked ⟦<dyn Driver as Driver>⟧ registry.now.entries
         (left_to (states_in list.new) (world_of ⟦<dyn Driver as Driver>⟧ machine.new.store))
         (reply_to_build result (listed_in events.new)).events machine.old.store machine.new.store }
@@ -394,9 +394,9 @@ pub fn build(
     requires first { listed_in events.old ≡ [] }
     requires more { list.old.builds < 2 ^ 64 - 1 }
     ensures done { Leads (building registry.now.entries name.now budget
-        (world_during ⟦<dyn Driver as Driver>⟧ list.old machine.old events.old))
+        (world_during ⟦<dyn Driver as Driver>⟧ list.old machine.old))
         (reply_to_build result (listed_in events.new))
-        (world_during ⟦<dyn Driver as Driver>⟧ list.new machine.new events.new) }
+        (world_during ⟦<dyn Driver as Driver>⟧ list.new machine.new) }
     ensures asked { HasAsked ⟦<dyn Driver as Driver>⟧ registry.now.entries
         (left_to (states_in list.new) (world_of ⟦<dyn Driver as Driver>⟧ machine.new.store))
         (reply_to_build result (listed_in events.new)).events machine.old.store machine.new.store }
@@ -407,7 +407,7 @@ pub fn build(
     ensures heard { is_heard events.new ≡ is_heard events.old }
     ensures prepared { HaveMoved (replaced (command.Build name.now budget)
         (reply_to_build result (listed_in events.new)).outcome
-        (world_during ⟦<dyn Driver as Driver>⟧ list.old machine.old events.old))
+        (world_during ⟦<dyn Driver as Driver>⟧ list.old machine.old))
         list.old.builds (build_at list.old.places.items)
         list.new.builds (build_at list.new.places.items) }
     ensures numbered { AreNumbered list.old → AreNumbered list.new }

@@ -1,9 +1,9 @@
 //! Globals that end.
-ghost use Rattle.std.specs.Prelude.{Bool, ◌≡◌, ◌+◌, ◌≤◌, List, [], slice_index_or, slice_set};
+ghost use Rattle.std.specs.Prelude.{ℕ, Bool, ◌≡◌, ◌+◌, ◌≤◌, List, [], slice_index_or, slice_set};
 ghost use Rattle.ang_host.specs.Logs.{listed_in, is_heard, log_len, log_capacity};
 ghost use Rattle.ang_host.specs.declared.event.Role.{Role};
 ghost use Rattle.ang_host.specs.Boxes.{members};
-ghost use Rattle.ang_meaning.specs.World.{Input};
+ghost use Rattle.ang_meaning.specs.World.{Bounds, Input};
 ghost use Rattle.ang_meaning.specs.Results.{give_back as given_back};
 ghost use Rattle.ang_meaning.specs.Counting.{EnoughIn, CountedIn, IsCounted};
 ghost use Rattle.ang_heap.specs.Globals.{values_in};
@@ -27,11 +27,11 @@ fn give_back(heap: &mut Heap, drivers: &mut Drivers, events: &mut EventBuffer, v
         (log_len events.old) (log_capacity events.old) }
     requires enough { EnoughIn values.now (objects_of heap.old)
         (counts_among ⟦<dyn Driver as Driver>⟧ drivers.old) }
-    ensures gives { (gs : List (List Slot)) (sp : Bool) (is : List Input)
+    ensures gives { (gs : List (List Slot)) (n : ℕ) (sp : Bool) (b : Bounds) (is : List Input)
         → given_back values.now (world_by (objects_of heap.old)
-        (counts_among ⟦<dyn Driver as Driver>⟧ drivers.old) gs (listed_in events.old) sp is)
+        (counts_among ⟦<dyn Driver as Driver>⟧ drivers.old) gs (listed_in events.old) n sp b is)
         ≡ world_by (objects_of heap.new) (counts_among ⟦<dyn Driver as Driver>⟧ drivers.new) gs
-        (listed_in events.new) sp is }
+        (listed_in events.new) n sp b is }
     ensures ready { AreReady (states_among ⟦<dyn Driver as Driver>⟧ drivers.new)
         (log_len events.new) (log_capacity events.new) }
     ensures level { log_len events.new + live_among ⟦<dyn Driver as Driver>⟧ drivers.new
@@ -77,12 +77,12 @@ fn end_module(
         (log_len events.old) (log_capacity events.old) }
     requires counted { CountedIn [] (objects_of heap.old)
         (counts_among ⟦<dyn Driver as Driver>⟧ drivers.old) (values_in globals.old) }
-    ensures ended { (sp : Bool) (is : List Input)
+    ensures ended { (n : ℕ) (sp : Bool) (b : Bounds) (is : List Input)
         → globals_ended home (world_by (objects_of heap.old)
         (counts_among ⟦<dyn Driver as Driver>⟧ drivers.old) (values_in globals.old)
-        (listed_in events.old) sp is)
+        (listed_in events.old) n sp b is)
         ≡ world_by (objects_of heap.new) (counts_among ⟦<dyn Driver as Driver>⟧ drivers.new)
-        (values_in globals.new) (listed_in events.new) sp is }
+        (values_in globals.new) (listed_in events.new) n sp b is }
     ensures ready { AreReady (states_among ⟦<dyn Driver as Driver>⟧ drivers.new)
         (log_len events.new) (log_capacity events.new) }
     ensures level { log_len events.new + live_among ⟦<dyn Driver as Driver>⟧ drivers.new
@@ -115,12 +115,12 @@ pub fn end_all(
         (log_capacity ends.old) }
     requires counted { CountedIn [] (objects_of heap.old)
         (counts_among ⟦<dyn Driver as Driver>⟧ drivers.old) (values_in globals.old) }
-    ensures ended { (sp : Bool) (is : List Input)
+    ensures ended { (n : ℕ) (sp : Bool) (b : Bounds) (is : List Input)
         → all_ended order.now (world_by (objects_of heap.old)
         (counts_among ⟦<dyn Driver as Driver>⟧ drivers.old) (values_in globals.old)
-        (listed_in ends.old) sp is)
+        (listed_in ends.old) n sp b is)
         ≡ world_by (objects_of heap.new) (counts_among ⟦<dyn Driver as Driver>⟧ drivers.new)
-        (values_in globals.new) (listed_in ends.new) sp is }
+        (values_in globals.new) (listed_in ends.new) n sp b is }
     ensures ready { AreReady (states_among ⟦<dyn Driver as Driver>⟧ drivers.new) (log_len ends.new)
         (log_capacity ends.new) }
     ensures moves { (roles : List Role)

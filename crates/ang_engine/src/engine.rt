@@ -10,10 +10,10 @@ ghost use Rattle.ang_engine.specs.Roles.{roles_of};
 ghost use Rattle.ang_meaning.specs.Counting.{IsCounted};
 ghost use Rattle.ang_heap.specs.Globals.{values_in};
 ghost use Rattle.ang_heap.specs.Parts.{SomeRanOut};
-ghost use Rattle.ang_heap.specs.Stores.{world_of, IsKept, IsReady};
+ghost use Rattle.ang_heap.specs.Stores.{world_of, bounds_of, IsKept, IsReady};
 ghost use Rattle.ang_vm.specs.Machines.{lent};
 ghost use Rattle.ang_engine_modules.specs.declared.command.Command.TheVariants.{NewModule, SetMask, AddSection, Build, Bind, Unbind, Call, Discard};
-ghost use Rattle.ang_engine_modules.specs.World.{no_modules, running, engine_ended};
+ghost use Rattle.ang_engine_modules.specs.World.{bounded_by, no_modules, running, engine_ended};
 ghost use Rattle.ang_engine.specs.Limited.{StaysWithin, no_limits};
 ghost use Rattle.ang_engine.specs.Step.{Takes, IsEntitled};
 ghost use Rattle.ang_engine.specs.Sound.{IsSound, HaveDrivers, has_driver};
@@ -287,8 +287,8 @@ impl Engine {
     pub fn set_limits(&mut self, limits: Limits)
         requires sound { IsSound ⟦<dyn Driver as Driver>⟧ self.old }
         ensures set { limits_in self.new ≡ limits }
-        ensures same { world_in ⟦<dyn Driver as Driver>⟧ self.new
-            ≡ world_in ⟦<dyn Driver as Driver>⟧ self.old }
+        ensures world { world_in ⟦<dyn Driver as Driver>⟧ self.new
+            ≡ bounded_by (bounds_of limits) (world_in ⟦<dyn Driver as Driver>⟧ self.old) }
         ensures drivers { drivers_in self.new ≡ drivers_in self.old }
         ensures builds { builds_in self.new ≡ builds_in self.old }
         ensures last { last_build self.new ≡ last_build self.old }

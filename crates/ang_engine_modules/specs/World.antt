@@ -1,12 +1,12 @@
 -- What an engine keeps from one command to the next (docs/CLAIMS.md, "A command").
-use Rattle.std.specs.Prelude.{ℕ, Bool, false, List, [], ◌∷◌, Option, Some, None, option_map, position, bytes_eq, slice_index_or, slice_set, map as list_map}
+use Rattle.std.specs.Prelude.{ℕ, ◌-◌, ◌^◌, Bool, false, List, [], ◌∷◌, Option, Some, None, option_map, position, bytes_eq, slice_index_or, slice_set, map as list_map}
 use Rattle.std.specs.FinMap as map
 use Rattle.ang_view.specs.Registration.{RegistrationList}
 use Rattle.ang_typed.specs.Typed as t
 use Rattle.ang_names_known.specs.declared.names.Names.{Names}
 use Rattle.ang_meaning.specs.declared.slot.Slot.{Slot}
 use Rattle.ang_meaning.specs.declared.routine.Routine.{Routine}
-use Rattle.ang_meaning.specs.World.{Input, ScriptObjects, HostCounts, World as RunWorld}
+use Rattle.ang_meaning.specs.World.{Input, Bounds, ScriptObjects, HostCounts, World as RunWorld, live_hosts}
 use Rattle.ang_meaning.specs.Results.{give_back}
 use Rattle.ang_engine_modules.specs.Modules.{Module, unbuilt, unbound_links}
 
@@ -42,18 +42,32 @@ pub record World : Type 0 where
   pub objects : ScriptObjects
   pub hosts : HostCounts
   pub globals : List (List Slot)
+  -- how many host objects live
+  pub live : ℕ
   -- whether a reference was refused since a driver's tally has run out
   pub spent : Bool
+  -- how much the host allows
+  pub bounds : Bounds
 
--- an engine begins without modules, and with nothing alive
+-- as much as there are numbers for
+abbrev pub unbounded : Bounds
+unbounded = record { events = 2 ^ 64 - 1; slots = 2 ^ 64 - 1; objects = 2 ^ 64 - 1 }
+
+-- an engine begins without modules and bounds, and with nothing alive
 abbrev pub no_modules : World
 no_modules = record {
   modules = record { places = []; order = [] };
   objects = map.empty;
   hosts = λ d. map.empty;
   globals = [];
+  live = 0;
   spent = false;
+  bounds = unbounded;
 }
+
+-- from now on the host allows so much
+abbrev pub bounded_by : Bounds → World → World
+bounded_by b w = record w { bounds = b }
 
 -- ---- the module of a name
 
@@ -119,7 +133,9 @@ running w inputs = record {
   hosts = w.hosts;
   globals = w.globals;
   events = [];
+  reserved = w.live;
   spent = w.spent;
+  bounds = w.bounds;
   inputs = inputs;
 }
 
@@ -131,7 +147,9 @@ left_to modules r =
       objects = r.objects;
       hosts = r.hosts;
       globals = r.globals;
+      live = live_hosts r;
       spent = r.spent;
+      bounds = r.bounds;
     }
 
 -- ---- globals that end

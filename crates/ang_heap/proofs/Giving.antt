@@ -4,9 +4,13 @@ use Rattle.std.proofs.Math.Seq.{drop-cons}
 use Rattle.std.proofs.Common.{refl, sym, ◌∙◌, ap, subst, arith, append-nil}
 use Rattle.ang_meaning.specs.declared.slot.Slot.{Slot}
 use Rattle.ang_meaning.specs.declared.slot.Slot.TheVariants.{Script}
-use Rattle.ang_meaning.specs.World.{World, ScriptObjects, HostCounts, Gone, script_lowered, give, give_all}
+use Rattle.ang_meaning.specs.World.{World, Bounds, ScriptObjects, HostCounts, Gone, script_lowered, give, give_all}
 use Rattle.ang_meaning.specs.Counting.{EnoughIn, CanGive}
 use Rattle.ang_meaning.proofs.Enough.{gone_enough, give_can}
+
+-- any bounds, where none is looked at
+abbrev pub no_bounds : Bounds
+no_bounds = record { events = 0; slots = 0; objects = 0 }
 
 pub fields_enough : (k : ℕ) (fs : List Slot) (os us : ScriptObjects) (hs : HostCounts) → script_lowered k os ≡ Gone fs us → EnoughIn (Script (Some k) ∷ []) os hs → EnoughIn fs us hs
 fields_enough k fs os us hs e p = subst (λ l. EnoughIn l us hs) (append-nil fs) (gone_enough k fs [] os us hs e p)

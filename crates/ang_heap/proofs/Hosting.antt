@@ -24,7 +24,7 @@ use Rattle.ang_host.proofs.Counts.{Answers-counts}
 use Rattle.ang_host.proofs.Events.{AllFollow-none, AllFollow-join}
 use Rattle.ang_meaning.specs.declared.slot.Slot.{Slot}
 use Rattle.ang_meaning.specs.declared.slot.Slot.TheVariants.{Host}
-use Rattle.ang_meaning.specs.World.{ScriptObjects, HostCounts, Input, host_put, host_raised, give}
+use Rattle.ang_meaning.specs.World.{Bounds, ScriptObjects, HostCounts, Input, host_put, host_raised, give}
 use Rattle.ang_meaning.specs.Counting.{counts_by}
 use Rattle.ang_meaning.proofs.Driving.{counts_put, counts_added, counts_made, world_released, in_list_of}
 use Rattle.ang_heap.specs.Parts.{world_by, live_in, AreReady, PartsMove}
@@ -115,11 +115,11 @@ ends_length d k true = refl
 ends_length d k false = refl
 
 module _ {B V : Type 0} (st : B → State) (kind : B → V) (rule : V → Fits) (xs ys : List B) (d k : ℕ) (b : Bool) (one : OneMoved st kind rule xs d (λ f s t. WasReleased f s k b t) ys) where
-  pub release_gives : (os : ScriptObjects) (gs : List (List Slot)) (es : List HostEvent) (sp : Bool) (is : List Input)
-      → give (Host d (Some k)) (world_by os (counts_by (list_map st xs)) gs es sp is) ≡ world_by os (counts_by (list_map st ys)) gs (es ++ ends d k b) sp is
-  release_gives os gs es sp is =
-      world_released (rule_at (list_map rule (list_map kind xs)) d) (list_map st xs) (list_map st ys) d k b (world_by os (counts_by (list_map st xs)) gs es sp is) refl one.others one.moved.moved
-      ∙ ap (λ l. world_by os (counts_by (list_map st ys)) gs l sp is) (ends_listed es d k b)
+  pub release_gives : (os : ScriptObjects) (gs : List (List Slot)) (es : List HostEvent) (n : ℕ) (sp : Bool) (bounds : Bounds) (is : List Input)
+      → give (Host d (Some k)) (world_by os (counts_by (list_map st xs)) gs es n sp bounds is) ≡ world_by os (counts_by (list_map st ys)) gs (es ++ ends d k b) n sp bounds is
+  release_gives os gs es n sp bounds is =
+      world_released (rule_at (list_map rule (list_map kind xs)) d) (list_map st xs) (list_map st ys) d k b (world_by os (counts_by (list_map st xs)) gs es n sp bounds is) refl one.others one.moved.moved
+      ∙ ap (λ l. world_by os (counts_by (list_map st ys)) gs l n sp bounds is) (ends_listed es d k b)
 
   gone : map.len (state_at (list_map st ys) d).counts + one_if b ≡ map.len (state_at (list_map st xs) d).counts
   gone = released_len (rule_at (list_map rule (list_map kind xs)) d) (state_at (list_map st xs) d) (state_at (list_map st ys) d) k b one.moved.moved

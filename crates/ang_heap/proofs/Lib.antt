@@ -1,7 +1,6 @@
 pub mod Hosting
 pub mod Heaping
 pub mod Giving
-pub mod Slots
 pub mod Storing
 pub mod Puts
 pub mod Numbering

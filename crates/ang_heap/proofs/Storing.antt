@@ -10,7 +10,7 @@ use Rattle.ang_host.specs.Meanings.{Meanings}
 use Rattle.ang_host.specs.Boxes.{members}
 use Rattle.ang_meaning.specs.declared.slot.Slot.{Slot}
 use Rattle.ang_meaning.specs.declared.slot.Slot.TheVariants.{Bits, Script, Host}
-use Rattle.ang_meaning.specs.World.{World, ScriptRecord, ScriptObjects, HostCounts, Tallied, Yes, No, or_else, hold, one_more, Inside, AtEnd, hold_limit_of, refused_at, tally_step, host_raised, script_raised, if_told, with_inputs}
+use Rattle.ang_meaning.specs.World.{World, Bounds, ScriptRecord, ScriptObjects, HostCounts, Tallied, Yes, No, or_else, hold, one_more, Inside, AtEnd, hold_limit_of, refused_at, tally_step, host_raised, script_raised, if_told, with_inputs}
 use Rattle.ang_meaning.specs.Told.{Told}
 use Rattle.ang_heap.specs.declared.heap.Heap.{Heap}
 use Rattle.ang_heap.specs.declared.store.Store.{Store}
@@ -37,22 +37,22 @@ at_end : (o : Option ScriptRecord) → 2 ^ 64 - 1 ≤ count_of_object o → hold
 at_end None h = absurd (omega (arith, h))
 at_end (Some o) h = ap (λ b. cond b Inside AtEnd) (le-ltb o.count (2 ^ 64 - 1) h)
 
-module _ (gs : List (List Slot)) (es : List HostEvent) (sp : Bool) where
+module _ (gs : List (List Slot)) (es : List HostEvent) (reserved : ℕ) (sp : Bool) (bounds : Bounds) where
   pub host_hold : (d k : ℕ) (b : Bool) (os : ScriptObjects) (hs hs' : HostCounts) → hs' ≡ cond b (host_raised d k hs) hs
-      → Told (λ is. hold (Host d (Some k)) (with_inputs is (world_by os hs gs es sp []))) (λ is. if_told b (with_inputs is (world_by os hs' gs es (noted (Host d (Some k)) b sp) [])))
+      → Told (λ is. hold (Host d (Some k)) (with_inputs is (world_by os hs gs es reserved sp bounds []))) (λ is. if_told b (with_inputs is (world_by os hs' gs es reserved (noted (Host d (Some k)) b sp) bounds [])))
   unfolding hold tally_step one_more
-  host_hold d k true os hs hs' e = record { used = Tallied true ∷ []; tells = λ rest. ap (λ h. Yes (world_by os h gs es sp rest)) (sym e) }
-  host_hold d k false os hs hs' e = record { used = Tallied false ∷ []; tells = λ rest. ap (λ h. No (world_by os h gs es true rest)) (sym e) }
+  host_hold d k true os hs hs' e = record { used = Tallied true ∷ []; tells = λ rest. ap (λ h. Yes (world_by os h gs es reserved sp bounds rest)) (sym e) }
+  host_hold d k false os hs hs' e = record { used = Tallied false ∷ []; tells = λ rest. ap (λ h. No (world_by os h gs es reserved true bounds rest)) (sym e) }
 
   pub script_hold : (n : ℕ) (b : Bool) (os os' : ScriptObjects) (hs : HostCounts) → os' ≡ cond b (script_raised n os) os → (b ≡ false → 2 ^ 64 - 1 ≤ count_of_object (map.get os n))
-      → Told (λ is. hold (Script (Some n)) (with_inputs is (world_by os hs gs es sp []))) (λ is. if_told b (with_inputs is (world_by os' hs gs es sp [])))
+      → Told (λ is. hold (Script (Some n)) (with_inputs is (world_by os hs gs es reserved sp bounds []))) (λ is. if_told b (with_inputs is (world_by os' hs gs es reserved sp bounds [])))
   unfolding hold tally_step one_more
-  script_hold n true os os' hs e full = record { used = Tallied true ∷ []; tells = λ rest. ap (λ o. Yes (world_by o hs gs es sp rest)) (sym e) }
+  script_hold n true os os' hs e full = record { used = Tallied true ∷ []; tells = λ rest. ap (λ o. Yes (world_by o hs gs es reserved sp bounds rest)) (sym e) }
   script_hold n false os os' hs e full = record {
     used = Tallied false ∷ [];
     tells = λ rest.
-        ap (λ x. or_else (refused_at x rest (world_by os hs gs es sp (Tallied false ∷ rest))) No (λ u. Yes (one_more (Script (Some n)) u))) (at_end (map.get os n) (full refl))
-        ∙ ap (λ o. No (world_by o hs gs es sp rest)) (sym e);
+        ap (λ x. or_else (refused_at x rest (world_by os hs gs es reserved sp bounds (Tallied false ∷ rest))) No (λ u. Yes (one_more (Script (Some n)) u))) (at_end (map.get os n) (full refl))
+        ∙ ap (λ o. No (world_by o hs gs es reserved sp bounds rest)) (sym e);
   }
 
 -- ---- the same of a value that is such a one
@@ -70,12 +70,12 @@ pub host_held : (v : Slot) (d k : ℕ) (b : Bool) (w : World) (hs' : HostCounts)
     → Told (λ is. hold v (with_inputs is w)) (λ is. if_told b (with_inputs is (record w { hosts = hs'; spent = noted v b w.spent })))
 host_held v d k b w hs' e h =
     subst (λ x. Told (λ is. hold x (with_inputs is w)) (λ is. if_told b (with_inputs is (record w { hosts = hs'; spent = noted x b w.spent })))) (sym e)
-    (host_hold w.globals w.events w.spent d k b w.objects w.hosts hs' h)
+    (host_hold w.globals w.events w.reserved w.spent w.bounds d k b w.objects w.hosts hs' h)
 
 pub script_held : (v : Slot) (n : ℕ) (b : Bool) (w : World) (os' : ScriptObjects) → v ≡ Script (Some n) → os' ≡ cond b (script_raised n w.objects) w.objects
     → (b ≡ false → 2 ^ 64 - 1 ≤ count_of_object (map.get w.objects n)) → Told (λ is. hold v (with_inputs is w)) (λ is. if_told b (with_inputs is (record w { objects = os' })))
 script_held v n b w os' e h full =
-    subst (λ x. Told (λ is. hold x (with_inputs is w)) (λ is. if_told b (with_inputs is (record w { objects = os' })))) (sym e) (script_hold w.globals w.events w.spent n b w.objects os' w.hosts h full)
+    subst (λ x. Told (λ is. hold x (with_inputs is w)) (λ is. if_told b (with_inputs is (record w { objects = os' })))) (sym e) (script_hold w.globals w.events w.reserved w.spent w.bounds n b w.objects os' w.hosts h full)
 
 -- nothing is noted of it
 pub none_noted : (v x : Slot) (b : Bool) (w u : World) → v ≡ x → noted x b w.spent ≡ u.spent → Told (λ is. hold v (with_inputs is w)) (λ is. if_told b (with_inputs is u))

@@ -5,7 +5,7 @@ use Rattle.slab.specs.Slab.{Slab, entries}
 use Rattle.ang_meaning.specs.World.{ScriptRecord, ScriptObjects}
 use Rattle.ang_heap.specs.declared.heap.ScriptObject.{ScriptObject}
 use Rattle.ang_heap.specs.declared.heap.Heap.{Heap}
-use Rattle.ang_heap.specs.Slots.{slots_of}
+use Rattle.ang_meaning.specs.Slots.{slots_of}
 
 abbrev pub record_of : ScriptObject → ScriptRecord
 record_of o = record { class = o.class; rank = o.rank; count = o.count; fields = o.fields.items }

@@ -14,7 +14,7 @@ use Rattle.ang_host.specs.Boxes.{members}
 use Rattle.ang_host.specs.Events.{DriversFollow, HasRunOut}
 use Rattle.ang_meaning.specs.declared.slot.Slot.{Slot}
 use Rattle.ang_meaning.specs.declared.slot.Slot.TheVariants.{Bits, Script, Host}
-use Rattle.ang_meaning.specs.World.{World, ScriptObjects, HostCounts, Input}
+use Rattle.ang_meaning.specs.World.{World, Bounds, ScriptObjects, HostCounts, Input}
 use Rattle.ang_meaning.specs.Counting.{counts_by, count_of_object}
 
 -- by driver, the count of each live key
@@ -23,9 +23,19 @@ abbrev pub counts_of : {V : Type 0} {P : V → Type 0} → Meanings P → List (
 counts_of m bs = counts_by (states_of m bs)
 
 abbrev pub world_by :
-    ScriptObjects → HostCounts → List (List Slot) → List HostEvent → Bool → List Input → World
-world_by os hs gs es sp is =
-    record { objects = os; hosts = hs; globals = gs; events = es; spent = sp; inputs = is }
+    ScriptObjects → HostCounts → List (List Slot) → List HostEvent → ℕ → Bool → Bounds
+    → List Input → World
+world_by os hs gs es n sp b is =
+    record {
+      objects = os;
+      hosts = hs;
+      globals = gs;
+      events = es;
+      reserved = n;
+      spent = sp;
+      bounds = b;
+      inputs = is;
+    }
 
 -- how many host objects live
 abbrev pub live_in : List State → ℕ

@@ -5,7 +5,7 @@ use Rattle.ang_host.specs.declared.event.Role.{Role}
 use Rattle.ang_host.specs.Meanings.{Meanings}
 use Rattle.ang_host.specs.Members.{states_of}
 use Rattle.ang_host.specs.Boxes.{members}
-use Rattle.ang_meaning.specs.World.{World, Input, with_inputs}
+use Rattle.ang_meaning.specs.World.{World, Bounds, Input, with_inputs}
 use Rattle.ang_meaning.specs.Told.{Told}
 use Rattle.ang_heap.specs.declared.limits.Limits.{Limits}
 use Rattle.ang_heap.specs.declared.store.Store.{Store}
@@ -13,11 +13,15 @@ use Rattle.ang_heap.specs.Globals.{values_in}
 use Rattle.ang_heap.specs.Parts.{counts_of, live_of, world_by, AreReady, PartsMove, SomeRanOut}
 use Rattle.ang_heap.specs.Heaps.{objects_of, IsTallied}
 
+-- the limits, as the world of a run knows them
+abbrev pub bounds_of : Limits → Bounds
+bounds_of l = record { events = l.events; slots = l.slots; objects = l.objects }
+
 -- the world that a store is, told nothing yet
 abbrev pub world_of : {V : Type 0} {P : V → Type 0} → Meanings P → Store V P → World
 world_of m s =
     world_by (objects_of s.heap) (counts_of m (members s.drivers)) (values_in s.globals)
-    (listed_in s.events) s.spent []
+    (listed_in s.events) (log_len s.events + s.live) s.spent (bounds_of s.limits) []
 
 -- What holds between commands too: the drivers are sound, `live` is how many host objects live,
 -- `ends` is empty, with room for the end of each, and where a reference was refused some driver's

@@ -5,13 +5,13 @@ ghost use Rattle.ang_host.specs.Logs.{listed_in, is_heard, log_len, log_capacity
 ghost use Rattle.ang_host.specs.declared.event.Role.{Role};
 ghost use Rattle.ang_host.specs.Events.{DriversFollow};
 ghost use Rattle.ang_host.specs.Boxes.{members};
-ghost use Rattle.ang_meaning.specs.World.{Input, Gone, Kept, script_raised, script_lowered, hold as hold_in, give as give_in, if_told};
+ghost use Rattle.ang_meaning.specs.World.{Bounds, Input, Gone, Kept, script_raised, script_lowered, hold as hold_in, give as give_in, if_told};
 ghost use Rattle.ang_meaning.specs.Told.{Told};
 ghost use Rattle.ang_meaning.specs.Counting.{EnoughIn, HasKey, count_of_object};
 ghost use Rattle.slab.specs.Slab.{get as slab_get, slab_len, with_value};
 ghost use Rattle.ang_heap.specs.Parts.{world_by, noted, AreReady, IsTallyFull, PartsMove, states_among, counts_among, live_among};
 ghost use Rattle.ang_heap.specs.Heaps.{objects_in, objects_of, IsTallied, IsLess};
-ghost use Rattle.ang_heap.specs.Slots.{slots_of};
+ghost use Rattle.ang_meaning.specs.Slots.{slots_of};
 
 use crate::hosts::{add, release};
 use ang_host::{Driver, Drivers, EventBuffer, HostEvent};
@@ -52,12 +52,12 @@ impl Heap {
     /// The driver's tallies, or the script object's count, have run out, and then nothing changes.
     pub fn hold(&mut self, drivers: &mut Drivers, value: Slot) -> Result<(), Tally>
         requires there { HasKey value (counts_among ⟦<dyn Driver as Driver>⟧ drivers.old) }
-        ensures holds { (gs : List (List Slot)) (es : List HostEvent) (sp : Bool)
+        ensures holds { (gs : List (List Slot)) (es : List HostEvent) (n : ℕ) (sp : Bool) (b : Bounds)
             → Told (λ is. hold_in value (world_by (objects_of self.old)
-            (counts_among ⟦<dyn Driver as Driver>⟧ drivers.old) gs es sp is))
+            (counts_among ⟦<dyn Driver as Driver>⟧ drivers.old) gs es n sp b is))
             (λ is. if_told (is_ok result) (world_by (objects_of self.new)
             (counts_among ⟦<dyn Driver as Driver>⟧ drivers.new) gs es
-            (noted value (is_ok result) sp) is)) }
+            n (noted value (is_ok result) sp) b is)) }
         ensures full { OnErr result (IsTallyFull value (objects_of self.old)
             (states_among ⟦<dyn Driver as Driver>⟧ drivers.old)) }
         ensures same_objects { OnErr result (objects_of self.new ≡ objects_of self.old) }
@@ -94,11 +94,11 @@ impl Heap {
             (log_len events.old) (log_capacity events.old) }
         requires enough { EnoughIn (value ∷ []) (objects_of self.old)
             (counts_among ⟦<dyn Driver as Driver>⟧ drivers.old) }
-        ensures gives { (gs : List (List Slot)) (sp : Bool) (is : List Input)
+        ensures gives { (gs : List (List Slot)) (n : ℕ) (sp : Bool) (b : Bounds) (is : List Input)
             → give_in value (world_by (objects_of self.old)
-            (counts_among ⟦<dyn Driver as Driver>⟧ drivers.old) gs (listed_in events.old) sp is)
+            (counts_among ⟦<dyn Driver as Driver>⟧ drivers.old) gs (listed_in events.old) n sp b is)
             ≡ world_by (objects_of self.new) (counts_among ⟦<dyn Driver as Driver>⟧ drivers.new) gs
-            (listed_in events.new) sp is }
+            (listed_in events.new) n sp b is }
         ensures ready { AreReady (states_among ⟦<dyn Driver as Driver>⟧ drivers.new)
             (log_len events.new) (log_capacity events.new) }
         ensures level { log_len events.new + live_among ⟦<dyn Driver as Driver>⟧ drivers.new
@@ -159,11 +159,11 @@ pub(crate) fn raise(records: &mut Slab<ScriptObject>, key: usize) -> bool
 /// One more place holds the value. False where a tally or a count has run out, and then nothing is done.
 fn hold(records: &mut Slab<ScriptObject>, drivers: &mut Drivers, value: Slot) -> bool
     requires there { HasKey value (counts_among ⟦<dyn Driver as Driver>⟧ drivers.old) }
-    ensures holds { (gs : List (List Slot)) (es : List HostEvent) (sp : Bool)
+    ensures holds { (gs : List (List Slot)) (es : List HostEvent) (n : ℕ) (sp : Bool) (b : Bounds)
         → Told (λ is. hold_in value (world_by (objects_in records.old)
-        (counts_among ⟦<dyn Driver as Driver>⟧ drivers.old) gs es sp is))
+        (counts_among ⟦<dyn Driver as Driver>⟧ drivers.old) gs es n sp b is))
         (λ is. if_told result (world_by (objects_in records.new)
-        (counts_among ⟦<dyn Driver as Driver>⟧ drivers.new) gs es (noted value result sp) is)) }
+        (counts_among ⟦<dyn Driver as Driver>⟧ drivers.new) gs es n (noted value result sp) b is)) }
     ensures full { result ≡ false
         → IsTallyFull value (objects_in records.old)
         (states_among ⟦<dyn Driver as Driver>⟧ drivers.old) }
@@ -247,11 +247,11 @@ fn give_up(
         (log_len events.old) (log_capacity events.old) }
     requires enough { EnoughIn (value ∷ []) (objects_in records.old)
         (counts_among ⟦<dyn Driver as Driver>⟧ drivers.old) }
-    ensures gives { (gs : List (List Slot)) (sp : Bool) (is : List Input)
+    ensures gives { (gs : List (List Slot)) (n : ℕ) (sp : Bool) (b : Bounds) (is : List Input)
         → give_in value (world_by (objects_in records.old)
-        (counts_among ⟦<dyn Driver as Driver>⟧ drivers.old) gs (listed_in events.old) sp is)
+        (counts_among ⟦<dyn Driver as Driver>⟧ drivers.old) gs (listed_in events.old) n sp b is)
         ≡ world_by (objects_in records.new) (counts_among ⟦<dyn Driver as Driver>⟧ drivers.new) gs
-        (listed_in events.new) sp is }
+        (listed_in events.new) n sp b is }
     ensures ready { AreReady (states_among ⟦<dyn Driver as Driver>⟧ drivers.new)
         (log_len events.new) (log_capacity events.new) }
     ensures level { log_len events.new + live_among ⟦<dyn Driver as Driver>⟧ drivers.new

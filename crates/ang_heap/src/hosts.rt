@@ -8,7 +8,7 @@ ghost use Rattle.ang_host.specs.Members.{state_at};
 ghost use Rattle.ang_host.specs.Boxes.{members};
 ghost use Rattle.ang_host.specs.Events.{DriversFollow};
 ghost use Rattle.ang_meaning.specs.declared.slot.Slot.TheVariants.{Host};
-ghost use Rattle.ang_meaning.specs.World.{ScriptObjects, Input, give, host_raised};
+ghost use Rattle.ang_meaning.specs.World.{Bounds, ScriptObjects, Input, give, host_raised};
 ghost use Rattle.ang_heap.specs.Parts.{world_by, AreReady, PartsMove, states_among, counts_among, live_among};
 
 use ang_host::{Driver, Drivers, EventBuffer, release_listed};
@@ -20,12 +20,13 @@ pub fn release(drivers: &mut Drivers, events: &mut EventBuffer, driver: u32, key
     requires ready { AreReady (states_among ⟦<dyn Driver as Driver>⟧ drivers.old)
         (log_len events.old) (log_capacity events.old) }
     requires held { 0 < count_at (counts_among ⟦<dyn Driver as Driver>⟧ drivers.old driver) key }
-    ensures gives { (os : ScriptObjects) (gs : List (List Slot)) (sp : Bool) (is : List Input)
+    ensures gives { (os : ScriptObjects) (gs : List (List Slot)) (n : ℕ) (sp : Bool)
+        (b : Bounds) (is : List Input)
         → give (Host driver (Some key))
         (world_by os (counts_among ⟦<dyn Driver as Driver>⟧ drivers.old) gs
-        (listed_in events.old) sp is)
+        (listed_in events.old) n sp b is)
         ≡ world_by os (counts_among ⟦<dyn Driver as Driver>⟧ drivers.new) gs
-        (listed_in events.new) sp is }
+        (listed_in events.new) n sp b is }
     ensures ready { AreReady (states_among ⟦<dyn Driver as Driver>⟧ drivers.new)
         (log_len events.new) (log_capacity events.new) }
     ensures level { log_len events.new + live_among ⟦<dyn Driver as Driver>⟧ drivers.new

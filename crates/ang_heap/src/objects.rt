@@ -4,7 +4,7 @@ ghost use Rattle.std.specs.FinMap as map;
 ghost use Rattle.ang_meaning.specs.Perform.{field_of, with_field, new_object};
 ghost use Rattle.ang_meaning.specs.Environment.{default_of};
 ghost use Rattle.slab.specs.Slab.{get as slab_get, with_value};
-ghost use Rattle.ang_heap.specs.Slots.{slots_of};
+ghost use Rattle.ang_meaning.specs.Slots.{slots_of};
 ghost use Rattle.ang_heap.specs.Heaps.{IsTallied, IsLess, record_of, objects_in, objects_of, class_of_record, rank_of_record};
 
 use crate::heap::{Heap, ScriptObject};

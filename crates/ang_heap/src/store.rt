@@ -7,9 +7,9 @@ ghost use Rattle.ang_meaning.specs.declared.slot.Slot.TheVariants.{Script as Han
 ghost use Rattle.ang_meaning.specs.World.{hold as hold_in, give as give_in, if_told};
 ghost use Rattle.ang_meaning.specs.Counting.{CanGive, HasKey};
 ghost use Rattle.ang_heap.specs.Heaps.{objects_of};
-ghost use Rattle.ang_heap.specs.Slots.{slots_of};
+ghost use Rattle.ang_meaning.specs.Slots.{slots_of};
 ghost use Rattle.ang_heap.specs.Parts.{IsTallyFull, states_among, counts_among, live_among};
-ghost use Rattle.ang_heap.specs.Stores.{world_of, IsKept, IsReady, StoreTold, HasMoved, StoreBecomes, made_while};
+ghost use Rattle.ang_heap.specs.Stores.{world_of, bounds_of, IsKept, IsReady, StoreTold, HasMoved, StoreBecomes, made_while};
 
 use crate::globals::Globals;
 use crate::heap::{Heap, lower_shared, raise};
@@ -50,7 +50,7 @@ pub fn set_limits(store: &mut Store, limits: Limits)
     requires kept { IsKept ⟦<dyn Driver as Driver>⟧ store.old }
     ensures kept { IsKept ⟦<dyn Driver as Driver>⟧ store.new }
     ensures world { world_of ⟦<dyn Driver as Driver>⟧ store.new
-        ≡ world_of ⟦<dyn Driver as Driver>⟧ store.old }
+        ≡ record (world_of ⟦<dyn Driver as Driver>⟧ store.old) { bounds = bounds_of limits } }
     ensures set { store.new ≡ record store.old { limits = limits } }
 {
     store.limits = limits;

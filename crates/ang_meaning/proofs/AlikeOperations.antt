@@ -1,5 +1,5 @@
 -- Each strict operation does the same in two worlds that are equal up to the numbers of script objects.
-use Rattle.std.proofs.Common.{◌≡◌, ℕ, inl, inr, List, [], ◌∷◌, ◌++◌, Option, Some, None, refl, sym, ap, ◌∙◌, subst}
+use Rattle.std.proofs.Common.{◌≡◌, ℕ, suc, inl, inr, List, [], ◌∷◌, ◌++◌, Option, Some, None, refl, sym, ap, ◌∙◌, subst}
 use Rattle.std.specs.Prelude.{Bool, true, false, cond, ◌&&◌, ◌||◌, reverse, map as list_map}
 use Rattle.std.specs.FinMap as map
 use Rattle.std.proofs.lemmas.List.{reverse-append}
@@ -27,14 +27,14 @@ use Rattle.ang_meaning.specs.declared.class.Class.{Class}
 use Rattle.ang_meaning.specs.declared.class.ValueKind.{ValueKind}
 use Rattle.ang_meaning.specs.declared.class.ValueKind.TheVariants.{Number as NumberField, Handle as HandleField}
 use Rattle.ang_meaning.specs.Environment.{Environment, default_of, class_at, use_at, is_null}
-use Rattle.ang_meaning.specs.Hosts.{Done, Fine, Fails, accepted, is_void, if_within, slot_of, replied_by, is_reply_to, asked_from, asked, value_of, values_of}
-use Rattle.ang_meaning.specs.Perform.{work_done, name_one, is_same, change_of, global_or, global_put, stored_global, changed_global, Receiver, Of, key_at, receiver_of, behind_first, arguments_of, gives_up, called_of, read_of, write_of, in_place_of, altered_to, altered_of, field_or, field_put, may_take, stored_field, changed_field, is_under, cast_to, new_object, number_for, made_at, made_from, perform, NoReceiver, NullReceiver}
+use Rattle.ang_meaning.specs.Hosts.{Done, Fine, Fails, accepted, is_void, if_within, slot_of, one_reserved, replied_by, is_reply_to, may_ask, asked_from, asked, value_of, values_of}
+use Rattle.ang_meaning.specs.Perform.{work_done, name_one, is_same, change_of, global_or, global_put, stored_global, changed_global, Receiver, Of, key_at, receiver_of, behind_first, arguments_of, gives_up, called_of, read_of, write_of, in_place_of, altered_to, altered_of, field_or, field_put, may_take, stored_field, changed_field, is_under, cast_to, new_object, number_for, may_make, made_at, made_from, perform, NoReceiver, NullReceiver}
 use Rattle.ang_meaning.specs.Counting.{IsCounted}
 use Rattle.ang_meaning.specs.Alike.{Renaming, renamed, renamed_all, renamed_record, Tables}
 use Rattle.ang_meaning.proofs.Tables.{number_free}
 use Rattle.ang_meaning.proofs.Counted.{TriedCounted, memory_counted}
 use Rattle.ang_meaning.proofs.Renaming.{to_eq, swapped, swapped_at, swapped_alike, tables_insert}
-use Rattle.ang_meaning.proofs.AlikeWorlds.{three, TriedLeaves, DoneLeaves, TriedSame, DoneSame, DoneAlike, memory_alike, more_alike, hold_alike, give_alike, give_all_alike, global_renamed, put_alike, field_renamed, field_alike, takes_renamed, holding_alike}
+use Rattle.ang_meaning.proofs.AlikeWorlds.{three, TriedLeaves, DoneLeaves, TriedSame, DoneSame, DoneAlike, reserved_alike, may_ask_alike, may_make_alike, memory_alike, more_alike, hold_alike, give_alike, give_all_alike, global_renamed, put_alike, field_renamed, field_alike, takes_renamed, holding_alike}
 use Rattle.ang_meaning.proofs.Matching.{Match, AlikeUpTo}
 
 -- another renaming may do after an operation; it agrees on what stands on the stack
@@ -207,7 +207,9 @@ module _ (apart : Type 0) (r : Renaming) where
             hosts = x.0.hosts;
             globals = x.0.globals;
             events = x.0.events;
+            reserved = x.0.reserved;
             spent = x.0.spent;
+            bounds = x.0.bounds;
             inputs = m;
           },
         );
@@ -253,7 +255,18 @@ module _ (apart : Type 0) (r : Renaming) where
       three (λ t. made_told_alike k s (memory_step v) (memory_step w) t (memory_counted s v counted)) (λ l. kept s _ _ (inr (inl (made_leaves k (memory_step v) l))))
       (λ l. kept s _ _ (inr (inr (made_leaves k (memory_step w) l)))) (memory_alike apart r v w h)
 
+  -- where the bounds allow it, and where they don't
+  if_may_make : (b c : Bool) (s : List Slot) (v w : World) (o p : Done) → c ≡ b → AlikeUpTo apart r v w → OneAlike apart r s o p → OneAlike apart r s (cond b o (Fails Memory v)) (cond c p (Fails Memory w))
+  if_may_make b c s v w o p e h a =
+      subst (λ x. OneAlike apart r s (cond b o (Fails Memory v)) (cond x p (Fails Memory w))) (sym e)
+      (elim b as (λ x. OneAlike apart r s (cond x o (Fails Memory v)) (cond x p (Fails Memory w))) [ true ↦ a | false ↦ kept s _ _ (inl (refl, h)) ])
+
   -- ---- host calls
+
+  if_may_ask : (b c : Bool) (v w : World) (o p : Done) → c ≡ b → AlikeUpTo apart r v w → DoneAlike apart r o p → DoneAlike apart r (cond b o (Fails Memory v)) (cond c p (Fails Memory w))
+  if_may_ask b c v w o p e h a =
+      subst (λ x. DoneAlike apart r (cond b o (Fails Memory v)) (cond x p (Fails Memory w))) (sym e)
+      (elim b as (λ x. DoneAlike apart r (cond x o (Fails Memory v)) (cond x p (Fails Memory w))) [ true ↦ a | false ↦ inl (refl, h) ])
 
   accepted_alike : (o : Option Slot) (v w : World) → IsFixed r o → AlikeUpTo apart r v w → DoneAlike apart r (accepted o v) (accepted o w)
   accepted_alike None v w e h = inl (refl, h)
@@ -265,7 +278,7 @@ module _ (apart : Type 0) (r : Renaming) where
 
   replied_alike : (d : ℕ) (result : HostValueType) (q : HostReply) (v w : World) → AlikeUpTo apart r v w → DoneAlike apart r (replied_by d result q v) (replied_by d result q w)
   unfolding replied_by
-  replied_alike d result (Making (MadeKey k)) v w h = inl (refl, more_alike apart r (Host d (Some k)) v w h)
+  replied_alike d result (Making (MadeKey k)) v w h = inl (refl, more_alike apart r (Host d (Some k)) (one_reserved v) (one_reserved w) (reserved_alike apart r v w h))
   replied_alike d result (Making MadeNothing) v w h = inl (refl, h)
   replied_alike d result (Making (MadeFault n)) v w h = inl (refl, h)
   replied_alike d result (Making MadeMemory) v w h = inl (refl, h)
@@ -283,14 +296,16 @@ module _ (apart : Type 0) (r : Renaming) where
     said_alike false result reply v w v' w' h k = inl (refl, h)
 
     listed_alike : (object : Option ℕ) (args : List Value) (reply : HostReply) (is js : List Input) (v w : World) → Match apart is js → AlikeUpTo apart r v w
-        → AlikeUpTo apart r (record v { inputs = is; events = v.events ++ Called (z.name m) e (use_at z m e).driver object args reply ∷ [] })
-        (record w { inputs = js; events = w.events ++ Called (z.name m) e (use_at z m e).driver object args reply ∷ [] })
+        → AlikeUpTo apart r (record v { inputs = is; events = v.events ++ Called (z.name m) e (use_at z m e).driver object args reply ∷ []; reserved = suc v.reserved })
+        (record w { inputs = js; events = w.events ++ Called (z.name m) e (use_at z m e).driver object args reply ∷ []; reserved = suc w.reserved })
     listed_alike object args reply is js v w mt h = record {
       objects = h.objects;
       hosts = h.hosts;
       globals = h.globals;
       events = ap (λ es. es ++ Called (z.name m) e (use_at z m e).driver object args reply ∷ []) h.events;
+      reserved = ap suc h.reserved;
       spent = h.spent;
+      bounds = h.bounds;
       inputs = mt;
     }
 
@@ -336,8 +351,9 @@ module _ (apart : Type 0) (r : Renaming) where
     asked_alike : (object : Option ℕ) (args : List Value) (result : HostValueType) (v w : World) → AlikeUpTo apart r v w → DoneAlike apart r (asked z m e object args result v) (asked z m e object args result w)
     unfolding asked
     asked_alike object args result v w h =
-        three (λ t. asked_same object args result (memory_step v) (memory_step w) t) (λ l. inr (inl (asked_leaves object args result (memory_step v) l)))
-        (λ l. inr (inr (asked_leaves object args result (memory_step w) l))) (memory_alike apart r v w h)
+        if_may_ask (may_ask (use_at z m e).role v) (may_ask (use_at z m e).role w) v w _ _ (may_ask_alike apart r (use_at z m e).role v w h) h
+        (three (λ t. asked_same object args result (memory_step v) (memory_step w) t) (λ l. inr (inl (asked_leaves object args result (memory_step v) l)))
+        (λ l. inr (inr (asked_leaves object args result (memory_step w) l))) (memory_alike apart r v w h))
 
     called_by : (q : Receiver) (args : List Slot) (v w : World) → AlikeUpTo apart r v w → DoneAlike apart r (called_of z m e q args v) (called_of z m e q (renamed_all r args) w)
     called_by NoReceiver args v w h =
@@ -592,7 +608,9 @@ module _ (apart : Type 0) (r : Renaming) where
     perform_alike (Alter e c) (x ∷ []) = kept s _ _ (altered_alike z m e [] c x v w h)
     perform_alike (Alter e c) (o ∷ (x ∷ [])) = kept s _ _ (gives_alike (o ∷ []) _ _ (altered_alike z m e (o ∷ []) c x v w h))
     perform_alike (Alter e c) (o ∷ (x ∷ (u ∷ us))) = misfit
-    perform_alike (Make c) [] = made_alike (class_at z m c) s v w counted h
+    perform_alike (Make c) [] =
+        if_may_make (may_make (class_at z m c) v) (may_make (class_at z m c) w) s v w _ _ (may_make_alike apart r (class_at z m c) v w h) h
+        (made_alike (class_at z m c) s v w counted h)
     perform_alike (Make c) (x ∷ vs) = misfit
     perform_alike (FieldGet i) [] = misfit
     perform_alike (FieldGet i) (Bits x ∷ us) = misfit

@@ -1,16 +1,19 @@
 -- Two worlds that are equal up to the numbers of script objects stay so, whatever is held, given up and stored.
-use Rattle.std.proofs.Common.{◌≡◌, ℕ, zero, suc, inl, inr, List, [], ◌∷◌, ◌++◌, Option, Some, None, refl, sym, ap, ◌∙◌, subst}
-use Rattle.std.specs.Prelude.{◌⊎◌, Bool, true, false, cond, slice_set, slice_index_or}
+use Rattle.std.proofs.Common.{◌≡◌, ℕ, zero, suc, ◌+◌, inl, inr, List, [], ◌∷◌, ◌++◌, Option, Some, None, refl, sym, ap, ap₂, ◌∙◌, subst, length}
+use Rattle.std.specs.Prelude.{◌⊎◌, ◌-◌, ◌&&◌, Bool, true, false, cond, nat_lt, nat_le, slice_set, slice_index_or}
 use Rattle.std.specs.FinMap as map
 use Rattle.ang_kinds.specs.declared.fault.Fault.TheVariants.{Tally}
 use Rattle.ang_host.specs.declared.event.HostEvent.TheVariants.{Ended}
+use Rattle.ang_host.specs.declared.event.Role.{Role}
+use Rattle.ang_host.specs.declared.event.Role.TheVariants.{Making, Calling, Property}
+use Rattle.ang_meaning.specs.declared.class.Class.{Class}
 use Rattle.ang_meaning.specs.declared.slot.Slot.{Slot}
 use Rattle.ang_meaning.specs.declared.slot.Slot.TheVariants.{Bits, Script, Host}
-use Rattle.ang_meaning.specs.World.{World, ScriptRecord, ScriptObjects, Input, Room, Said, Tallied, Fresh, with_inputs, Tried, Yes, No, if_told, memory_told, memory_step, HoldLimit, Inside, AtEnd, OfDriver, hold_limit_of, refused_at, raised_at, script_raised, host_raised, one_more, tally_told, tally_step, hold, Lowered, Gone, Kept, one_less, lowered_at, script_lowered, host_lowered, each_given, script_given, given, give, give_all, or_else}
-use Rattle.ang_meaning.specs.Hosts.{Done, Fine, Fails, holding}
-use Rattle.ang_meaning.specs.Perform.{global_or, global_put, field_of, field_or, with_field, field_put, is_lower, may_take, member_or, member_put}
+use Rattle.ang_meaning.specs.World.{World, ScriptRecord, ScriptObjects, Input, Room, Said, Tallied, Fresh, with_inputs, Tried, Yes, No, if_told, memory_told, memory_step, HoldLimit, Inside, AtEnd, OfDriver, hold_limit_of, refused_at, raised_at, script_raised, host_raised, one_more, tally_told, tally_step, hold, Lowered, Gone, Kept, one_less, lowered_at, script_lowered, host_lowered, each_given, script_given, given, give, give_all, or_else, has_events, has_object}
+use Rattle.ang_meaning.specs.Hosts.{Done, Fine, Fails, holding, one_reserved, may_ask}
+use Rattle.ang_meaning.specs.Perform.{global_or, global_put, field_of, field_or, with_field, field_put, is_lower, may_take, member_or, member_put, may_make}
 use Rattle.ang_meaning.specs.Alike.{Renaming, renamed, renamed_all, renamed_lists, renamed_record, Tables}
-use Rattle.ang_meaning.proofs.Renaming.{tables_insert, tables_remove}
+use Rattle.ang_meaning.proofs.Renaming.{tables_insert, tables_remove, slots_alike}
 use Rattle.ang_meaning.proofs.Matching.{Match, AlikeUpTo}
 
 -- one of three
@@ -55,10 +58,41 @@ DoneAlike apart r o p = DoneSame apart r o p ⊎ (DoneLeaves apart o ⊎ DoneLea
 
 module _ (apart : Type 0) (r : Renaming) where
   pub told_alike : (is js : List Input) (v w : World) → Match apart is js → AlikeUpTo apart r v w → AlikeUpTo apart r (with_inputs is v) (with_inputs js w)
-  told_alike is js v w m p = record { objects = p.objects; hosts = p.hosts; globals = p.globals; events = p.events; spent = p.spent; inputs = m }
+  told_alike is js v w m p = record { objects = p.objects; hosts = p.hosts; globals = p.globals; events = p.events; reserved = p.reserved; spent = p.spent; bounds = p.bounds; inputs = m }
 
   pub objects_alike : (os ps : ScriptObjects) (v w : World) → Tables r os ps → AlikeUpTo apart r v w → AlikeUpTo apart r (record v { objects = os }) (record w { objects = ps })
-  objects_alike os ps v w t p = record { objects = t; hosts = p.hosts; globals = p.globals; events = p.events; spent = p.spent; inputs = p.inputs }
+  objects_alike os ps v w t p = record { objects = t; hosts = p.hosts; globals = p.globals; events = p.events; reserved = p.reserved; spent = p.spent; bounds = p.bounds; inputs = p.inputs }
+
+  -- ---- bounds
+
+  pub reserved_alike : (v w : World) → AlikeUpTo apart r v w → AlikeUpTo apart r (one_reserved v) (one_reserved w)
+  reserved_alike v w p = record {
+    objects = p.objects;
+    hosts = p.hosts;
+    globals = p.globals;
+    events = p.events;
+    reserved = ap suc p.reserved;
+    spent = p.spent;
+    bounds = p.bounds;
+    inputs = p.inputs;
+  }
+
+  events_same : (n : ℕ) (v w : World) → AlikeUpTo apart r v w → has_events n w ≡ has_events n v
+  events_same n v w h = ap₂ (λ k b. nat_le (k + n) b.events) h.reserved h.bounds
+
+  object_same : (v w : World) → AlikeUpTo apart r v w → has_object w ≡ has_object v
+  object_same v w h =
+      ap₂ (λ k es. nat_lt (k - length es) w.bounds.objects) h.reserved h.events ∙ ap (λ b. nat_lt (v.reserved - length v.events) b.objects) h.bounds
+
+  -- both may ask, or neither
+  pub may_ask_alike : (role : Role) (v w : World) → AlikeUpTo apart r v w → may_ask role w ≡ may_ask role v
+  may_ask_alike (Making f) v w h = ap₂ (λ a b. a && b) (object_same v w h) (events_same 2 v w h)
+  may_ask_alike (Calling f) v w h = events_same 1 v w h
+  may_ask_alike (Property f) v w h = events_same 1 v w h
+
+  -- both may make an object of the class, or neither
+  pub may_make_alike : (c : Class) (v w : World) → AlikeUpTo apart r v w → may_make c w ≡ may_make c v
+  may_make_alike c v w h = ap₂ (λ n b. nat_le (n + (1 + length c.fields)) b.slots) (slots_alike r v.objects w.objects h.objects) h.bounds
 
   -- ---- inputs
 
@@ -96,7 +130,7 @@ module _ (apart : Type 0) (r : Renaming) where
   refused_from : (x : HoldLimit) (is js : List Input) (v w : World) → Match apart is js → AlikeUpTo apart r v w → TriedAlike apart r (refused_at x is v) (refused_at x js w)
   refused_from Inside is js v w mt h = inl h
   refused_from AtEnd is js v w mt h = inl (told_alike is js v w mt h)
-  refused_from OfDriver is js v w mt h = inl (record { objects = h.objects; hosts = h.hosts; globals = h.globals; events = h.events; spent = refl; inputs = mt })
+  refused_from OfDriver is js v w mt h = inl (record { objects = h.objects; hosts = h.hosts; globals = h.globals; events = h.events; reserved = h.reserved; spent = refl; bounds = h.bounds; inputs = mt })
 
   tally_from : (x : HoldLimit) (is js : List Input) (v w : World) → v.inputs ≡ is → w.inputs ≡ js → Match apart is js → AlikeUpTo apart r v w → TriedAlike apart r (tally_told x is v) (tally_told x js w)
   tally_from x [] [] v w e f mt h = inl h
@@ -155,7 +189,7 @@ module _ (apart : Type 0) (r : Renaming) where
   more_alike (Script None) v w h = h
   more_alike (Script (Some n)) v w h = objects_alike _ _ v w (script_raised_alike n v.objects w.objects h.objects) h
   more_alike (Host d None) v w h = h
-  more_alike (Host d (Some k)) v w h = record { objects = h.objects; hosts = ap (λ hs. host_raised d k hs) h.hosts; globals = h.globals; events = h.events; spent = h.spent; inputs = h.inputs }
+  more_alike (Host d (Some k)) v w h = record { objects = h.objects; hosts = ap (λ hs. host_raised d k hs) h.hosts; globals = h.globals; events = h.events; reserved = h.reserved; spent = h.spent; bounds = h.bounds; inputs = h.inputs }
 
   held_same : (x : Slot) (o p : Tried) → TriedSame apart r o p → TriedSame apart r (or_else o No (λ u. Yes (one_more x u))) (or_else p No (λ u. Yes (one_more (renamed r x) u)))
   held_same x (Yes v) (Yes w) h = more_alike x v w h
@@ -220,7 +254,9 @@ module _ (apart : Type 0) (r : Renaming) where
     globals = h.globals;
     events = ap (λ hs. cond (host_lowered d k hs).ended (w.events ++ Ended d k ∷ []) w.events) h.hosts
         ∙ ap (λ es. cond (host_lowered d k v.hosts).ended (es ++ Ended d k ∷ []) es) h.events;
+    reserved = h.reserved;
     spent = h.spent;
+    bounds = h.bounds;
     inputs = h.inputs;
   }
   given_alike zero (Script (Some k)) v w h = h
@@ -275,7 +311,9 @@ module _ (apart : Type 0) (r : Renaming) where
         ∙ ap (λ l. slice_set (renamed_lists r v.globals) m l) (set_renamed (slice_index_or v.globals m []) g x)
         ∙ lists_set v.globals m (slice_set (slice_index_or v.globals m []) g x);
     events = h.events;
+    reserved = h.reserved;
     spent = h.spent;
+    bounds = h.bounds;
     inputs = h.inputs;
   }
 

@@ -31,8 +31,8 @@ use Rattle.ang_meaning.specs.Told.{Moves, GoesOn}
 use Rattle.ang_meaning.specs.Counting.{count_of_object}
 use Rattle.ang_meaning.specs.declared.class.Class.{Class}
 use Rattle.ang_meaning.specs.Environment.{Environment, class_at, use_at}
-use Rattle.ang_meaning.specs.Hosts.{Done, Fine, Fails, accepted, holding, is_void, slot_of, replied_by, is_reply_to, asked_from, asked, value_of, values_of}
-use Rattle.ang_meaning.specs.Perform.{work_done, change_of, global_or, changed_global, Receiver, Of, receiver_of, arguments_of, gives_up, called_of, read_of, write_of, in_place_of, altered_to, altered_of, field_or, may_take, stored_field, changed_field, field_put, global_put, is_under, cast_to, made_from, perform, NoReceiver, NullReceiver}
+use Rattle.ang_meaning.specs.Hosts.{Done, Fine, Fails, accepted, holding, is_void, slot_of, replied_by, is_reply_to, may_ask, asked_from, asked, value_of, values_of}
+use Rattle.ang_meaning.specs.Perform.{work_done, change_of, global_or, changed_global, Receiver, Of, receiver_of, arguments_of, gives_up, called_of, read_of, write_of, in_place_of, altered_to, altered_of, field_or, may_take, stored_field, changed_field, field_put, global_put, is_under, cast_to, may_make, made_from, perform, NoReceiver, NullReceiver}
 use Rattle.ang_meaning.specs.Causes.{RefusesFullCount, WasAnsweredFull, TallyCause}
 use Rattle.ang_meaning.proofs.Moving.{TriedFrom, memory_goes, DoneFrom, read_goes}
 use Rattle.ang_meaning.proofs.Operating.{KnownOption, slot_known}
@@ -302,7 +302,7 @@ module _ (P : Type 0) (z : Environment) (m : ℕ) (e : EntityNo) where
   asked_said : (object : Option ℕ) (args : List Value) (result : HostValueType) (inputs : List Input) (w : World) → w.inputs ≡ inputs → DoneTally P w (asked_from z m e object args result inputs w)
   asked_said object args result (Said reply ∷ rest) w h =
       let event = Called (z.name m) e (use_at z m e).driver object args reply in
-      let u : World = record w { inputs = rest; events = w.events ++ event ∷ [] } in
+      let u : World = record w { inputs = rest; events = w.events ++ event ∷ []; reserved = suc w.reserved } in
       let g : GoesOn w u = record { used = Said reply ∷ []; moves = record { more = event ∷ []; inputs = h; events = refl; answers = refl }; room = refl } in
       let full : is_full reply ≡ true → WasAnsweredFull w u = λ f. record { more = event ∷ []; events = refl; full = ap (λ b. b || false) f } in
       kind_tally P (is_reply_to (use_at z m e).role reply) w _
@@ -314,7 +314,8 @@ module _ (P : Type 0) (z : Environment) (m : ℕ) (e : EntityNo) where
 
   asked_tally : (object : Option ℕ) (args : List Value) (result : HostValueType) (w : World) → DoneTally P w (asked z m e object args result w)
   unfolding asked
-  asked_tally object args result w = memory_tally P w (memory_step w) _ (memory_goes w) (λ u. asked_said object args result u.inputs u refl)
+  asked_tally object args result w =
+      kind_tally P (may_ask (use_at z m e).role w) w _ (memory_tally P w (memory_step w) _ (memory_goes w) (λ u. asked_said object args result u.inputs u refl))
 
   called_tally : (r : Receiver) (args : List Slot) (w : World) → DoneTally P w (called_of z m e r args w)
   called_tally NoReceiver args w = asked_tally None (values_of (use_at z m e).driver (use_at z m e).params args) (use_at z m e).result w
@@ -456,7 +457,9 @@ perform_tally z m (Alter e c) (o ∷ (v ∷ [])) w =
     let r = receiver_of (use_at z m e) (o ∷ []) in
     up_tally (RefusesFullCount w) (o ∷ []) w _ (altered_tally (RefusesFullCount w) z m e r c v w (read_of z m e r w) (read_goes z m e r w) (read_tally (RefusesFullCount w) z m e r w))
 perform_tally z m (Alter e c) (o ∷ (v ∷ (u ∷ us))) w = misfit (RefusesFullCount w) w
-perform_tally z m (Make c) [] w = memory_tally (RefusesFullCount w) w (memory_step w) _ (memory_goes w) (λ u. made_tally (RefusesFullCount w) (class_at z m c) u.inputs u)
+perform_tally z m (Make c) [] w =
+    kind_tally (RefusesFullCount w) (may_make (class_at z m c) w) w _
+    (memory_tally (RefusesFullCount w) w (memory_step w) _ (memory_goes w) (λ u. made_tally (RefusesFullCount w) (class_at z m c) u.inputs u))
 perform_tally z m (Make c) (v ∷ vs) w = misfit (RefusesFullCount w) w
 perform_tally z m (FieldGet i) [] w = misfit (RefusesFullCount w) w
 perform_tally z m (FieldGet i) (Bits x ∷ us) w = misfit (RefusesFullCount w) w

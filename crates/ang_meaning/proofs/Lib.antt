@@ -23,3 +23,4 @@ pub mod AlikeOperations
 pub mod Typed
 pub mod Refused
 pub mod Causes
+pub mod Slots

@@ -34,7 +34,9 @@ pub record AlikeUpTo (apart : Type 0) (r : Renaming) (v w : World) : Type 0 wher
   pub hosts : w.hosts ≡ v.hosts
   pub globals : w.globals ≡ renamed_lists r v.globals
   pub events : w.events ≡ v.events
+  pub reserved : w.reserved ≡ v.reserved
   pub spent : w.spent ≡ v.spent
+  pub bounds : w.bounds ≡ v.bounds
   pub inputs : Match apart v.inputs w.inputs
 
 -- ---- where none may be apart
@@ -94,7 +96,7 @@ same_of (Fresh x ∷ is) (Tallied y ∷ js) h = absurd h
 same_of (Fresh x ∷ is) (Fresh y ∷ js) h = ap (λ l. Fresh 0 ∷ l) (same_of is js h)
 
 pub alike_of : (r : Renaming) (v w : World) → Alike r v w → AlikeUpTo ⊥ r v w
-alike_of r v w h = record { objects = h.objects; hosts = h.hosts; globals = h.globals; events = h.events; spent = h.spent; inputs = match_of v.inputs w.inputs h.inputs }
+alike_of r v w h = record { objects = h.objects; hosts = h.hosts; globals = h.globals; events = h.events; reserved = h.reserved; spent = h.spent; bounds = h.bounds; inputs = match_of v.inputs w.inputs h.inputs }
 
 pub alike_by : (r : Renaming) (v w : World) → AlikeUpTo ⊥ r v w → Alike r v w
-alike_by r v w h = record { objects = h.objects; hosts = h.hosts; globals = h.globals; events = h.events; spent = h.spent; inputs = same_of v.inputs w.inputs h.inputs }
+alike_by r v w h = record { objects = h.objects; hosts = h.hosts; globals = h.globals; events = h.events; reserved = h.reserved; spent = h.spent; bounds = h.bounds; inputs = same_of v.inputs w.inputs h.inputs }

@@ -26,8 +26,8 @@ use Rattle.ang_meaning.specs.World.{World, HostCounts, Input, Room, Said, Tallie
 use Rattle.ang_meaning.specs.Told.{has_room, stopped_by, answers_told, answers_listed, Moves, GoesOn, Faults}
 use Rattle.ang_meaning.specs.declared.class.Class.{Class}
 use Rattle.ang_meaning.specs.Environment.{Environment, class_at, use_at}
-use Rattle.ang_meaning.specs.Hosts.{Done, Fine, Fails, accepted, is_void, slot_of, replied_by, is_reply_to, asked_from, asked, value_of, values_of}
-use Rattle.ang_meaning.specs.Perform.{work_done, change_of, global_or, global_put, stored_global, changed_global, Receiver, Of, receiver_of, arguments_of, gives_up, called_of, read_of, write_of, in_place_of, altered_to, altered_of, field_or, field_put, may_take, member_put, stored_field, changed_field, is_under, cast_to, number_for, made_at, made_from, perform, NoReceiver, NullReceiver}
+use Rattle.ang_meaning.specs.Hosts.{Done, Fine, Fails, accepted, is_void, slot_of, one_reserved, replied_by, is_reply_to, may_ask, asked_from, asked, value_of, values_of}
+use Rattle.ang_meaning.specs.Perform.{work_done, change_of, global_or, global_put, stored_global, changed_global, Receiver, Of, receiver_of, arguments_of, gives_up, called_of, read_of, write_of, in_place_of, altered_to, altered_of, field_or, field_put, may_take, member_put, stored_field, changed_field, is_under, cast_to, number_for, may_make, made_at, made_from, perform, NoReceiver, NullReceiver}
 use Rattle.ang_meaning.specs.Results.{give_some, give_back, give_others}
 
 told_append : (a b : List Input) → answers_told (a ++ b) ≡ answers_told a ++ answers_told b
@@ -243,7 +243,8 @@ void_goes false w = faulted BadAnswer w w (nothing w)
 
 replied_goes : (d : ℕ) (result : HostValueType) (r : HostReply) (w : World) → DoneFrom w (replied_by d result r w)
 unfolding replied_by
-replied_goes d result (Making (MadeKey k)) w = gives w _ (more_moves (Host d (Some k)) w)
+replied_goes d result (Making (MadeKey k)) w =
+    let p = more_moves (Host d (Some k)) (one_reserved w) in gives w _ (record { more = p.more; inputs = p.inputs; events = p.events; answers = p.answers })
 replied_goes d result (Making MadeNothing) w = faulted NoObject w w (nothing w)
 replied_goes d result (Making (MadeFault n)) w = faulted (HostFault n) w w (nothing w)
 replied_goes d result (Making MadeMemory) w = faulted Memory w w (nothing w)
@@ -254,7 +255,7 @@ replied_goes d result (Asking (SaidFault n)) w = faulted (HostFault n) w w (noth
 replied_goes d result (Asking SaidMemory) w = faulted Memory w w (nothing w)
 replied_goes d result (Asking Full) w = faulted Tally w w (nothing w)
 
--- a reply of another kind is left
+-- a reply of another kind is left, and so are all inputs where a bound is met
 kind_goes : (b : Bool) (w : World) (o : Done) → DoneFrom w o → DoneFrom w (cond b o (Fails Memory w))
 kind_goes true w o p = p
 kind_goes false w o p = faulted Memory w w (nothing w)
@@ -263,7 +264,7 @@ module _ (z : Environment) (m : ℕ) (e : EntityNo) where
   asked_said : (object : Option ℕ) (args : List Value) (result : HostValueType) (inputs : List Input) (w : World) → w.inputs ≡ inputs → DoneFrom w (asked_from z m e object args result inputs w)
   asked_said object args result (Said reply ∷ rest) w h =
       let event = Called (z.name m) e (use_at z m e).driver object args reply in
-      let u : World = record w { inputs = rest; events = w.events ++ event ∷ [] } in
+      let u : World = record w { inputs = rest; events = w.events ++ event ∷ []; reserved = suc w.reserved } in
       kind_goes (is_reply_to (use_at z m e).role reply) w _
       (done_then w u _ (record { used = Said reply ∷ []; moves = record { more = event ∷ []; inputs = h; events = refl; answers = refl }; room = refl })
       (replied_goes (use_at z m e).driver result reply u))
@@ -278,7 +279,7 @@ module _ (z : Environment) (m : ℕ) (e : EntityNo) where
 
   asked_goes : (object : Option ℕ) (args : List Value) (result : HostValueType) (w : World) → DoneFrom w (asked z m e object args result w)
   unfolding asked
-  asked_goes object args result w = asked_tried object args result w (memory_step w) (memory_goes w)
+  asked_goes object args result w = kind_goes (may_ask (use_at z m e).role w) w _ (asked_tried object args result w (memory_step w) (memory_goes w))
 
   called_goes : (r : Receiver) (args : List Slot) (w : World) → DoneFrom w (called_of z m e r args w)
   called_goes NoReceiver args w = asked_goes None (values_of (use_at z m e).driver (use_at z m e).params args) (use_at z m e).result w
@@ -440,7 +441,7 @@ perform_goes z m (Alter e c) (o ∷ (v ∷ [])) w =
     let r = receiver_of (use_at z m e) (o ∷ []) in
     gives_up_goes (o ∷ []) w _ (altered_goes z m e r c v w (read_of z m e r w) (read_goes z m e r w))
 perform_goes z m (Alter e c) (o ∷ (v ∷ (u ∷ us))) w = misfit w
-perform_goes z m (Make c) [] w = made_goes (class_at z m c) w (memory_step w) (memory_goes w)
+perform_goes z m (Make c) [] w = kind_goes (may_make (class_at z m c) w) w _ (made_goes (class_at z m c) w (memory_step w) (memory_goes w))
 perform_goes z m (Make c) (v ∷ vs) w = misfit w
 perform_goes z m (FieldGet i) [] w = misfit w
 perform_goes z m (FieldGet i) (Bits x ∷ us) w = misfit w

@@ -27,8 +27,8 @@ use Rattle.ang_meaning.specs.Numbers.{Worked, Is, Cannot, Changed, Into, Never, 
 use Rattle.ang_meaning.specs.World.{World, ScriptRecord, Input, Room, Said, Tallied, Fresh, with_inputs, if_told, Tried, Yes, No, memory_step, HoldLimit, Inside, AtEnd, OfDriver, hold_limit_of, refused_at, tally_told, tally_step, one_more, hold, give, or_else}
 use Rattle.ang_meaning.specs.declared.class.Class.{Class}
 use Rattle.ang_meaning.specs.Environment.{Environment, class_at, use_at, host_in, is_property, may_write, is_fit}
-use Rattle.ang_meaning.specs.Hosts.{Done, Fine, Fails, accepted, is_void, if_within, slot_of, replied_by, is_reply_to, asked_from, asked, value_of, values_of}
-use Rattle.ang_meaning.specs.Perform.{work_done, change_of, global_or, global_put, stored_global, changed_global, Receiver, Of, receiver_of, arguments_of, gives_up, called_of, read_of, write_of, in_place_of, altered_to, altered_of, field_or, field_put, may_take, stored_field, changed_field, is_under, cast_to, number_for, made_from, perform, NoReceiver, NullReceiver}
+use Rattle.ang_meaning.specs.Hosts.{Done, Fine, Fails, accepted, is_void, if_within, slot_of, one_reserved, replied_by, is_reply_to, may_ask, asked_from, asked, value_of, values_of}
+use Rattle.ang_meaning.specs.Perform.{work_done, change_of, global_or, global_put, stored_global, changed_global, Receiver, Of, receiver_of, arguments_of, gives_up, called_of, read_of, write_of, in_place_of, altered_to, altered_of, field_or, field_put, may_take, stored_field, changed_field, is_under, cast_to, number_for, may_make, made_from, perform, NoReceiver, NullReceiver}
 use Rattle.ang_meaning.specs.Counting.{Thing, names, IsCounted, IsBelow, AreSoundObjects}
 use Rattle.ang_meaning.proofs.Counting.{bits_name_none, null_names_none, HasObject}
 use Rattle.ang_meaning.proofs.Ranks.{stems_ranked, still_below, more_stems}
@@ -126,7 +126,7 @@ void_counted false f s w p = p
 
 replied_counted : (d : ℕ) (result : HostValueType) (r : HostReply) (s : List Slot) (w : World) → IsCounted s w → DoneWith s (replied_by d result r w)
 unfolding replied_by
-replied_counted d result (Making (MadeKey k)) s w p = more_counted (Host d (Some k)) s w tt p
+replied_counted d result (Making (MadeKey k)) s w p = more_counted (Host d (Some k)) s (one_reserved w) tt p
 replied_counted d result (Making MadeNothing) s w p = p
 replied_counted d result (Making (MadeFault n)) s w p = p
 replied_counted d result (Making MadeMemory) s w p = p
@@ -152,6 +152,15 @@ replied_void role d (Asking (SaidFault n)) s w e h p = p
 replied_void role d (Asking SaidMemory) s w e h p = p
 replied_void role d (Asking Full) s w e h p = p
 
+-- where the bounds don't allow it
+may_counted : (b : Bool) (s : List Slot) (w : World) (d : Done) → IsCounted s w → DoneWith s d → DoneWith s (cond b d (Fails Memory w))
+may_counted true s w d p q = q
+may_counted false s w d p q = p
+
+may_void : (b : Bool) (s : List Slot) (w : World) (d : Done) → IsCounted s w → DoneVoid s d → DoneVoid s (cond b d (Fails Memory w))
+may_void true s w d p q = q
+may_void false s w d p q = p
+
 module _ (z : Environment) (m : ℕ) (e : EntityNo) where
   said_counted : (b : Bool) (result : HostValueType) (reply : HostReply) (s : List Slot) (w w' : World) → IsCounted s w → IsCounted s w' → DoneWith s (cond b (replied_by (use_at z m e).driver result reply w') (Fails Memory w))
   said_counted true result reply s w w' p q = replied_counted (use_at z m e).driver result reply s w' q
@@ -170,7 +179,7 @@ module _ (z : Environment) (m : ℕ) (e : EntityNo) where
 
   pub asked_counted : (object : Option ℕ) (args : List Value) (result : HostValueType) (s : List Slot) (w : World) → IsCounted s w → DoneWith s (asked z m e object args result w)
   unfolding asked
-  asked_counted object args result s w p = told_counted object args result s (memory_step w) (memory_counted s w p)
+  asked_counted object args result s w p = may_counted (may_ask (use_at z m e).role w) s w _ p (told_counted object args result s (memory_step w) (memory_counted s w p))
 
   called_counted : (r : Receiver) (args : List Slot) (s : List Slot) (w : World) → IsCounted s w → DoneWith s (called_of z m e r args w)
   called_counted NoReceiver args s w p = asked_counted None (values_of (use_at z m e).driver (use_at z m e).params args) (use_at z m e).result s w p
@@ -201,7 +210,7 @@ module _ (z : Environment) (m : ℕ) (e : EntityNo) where
 
     asked_void : (object : Option ℕ) (args : List Value) (s : List Slot) (w : World) → IsCounted s w → DoneVoid s (asked z m e object args Nothing w)
     unfolding asked
-    asked_void object args s w p = told_void object args s (memory_step w) (memory_counted s w p)
+    asked_void object args s w p = may_void (may_ask (use_at z m e).role w) s w _ p (told_void object args s (memory_step w) (memory_counted s w p))
 
     write_void : (r : Receiver) (v : Slot) (s : List Slot) (w : World) → IsCounted s w → DoneVoid s (write_of z m e r v w)
     write_void NoReceiver v s w p = asked_void None (value_of (use_at z m e).driver (use_at z m e).result v ∷ []) s w p
@@ -468,7 +477,7 @@ perform_counted z m (Alter e c) (o ∷ (v ∷ [])) s w fit p =
     let property = access_role (z.host m e.0) fit in
     of_object z m e property o v s _ (altered_plain z m e property r c v (read_of z m e r w)) (altered_void z m e property r c v (o ∷ v ∷ s) (read_of z m e r w) (read_counted z m e r (o ∷ v ∷ s) w p))
 perform_counted z m (Alter e c) (o ∷ (v ∷ (u ∷ us))) s w fit p = p
-perform_counted z m (Make c) [] s w fit p = made_taken s _ (made_counted (class_at z m c) s (memory_step w) (memory_counted s w p))
+perform_counted z m (Make c) [] s w fit p = made_taken s _ (may_counted (may_make (class_at z m c) w) s w _ p (made_counted (class_at z m c) s (memory_step w) (memory_counted s w p)))
 perform_counted z m (Make c) (v ∷ vs) s w fit p = p
 perform_counted z m (FieldGet i) [] s w fit p = p
 perform_counted z m (FieldGet i) (Bits x ∷ us) s w fit p = p

@@ -1,19 +1,22 @@
 -- Permutations of the numbers of script objects, and what they leave as it is.
-use Rattle.std.proofs.Common.{◌≡◌, ℕ, ◌+◌, ◌<◌, ◌≤◌, List, [], ◌∷◌, Option, Some, None, refl, sym, ap, ◌∙◌, arith}
-use Rattle.std.specs.Prelude.{◌-◌, Bool, true, false, cond, nat_eq, is_some}
+use Rattle.std.proofs.Common.{◌≡◌, ℕ, zero, suc, ◌+◌, ◌<◌, ◌≤◌, inl, inr, List, [], ◌∷◌, Option, Some, None, refl, sym, ap, ◌∙◌, arith}
+use Rattle.std.specs.Prelude.{◌⊎◌, ◌-◌, Bool, true, false, cond, nat_eq, is_some}
 use Rattle.std.specs.FinMap as map
 use Rattle.std.specs.FinMap.{len-insert, len-remove}
 use Rattle.std.proofs.lemmas.Cmp.{nat_cmp_total}
 use Rattle.std.proofs.lemmas.Bool.{eq-eqb, eqb-true}
+use Rattle.std.proofs.lemmas.List.{length-map}
 use Rattle.ang_meaning.specs.declared.slot.Slot.{Slot}
 use Rattle.ang_meaning.specs.declared.slot.Slot.TheVariants.{Bits, Script, Host}
 use Rattle.ang_meaning.specs.World.{World, ScriptRecord, ScriptObjects}
 use Rattle.ang_meaning.specs.Counting.{Thing, how_many, in_lists, count_of_object, count_in, IsCounted}
 use Rattle.ang_meaning.specs.Alike.{Renaming, renamed, renamed_all, renamed_lists, renamed_record, Tables}
 use Rattle.ang_meaning.proofs.Counting.{HasObject}
-use Rattle.ang_meaning.proofs.Tables.{get_inserted, get_without, sum-bound}
+use Rattle.ang_meaning.proofs.Tables.{get_inserted, get_without, sum-bound, len_gone}
 use Rattle.ang_meaning.proofs.Counted.{there_of}
 use Rattle.ang_meaning.proofs.Matching.{AlikeUpTo}
+use Rattle.ang_meaning.specs.Slots.{slots_of}
+use Rattle.ang_meaning.proofs.Slots.{held, remove_slots, slots_of_none, first_of_slots}
 
 -- ---- numbers
 
@@ -135,7 +138,9 @@ swapped_alike apart r a b s v w g h c p =
         hosts = p.hosts;
         globals = p.globals ∙ sym (globals_same r q s v agrees c);
         events = p.events;
+        reserved = p.reserved;
         spent = p.spent;
+        bounds = p.bounds;
         inputs = p.inputs;
       },
       stack_same r q s v agrees c,
@@ -172,3 +177,31 @@ tables_remove r os ps n t = record {
       ∙ ap (λ l. cond (is_some (map.get os n)) (l - 1) l) t.size
       ∙ sym (len-remove nat_cmp_total os n);
 }
+
+-- ---- slots
+
+renamed_held : (r : Renaming) (o : Option ScriptRecord) → held (renamed_record r o) ≡ held o
+renamed_held r None = refl
+renamed_held r (Some o) = omega (arith, length-map o.fields (renamed r))
+
+-- without the first object of both
+slots_by : (r : Renaming) (k : ℕ) (os ps : ScriptObjects) → map.len os ≤ suc k → Tables r os ps → ((os ps : ScriptObjects) → map.len os ≤ k → Tables r os ps → slots_of ps ≡ slots_of os)
+    → (map.len os ≡ 0) ⊎ ((n : ℕ) × (o : ScriptRecord) × (map.get os n ≡ Some o)) → slots_of ps ≡ slots_of os
+slots_by r k os ps le t ih (inl e) = slots_of_none ps (t.size ∙ e) ∙ sym (slots_of_none os e)
+slots_by r k os ps le t ih (inr x) =
+    let n = x.0 in
+    let rest = ih (map.remove os n) (map.remove ps (r.to n)) (omega (arith, le, len_gone os n x.1 x.2)) (tables_remove r os ps n t) in
+    let here = remove_slots os n in
+    let there = remove_slots ps (r.to n) in
+    let same = ap held (t.has n) ∙ renamed_held r (map.get os n) in
+    omega (arith, rest, here, there, same)
+
+slots_from : (r : Renaming) (k : ℕ) (os ps : ScriptObjects) → map.len os ≤ k → Tables r os ps → slots_of ps ≡ slots_of os
+slots_from r zero os ps le t =
+    let none : map.len os ≡ 0 = omega (arith, le) in
+    slots_of_none ps (t.size ∙ none) ∙ sym (slots_of_none os none)
+slots_from r (suc k) os ps le t = slots_by r k os ps le t (slots_from r k) (first_of_slots os)
+
+-- objects under other numbers take as many slots
+pub slots_alike : (r : Renaming) (os ps : ScriptObjects) → Tables r os ps → slots_of ps ≡ slots_of os
+slots_alike r os ps t = slots_from r (map.len os) os ps (omega arith) t

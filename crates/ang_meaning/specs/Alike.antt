@@ -57,5 +57,7 @@ pub record Alike (r : Renaming) (v w : World) : Type 0 where
   pub hosts : w.hosts ≡ v.hosts
   pub globals : w.globals ≡ renamed_lists r v.globals
   pub events : w.events ≡ v.events
+  pub reserved : w.reserved ≡ v.reserved
   pub spent : w.spent ≡ v.spent
+  pub bounds : w.bounds ≡ v.bounds
   pub inputs : SameButNumbers v.inputs w.inputs

@@ -1,5 +1,5 @@
 -- Values that pass between a script and its drivers, and host calls (docs/CLAIMS.md, "Operations"; docs/HOST.md, "Drivers"; the AngelScript manual, "Registering a function").
-use Rattle.std.specs.Prelude.{ℕ, ◌^◌, ◌-◌, ◌&&◌, Bool, true, false, not, nat_eq, nat_lt, int_le, ℤ, pos, negsuc, List, [], ◌∷◌, ◌++◌, Option, Some, None, if◌then◌else◌}
+use Rattle.std.specs.Prelude.{ℕ, suc, ◌^◌, ◌-◌, ◌&&◌, Bool, true, false, not, nat_eq, nat_lt, int_le, ℤ, pos, negsuc, List, [], ◌∷◌, ◌++◌, Option, Some, None, if◌then◌else◌}
 use Rattle.ang_kinds.specs.declared.value.Value.{Value}
 use Rattle.ang_kinds.specs.declared.value.Value.TheVariants.{Int, Uint, Bool as Truth, Key}
 use Rattle.ang_kinds.specs.declared.primitive.Primitive.{Primitive}
@@ -19,7 +19,7 @@ use Rattle.ang_meaning.specs.declared.slot.Slot.TheVariants.{Bits, Script, Host}
 use Rattle.ang_meaning.specs.declared.host.HostValueType.{HostValueType}
 use Rattle.ang_meaning.specs.declared.host.HostValueType.TheVariants.{Nothing, Plain, Handle}
 use Rattle.ang_meaning.specs.Numbers.{is_signed, width_of, number, bits_of, least}
-use Rattle.ang_meaning.specs.World.{World, Input, Said, or_else, memory_step, one_more, hold}
+use Rattle.ang_meaning.specs.World.{World, Input, Said, or_else, memory_step, one_more, hold, has_events, has_object}
 use Rattle.ang_meaning.specs.Environment.{Environment, use_at}
 
 -- a strict operation: a value and what is left, or a fault
@@ -94,9 +94,13 @@ is_void Nothing = true
 is_void (Plain p) = false
 is_void Handle = false
 
--- what a driver's reply gives to the script; a made object has its first place already
+-- one event more is listed or owed
+abbrev pub one_reserved : World → World
+one_reserved w = record w { reserved = suc w.reserved }
+
+-- What a driver's reply gives to the script. A made object has its first place already, and its end is owed.
 unfoldable pub replied_by : ℕ → HostValueType → HostReply → World → Done
-replied_by d result (Making (MadeKey k)) w = Fine (Host d (Some k)) (one_more (Host d (Some k)) w)
+replied_by d result (Making (MadeKey k)) w = Fine (Host d (Some k)) (one_more (Host d (Some k)) (one_reserved w))
 replied_by d result (Making MadeNothing) w = Fails NoObject w
 replied_by d result (Making (MadeFault n)) w = Fails (HostFault n) w
 replied_by d result (Making MadeMemory) w = Fails Memory w
@@ -116,15 +120,24 @@ is_reply_to (CallingRole f) (Asking answer) = true
 is_reply_to (PropertyRole f) (Making made) = false
 is_reply_to (PropertyRole f) (Asking answer) = true
 
+-- Whether the host's bounds allow that an entity of this role is asked: its event, and for a factory one object more, which will end once.
+abbrev pub may_ask : Role → World → Bool
+may_ask (MakingRole f) w = has_object w && has_events 2 w
+may_ask (CallingRole f) w = has_events 1 w
+may_ask (PropertyRole f) w = has_events 1 w
+
 -- One host call: the event is listed, whatever the reply says. A reply of another kind is none to this host call, and is left as an input of another sort is.
 abbrev pub asked_from : Environment → ℕ → EntityNo → Option ℕ → List Value → HostValueType → List Input → World → Done
 asked_from z m e object args result (Said reply ∷ rest) w =
     if is_reply_to (use_at z m e).role reply
     then (replied_by (use_at z m e).driver result reply
-    (record w { inputs = rest; events = w.events ++ Called (z.name m) e (use_at z m e).driver object args reply ∷ [] }))
+    (record w { inputs = rest; events = w.events ++ Called (z.name m) e (use_at z m e).driver object args reply ∷ []; reserved = suc w.reserved }))
     else (Fails Memory w)
 asked_from z m e object args result _ w = Fails Memory w
 
--- A host call of entity e for module m: memory for its event first, and then the driver's reply.
+-- A host call of entity e for module m, where the bounds allow it: memory for its event first, and then the driver's reply.
 unfoldable pub asked : Environment → ℕ → EntityNo → Option ℕ → List Value → HostValueType → World → Done
-asked z m e object args result w = or_else (memory_step w) (Fails Memory) (λ u. asked_from z m e object args result u.inputs u)
+asked z m e object args result w =
+    if may_ask (use_at z m e).role w
+    then (or_else (memory_step w) (Fails Memory) (λ u. asked_from z m e object args result u.inputs u))
+    else (Fails Memory w)

@@ -1,5 +1,6 @@
 pub mod Numbers
 pub mod World
+pub mod Slots
 pub mod Environment
 pub mod Hosts
 pub mod Perform

@@ -1,6 +1,6 @@
 -- The world outside the locals of a run: objects with the counts of the places that hold them, globals, events, and what the run is told from
 -- outside (docs/CLAIMS.md, "The world of a run"; the AngelScript manual, "Memory management").
-use Rattle.std.specs.Prelude.{ℕ, zero, suc, ◌-◌, ◌^◌, Bool, true, false, cond, nat_eq, ltb, List, [], ◌∷◌, ◌++◌, Option, Some, None, if◌then◌else◌}
+use Rattle.std.specs.Prelude.{ℕ, zero, suc, ◌+◌, ◌-◌, ◌^◌, Bool, true, false, cond, nat_eq, nat_lt, nat_le, ltb, length, List, [], ◌∷◌, ◌++◌, Option, Some, None, if◌then◌else◌}
 use Rattle.std.specs.Ordering.{nat_cmp}
 use Rattle.std.specs.FinMap as map
 use Rattle.ang_host.specs.declared.answer.HostReply.{HostReply}
@@ -33,13 +33,22 @@ pub data Input : Type 0 where
   Tallied : Bool → Input
   Fresh : ℕ → Input
 
+-- How much a host allows: events in a command with the ends that are owed, slots of script objects, and live host objects (docs/HOST.md, "Limits").
+pub record Bounds : Type 0 where
+  pub events : ℕ
+  pub slots : ℕ
+  pub objects : ℕ
+
 pub record World : Type 0 where
   pub objects : ScriptObjects
   pub hosts : HostCounts
   pub globals : List (List Slot)
   pub events : List HostEvent
+  -- how many events are listed or owed: each host object that lives will end once
+  pub reserved : ℕ
   -- whether a reference was refused since a driver's tally has run out
   pub spent : Bool
+  pub bounds : Bounds
   pub inputs : List Input
 
 abbrev pub with_inputs : List Input → World → World
@@ -53,6 +62,20 @@ pub data Tried : Type 0 where
 abbrev pub if_told : Bool → World → Tried
 if_told true w = Yes w
 if_told false w = No w
+
+-- ---- what a host allows
+
+-- whether so many events more are allowed
+abbrev pub has_events : ℕ → World → Bool
+has_events more w = nat_le (w.reserved + more) w.bounds.events
+
+-- how many host objects live
+abbrev pub live_hosts : World → ℕ
+live_hosts w = w.reserved - length w.events
+
+-- whether one host object more is allowed
+abbrev pub has_object : World → Bool
+has_object w = nat_lt (live_hosts w) w.bounds.objects
 
 -- what follows a step that may be refused: the first where it was, and else the second
 abbrev pub or_else : {A : Type 0} → Tried → (World → A) → (World → A) → A

@@ -116,7 +116,7 @@ alone p = record {
 
 -- no objects, and these globals, events and inputs
 abbrev world : List Slot → List Input → World
-world globals inputs = record { objects = map.empty; hosts = λ d. map.empty; globals = globals ∷ []; events = []; spent = false; inputs = inputs }
+world globals inputs = record { objects = map.empty; hosts = λ d. map.empty; globals = globals ∷ []; events = []; reserved = 0; spent = false; bounds = record { events = 10; slots = 10; objects = 10 }; inputs = inputs }
 
 -- a command's call of function 0, without arguments, on ten ticks
 abbrev called : t.Program → World → Reply
@@ -254,6 +254,6 @@ endless = refl
 
 -- int f() { return ask(3); }, which the driver answers with 7
 host_call : called (functions (function [] (returns (t.host_call (record { entity = entity; driver = 1; f = 0 }) int (t.args (t.by_value int (number 3) ∷ []))) ∷ []) ∷ []))
-    (world [] (Room true ∷ Room true ∷ Said seven ∷ [])) ≡ Yields (Bits 7) [] 9 (record (world [] []) { events = Called [] entity 1 None (Int (pos 3) ∷ []) seven ∷ [] })
+    (world [] (Room true ∷ Room true ∷ Said seven ∷ [])) ≡ Yields (Bits 7) [] 9 (record (world [] []) { events = Called [] entity 1 None (Int (pos 3) ∷ []) seven ∷ []; reserved = 1 })
 unfolding hold tally_step one_more memory_step give given perform asked replied_by slot_of int_wrap
 host_call = refl

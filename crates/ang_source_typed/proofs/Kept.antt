@@ -25,8 +25,8 @@ use Rattle.ang_meaning.specs.declared.operation.Update.{Update}
 use Rattle.ang_meaning.specs.Numbers.{Worked, Is, Cannot, Changed, Into, Never, binary_result, divided, least, converted, changed_to, changed}
 use Rattle.ang_meaning.specs.World.{World, ScriptRecord, Input, Room, Said, Tallied, Fresh, Tried, Yes, No, or_else, memory_step, hold, give}
 use Rattle.ang_meaning.specs.Environment.{Environment, class_at, use_at, is_null, is_property, is_fit}
-use Rattle.ang_meaning.specs.Hosts.{Done, Fine, Fails, holding, accepted, is_void, is_reply_to, slot_of, replied_by, asked_from, asked, value_of, values_of}
-use Rattle.ang_meaning.specs.Perform.{perform, work_done, change_of, globals_of, global_or, stored_global, changed_global, Receiver, NoReceiver, Of, NullReceiver, key_at, receiver_of, arguments_of, gives_up, called_of, read_of, write_of, in_place_of, altered_to, altered_of, field_of, field_or, may_take, stored_field, changed_field, is_under, cast_to, made_from}
+use Rattle.ang_meaning.specs.Hosts.{Done, Fine, Fails, holding, accepted, is_void, is_reply_to, may_ask, slot_of, replied_by, asked_from, asked, value_of, values_of}
+use Rattle.ang_meaning.specs.Perform.{perform, work_done, change_of, globals_of, global_or, stored_global, changed_global, Receiver, NoReceiver, Of, NullReceiver, key_at, receiver_of, arguments_of, gives_up, called_of, read_of, write_of, in_place_of, altered_to, altered_of, field_of, field_or, may_take, stored_field, changed_field, is_under, cast_to, may_make, made_from}
 use Rattle.ang_meaning.specs.Results.{local_at}
 use Rattle.ang_source.specs.Meaning.{nothing}
 use Rattle.ang_source_typed.specs.Types.{Number, Modules, Owners}
@@ -175,7 +175,8 @@ module _ (n u : Fault) where
     asked_kept : (object : Option ℕ) (args : List Value) (result : HostValueType) (w : World) → IsKept (asked z m e object args result w)
     unfolding asked
     asked_kept object args result w =
-        tried_kept (memory_step w) (Fails Memory) (λ x. asked_from z m e object args result x.inputs x) (λ x. refl) (λ x. from_kept object args result x.inputs x)
+        if_kept (may_ask U.role w) _ (Fails Memory w)
+        (tried_kept (memory_step w) (Fails Memory) (λ x. asked_from z m e object args result x.inputs x) (λ x. refl) (λ x. from_kept object args result x.inputs x)) refl
 
     -- it is asked of no object, or of one
     abbrev IsThere : Receiver → Type 0
@@ -410,7 +411,10 @@ module _ (n u : Fault) where
 
     make_named : (c : ℕ) (vs : List Slot) (w : World) → fits z m (Make c) vs w ≡ true → IsNamed (Make c) vs w
     unfolding perform fits has_object
-    make_named c [] w h = always_named _ w (tried_kept (memory_step w) (Fails Memory) (λ x. made_from (class_at z m c) x.inputs x) (λ x. refl) (λ x. made_kept (class_at z m c) x.inputs x))
+    make_named c [] w h =
+        always_named _ w
+        (if_kept (may_make (class_at z m c) w) _ (Fails Memory w)
+        (tried_kept (memory_step w) (Fails Memory) (λ x. made_from (class_at z m c) x.inputs x) (λ x. refl) (λ x. made_kept (class_at z m c) x.inputs x)) refl)
     make_named c (v ∷ vs) w h = absurd (let x : ⊥ = cc in x)
 
     get_field_named : (i : ℕ) (vs : List Slot) (w : World) → fits z m (FieldGet i) vs w ≡ true → IsNamed (FieldGet i) vs w

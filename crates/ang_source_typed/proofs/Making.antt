@@ -15,8 +15,8 @@ use Rattle.ang_meaning.specs.declared.slot.Slot.TheVariants.{Bits, Script, Host}
 use Rattle.ang_meaning.specs.declared.operation.Operation.TheVariants.{Make}
 use Rattle.ang_meaning.specs.World.{World, ScriptRecord, ScriptObjects, Input, Room, Said, Tallied, Fresh, Tried, Yes, No, memory_step, or_else}
 use Rattle.ang_meaning.specs.Environment.{Environment, class_in, class_at, default_of, is_fit}
-use Rattle.ang_meaning.specs.Hosts.{Fails}
-use Rattle.ang_meaning.specs.Perform.{perform, new_object, number_for, made_from}
+use Rattle.ang_meaning.specs.Hosts.{Done, Fails}
+use Rattle.ang_meaning.specs.Perform.{perform, new_object, number_for, may_make, made_from}
 use Rattle.ang_meaning.specs.Results.{Gave, Ready, performed, applied}
 use Rattle.ang_meaning.specs.Counting.{Thing, NumberOf, names, how_many, in_lists, count_of_object, count_in}
 use Rattle.ang_meaning.proofs.Counting.{many_append}
@@ -184,11 +184,18 @@ module _ (z : Environment) (ms : Modules) (T m n : ℕ) where
         let g = h.1 in
         made_by locals below ls under t u.inputs u (h.0, moved_good z ms g.own locals below ls under w u g.locals_typed g.under_typed (moves_of z ms g.own w u g.world k) p)
 
+    -- where no more slots are allowed
+    made_if : (b : Bool) (locals below : List SlotType) (ls under : List Slot) (t : ℕ) (w : World) (o : Done) → At z ms T t locals below ls under w
+        → IsGoodEnd z ms T (Family m n) locals below under (performed o [] ls t) → IsGoodEnd z ms T (Family m n) locals below under (performed (cond b o (Fails Memory w)) [] ls t)
+    made_if true locals below ls under t w o g h = h
+    made_if false locals below ls under t w o g h = g.1
+
     pub make_good : (y : Guard) (locals below : List SlotType) (ls under : List Slot) (t : ℕ) (w : World) → At z ms T t locals below ls under w
         → IsGoodEnd z ms T (Family m n) locals below under (applied (perform z m (Make n)) (Ready [] ls t w))
         × (applied (guarded.perform (misfits y) z m (Make n)) (Ready [] ls t w) ≡ applied (perform z m (Make n)) (Ready [] ls t w))
     unfolding perform fits is_fit
     make_good y locals below ls under t w g = (
-      made_tried locals below ls under t w (memory_step w) (memory_leads w) (memory_counted (ls ++ under) w (g.1).counted) g,
+      made_if (may_make (class_at z m n) w) locals below ls under t w _ g
+          (made_tried locals below ls under t w (memory_step w) (memory_leads w) (memory_counted (ls ++ under) w (g.1).counted) g),
       ap (λ d. performed d [] ls t) (guard_passes y (is_some (z.class m n) && true) (perform z m (Make n) [] w) (λ f. Fails f w) (both_true (is_some (z.class m n)) true there refl)),
     )

@@ -21,7 +21,7 @@ use Rattle.ang_meaning.specs.declared.host.HostValueType.{HostValueType}
 use Rattle.ang_meaning.specs.declared.host.HostValueType.TheVariants.{Nothing, Plain, Handle}
 use Rattle.ang_meaning.specs.World.{World, ScriptRecord, ScriptObjects, Input, Room, Said, Tallied, Fresh, with_inputs, if_told, Tried, Yes, No, HoldLimit, Inside, AtEnd, OfDriver, hold_limit_of, refused_at, tally_told, memory_told, memory_step, tally_step, or_else, hold, one_more, give, give_all}
 use Rattle.ang_meaning.specs.Environment.{Environment, class_in, use_at}
-use Rattle.ang_meaning.specs.Hosts.{Done, Fine, Fails, holding, accepted, if_within, is_void, slot_of, replied_by, is_reply_to, asked_from, asked}
+use Rattle.ang_meaning.specs.Hosts.{Done, Fine, Fails, holding, accepted, if_within, is_void, slot_of, one_reserved, replied_by, is_reply_to, may_ask, asked_from, asked}
 use Rattle.ang_meaning.specs.Perform.{gives_up, in_place_of}
 use Rattle.ang_meaning.proofs.Counting.{more_globals, give_globals}
 use Rattle.ang_meaning.proofs.Typed.{AreKept, TriedKept, kept_same, kept_then, more_kept, give_kept_all, hold_kept}
@@ -257,8 +257,8 @@ module _ (z : Environment) (ms : Modules) (own : Owners) where
   void_leads d (Plain p) f w = leads_same w
   void_leads d Handle f w = leads_same w
 
-  made_leads : (d k : ℕ) (w : World) → Leads w (one_more (Host d (Some k)) w)
-  made_leads d k w = (more_kept (Host d (Some k)) w, more_globals (Host d (Some k)) w)
+  made_leads : (d k : ℕ) (w : World) → Leads w (one_more (Host d (Some k)) (one_reserved w))
+  made_leads d k w = (more_kept (Host d (Some k)) (one_reserved w), more_globals (Host d (Some k)) (one_reserved w))
 
   replied_leads : (role : Role) (d : ℕ) (result : HostValueType) (r : HostReply) (w : World) → is_reply_to role r ≡ true → DoneLeads (result_by d result role) w (replied_by d result r w)
   unfolding replied_by
@@ -292,7 +292,7 @@ module _ (z : Environment) (ms : Modules) (own : Owners) where
   asked_leads_from m e object args result (Said r ∷ is) w =
       let u = use_at z m e in
       if_reply_leads (is_reply_to u.role r) u.role u.driver result r w
-      (record w { inputs = is; events = w.events ++ Called (z.name m) e u.driver object args r ∷ [] }) refl (leads_same w)
+      (record w { inputs = is; events = w.events ++ Called (z.name m) e u.driver object args r ∷ []; reserved = suc w.reserved }) refl (leads_same w)
   asked_leads_from m e object args result (Room b ∷ is) w = leads_same w
   asked_leads_from m e object args result (Tallied b ∷ is) w = leads_same w
   asked_leads_from m e object args result (Fresh n ∷ is) w = leads_same w
@@ -301,12 +301,18 @@ module _ (z : Environment) (ms : Modules) (own : Owners) where
   memory_then ty w (Yes u) go k h = later_leads ty w u (go u) k (h u)
   memory_then ty w (No u) go k h = k
 
+  -- where a bound is met, nothing is asked
+  may_lead : (ty : SlotType) (b : Bool) (w : World) (o : Done) → DoneLeads ty w o → DoneLeads ty w (cond b o (Fails Memory w))
+  may_lead ty true w o h = h
+  may_lead ty false w o h = leads_same w
+
   pub asked_leads : (m : ℕ) (e : EntityNo) (object : Option ℕ) (args : List Value) (result : HostValueType) (w : World)
       → DoneLeads (result_by (use_at z m e).driver result (use_at z m e).role) w (asked z m e object args result w)
   unfolding asked
   asked_leads m e object args result w =
-      memory_then (result_by (use_at z m e).driver result (use_at z m e).role) w (memory_step w) (λ u. asked_from z m e object args result u.inputs u) (memory_leads w)
-      (λ u. asked_leads_from m e object args result u.inputs u)
+      may_lead (result_by (use_at z m e).driver result (use_at z m e).role) (may_ask (use_at z m e).role w) w _
+      (memory_then (result_by (use_at z m e).driver result (use_at z m e).role) w (memory_step w) (λ u. asked_from z m e object args result u.inputs u) (memory_leads w)
+      (λ u. asked_leads_from m e object args result u.inputs u))
 
   -- ---- a derived class's object is one of a family above it
 

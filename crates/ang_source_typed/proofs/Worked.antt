@@ -155,7 +155,7 @@ setting_typed = record {
 -- ---- null is handed on
 
 abbrev start : List Input → World
-start is = record { objects = map.empty; hosts = λ d. map.empty; globals = []; events = []; spent = false; inputs = is }
+start is = record { objects = map.empty; hosts = λ d. map.empty; globals = []; events = []; reserved = 0; spent = false; bounds = record { events = 10; slots = 10; objects = 10 }; inputs = is }
 
 null_names : (x : Thing) → names x (Script None) ≡ 0
 null_names (KeyOf d k) = refl

@@ -6,7 +6,7 @@ ghost use Rattle.std.specs.Prelude.{◌≡◌, ℕ, Bool, ◌∷◌, nat_eq, Lis
 ghost use Rattle.std.specs.List.{list_any};
 ghost use Rattle.ang_host.specs.declared.event.HostEvent.{HostEvent};
 ghost use Rattle.ang_meaning.specs.declared.operation.Operation.TheVariants.{Make, FieldGet, FieldSet, FieldChange, Cast};
-ghost use Rattle.ang_meaning.specs.World.{HostCounts, Input};
+ghost use Rattle.ang_meaning.specs.World.{Bounds, HostCounts, Input};
 ghost use Rattle.ang_meaning.specs.Environment.{Environment, class_at as class_of_number};
 ghost use Rattle.ang_meaning.specs.Perform.{perform, may_take as may_take_in, member_or, member_put};
 ghost use Rattle.ang_heap.specs.Heaps.{objects_of};
@@ -50,9 +50,9 @@ fn is_lower(first: Option<usize>, second: Option<usize>) -> bool
 
 /// Whether a field of an object may take a value: a script object has to be of a lower rank than its holder.
 fn may_take(heap: &Heap, number: usize, value: Slot) -> bool
-    ensures exact { (hs : HostCounts) (gs : List (List Slot)) (es : List HostEvent)
-        (sp : Bool) (is : List Input)
-        → result ≡ may_take_in number value (world_by (objects_of heap.now) hs gs es sp is) }
+    ensures exact { (hs : HostCounts) (gs : List (List Slot)) (es : List HostEvent) (n : ℕ)
+        (sp : Bool) (b : Bounds) (is : List Input)
+        → result ≡ may_take_in number value (world_by (objects_of heap.now) hs gs es n sp b is) }
 {
     match value {
         Slot::Bits(_) => true,

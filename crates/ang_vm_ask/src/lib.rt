@@ -17,5 +17,6 @@ mod operation;
 mod replies;
 mod rooms;
 
+pub use arguments::FEW;
 pub use fitting::{entry_of, given_count, operands, operands_of};
 pub use operation::{ask, ask_entry, call_entry};

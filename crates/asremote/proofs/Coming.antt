@@ -291,7 +291,7 @@ module _ {V : Type 0} {P : V → Type 0} (m : Meanings P) (e f : Engine V P) whe
     turn_modules : (t : Turned) → Comes m e f t → ModulesLead (registrations e) (standing m e ps) t (world_in m f)
     turn_modules Passed h = ap (λ g. world_in m g) (sym h)
     turn_modules (Did d) h = h.does
-    turn_modules (Limited limit) h = sym h.world
+    turn_modules (Limited limit) h = h.world
     turn_modules (Told ticks held) h = ap (λ g. world_in m g) (sym h.0)
     turn_modules (Traced frames) h = ap (λ g. world_in m g) (sym h)
     turn_modules (Checked name r) h = h.checks

@@ -2,6 +2,7 @@ pub mod CommandLine
 pub mod Lining
 pub mod Turning
 pub mod OwnLines
+pub mod Limiting
 pub mod Posting
 pub mod Coming
 pub mod Stepping

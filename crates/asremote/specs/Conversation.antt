@@ -11,11 +11,12 @@ use Rattle.ang_engine.specs.Checking.{checking}
 use Rattle.ang_engine.specs.declared.prepared.Prepared.{Prepared}
 use Rattle.ang_engine.specs.Prepared.{build_in, is_there}
 use Rattle.ang_engine.specs.Step.{Leads}
-use Rattle.ang_engine_modules.specs.World.{World, no_modules}
+use Rattle.ang_engine_modules.specs.World.{World, bounded_by}
 use Rattle.asrun_lines.specs.Lines.{lines_of}
 use Rattle.asrun_session.specs.Deeds.{Does as DoesDeed, bad_line_text}
 use Rattle.asrun_session.specs.Drivers.{WasDiscarded}
-use Rattle.asrun_session.specs.Whole.{EngineRefused, EngineStops, Untouched, long_session_text}
+use Rattle.asrun_session.specs.Limits.{with_bound}
+use Rattle.asrun_session.specs.Whole.{Start, world_at_start, EngineRefused, EngineStops, Untouched, long_session_text}
 use Rattle.asrun_session.specs.Writing.{HasFront}
 use Rattle.asrun_session.specs.declared.ending.IoFault.{IoFault}
 use Rattle.asrun_session.specs.declared.ending.Status.{Status}
@@ -86,12 +87,13 @@ module _ {V : Type 0} {P : V → Type 0} (m : Meanings P) (e f : Engine V P)
       TookHalf next.Command
       ⊎ (TookHalf next.Last ⊎ (TookHalfLong ⊎ Stays m e f written written_after))
 
--- What a turn does to the modules: a command and a call of what was looked up as the engine says, a check
--- takes sections with errors away, and no other turn does anything.
+-- What a turn does to the world: a command and a call of what was looked up as the engine says, a limit is
+-- what the host allows from then on, a check takes sections with errors away, and no other turn does anything.
 abbrev pub ModulesLead : RegistrationList → Standing → Turned → World → Type 0
 ModulesLead R s Passed after = s.world ≡ after
 ModulesLead R s (Did d) after = DoesDeed R s.world d after
-ModulesLead R s (Limited limit) after = s.world ≡ after
+ModulesLead R s (Limited limit) after =
+    after ≡ bounded_by (with_bound s.world.bounds limit) s.world
 ModulesLead R s (Told ticks held) after = s.world ≡ after
 ModulesLead R s (Traced frames) after = s.world ≡ after
 ModulesLead R s (Checked name r) after = Leads (checking R name s.world) r after
@@ -190,30 +192,34 @@ module _ (R : RegistrationList) (w : World) (budget : ℕ) (first : List ℕ) (u
 -- A conversation with the drivers xs that come back as ys. Here m is the meaning of what is behind each vtable.
 module _ {V : Type 0} {P : V → Type 0} (m : Meanings P) (xs ys : List (DynBox V Global P)) (budget : ℕ)
     (unread unread_after written written_after : Option (List ℕ)) where
-  -- over a list that was registered
-  abbrev pub TalksOver : RegistrationList → Status → Type 0
-  TalksOver R status =
-      EngineRefused m xs ys written written_after R status
-      ⊎ WasDiscarded m R xs ys (Converses R no_modules budget done_line unread unread_after written written_after status)
+  -- over what a profile gives
+  abbrev pub TalksOver : Start → Status → Type 0
+  TalksOver s status =
+      EngineRefused m xs ys written written_after s.entries status
+      ⊎ WasDiscarded m s.entries xs ys
+      (Converses s.entries (world_at_start s) budget done_line unread unread_after written
+      written_after status)
 
   -- and cut short
-  abbrev pub StopsOver : RegistrationList → Type 0
-  StopsOver R =
+  abbrev pub StopsOver : Start → Type 0
+  StopsOver s =
       Untouched m xs ys written written_after
-      ⊎ (EngineStops m xs ys written written_after R
-      ⊎ WasDiscarded m R xs ys (IsCutShort R no_modules budget done_line unread unread_after written written_after))
+      ⊎ (EngineStops m xs ys written written_after s.entries
+      ⊎ WasDiscarded m s.entries xs ys
+      (IsCutShort s.entries (world_at_start s) budget done_line unread unread_after written
+      written_after))
 
   -- over a profile, which may be refused
-  abbrev pub Talks : Result RegistrationList (List ℕ) → Status → Type 0
+  abbrev pub Talks : Result Start (List ℕ) → Status → Type 0
   Talks (Err text) status = Appends written written_after text × (status ≡ BadInput) × (ys ≡ xs)
-  Talks (Ok R) status = TalksOver R status
+  Talks (Ok s) status = TalksOver s status
 
-  abbrev pub Stops : Result RegistrationList (List ℕ) → Type 0
+  abbrev pub Stops : Result Start (List ℕ) → Type 0
   Stops (Err text) = HasFront written written_after text × (ys ≡ xs)
-  Stops (Ok R) = StopsOver R
+  Stops (Ok s) = StopsOver s
 
   -- What is asked and printed, by the outcome.
-  abbrev pub Tells : Result RegistrationList (List ℕ) → Result Status IoFault → Type 0
+  abbrev pub Tells : Result Start (List ℕ) → Result Status IoFault → Type 0
   Tells start (Ok AllOk) = Talks start AllOk
   Tells start (Ok SomeRefused) = Talks start SomeRefused
   Tells start (Ok BadInput) = Talks start BadInput

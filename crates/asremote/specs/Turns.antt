@@ -14,7 +14,7 @@ use Rattle.ang_engine.specs.Roles.{roles_of}
 use Rattle.ang_engine.specs.Step.{Leads, Takes}
 use Rattle.ang_engine.specs.Trace.{ticks_in}
 use Rattle.ang_engine_modules.specs.Commands.{reply_of}
-use Rattle.ang_engine_modules.specs.World.{World}
+use Rattle.ang_engine_modules.specs.World.{World, bounded_by}
 use Rattle.ang_engine_modules.specs.declared.command.Command.TheVariants.{Call}
 use Rattle.ang_engine_modules.specs.declared.reply.Outcome.TheVariants.{Refused}
 use Rattle.ang_engine_modules.specs.declared.reply.Refusal.TheVariants.{NoFunction}
@@ -26,7 +26,7 @@ use Rattle.asrun_lines.specs.SessionLines.{session_line_of, is_header}
 use Rattle.asrun_lines.specs.declared.limits.LimitLine.{LimitLine}
 use Rattle.asrun_session.specs.Deeds.{Deed, Does as DoesDeed, deed_events, bad_line_text}
 use Rattle.asrun_session.specs.Engines.{Builds}
-use Rattle.asrun_session.specs.Limits.{with_limit}
+use Rattle.asrun_session.specs.Limits.{with_limit, with_bound}
 use Rattle.asrun_session.specs.Session.{Act, act_of}
 use Rattle.asrun_session.specs.Writing.{HasFront}
 use Rattle.asremote.specs.OwnLines.{own_line_of}
@@ -111,10 +111,11 @@ module _ {V : Type 0} {P : V → Type 0} (m : Meanings P) (e f : Engine V P) whe
         (drivers_in f)
     pub within : StaysWithin m e.machine.store (deed_events d) f.machine.store
 
-  -- A limit was set, and nothing else changed.
+  -- A limit was set: the host allows so much from now on, and nothing else changed.
   pub record HasLimited (limit : LimitLine) : Type 0 where
     pub limits : limits_in f ≡ with_limit (limits_in e) limit
-    pub world : world_in m f ≡ world_in m e
+    pub world :
+        world_in m f ≡ bounded_by (with_bound (world_in m e).bounds limit) (world_in m e)
     pub numbers : HasSameBuilds
     pub drivers : drivers_in f ≡ drivers_in e
 

@@ -5,10 +5,9 @@ ghost use Rattle.std.specs.Io.KnownBytes.{Appends};
 ghost use Rattle.ang_host.specs.Boxes.{members};
 ghost use Rattle.ang_engine.specs.Engines.{registrations, world_in, drivers_in};
 ghost use Rattle.ang_engine.specs.Sound.{IsSound};
-ghost use Rattle.ang_engine_modules.specs.World.{no_modules};
 ghost use Rattle.asrun_session.specs.Drivers.{kinds_of, AreListed};
 ghost use Rattle.asrun_session.specs.Engines.{Comes};
-ghost use Rattle.asrun_session.specs.Whole.{start_of, outcome_of, long_session_text};
+ghost use Rattle.asrun_session.specs.Whole.{start_by, start_of, outcome_of, long_session_text};
 ghost use Rattle.asrun_session.specs.Writing.{HasFront};
 ghost use Rattle.asremote.specs.Conversation.{stepped, Steps, StepsHalf, Converses, IsCutShort, TalksOver, StopsOver, Tells};
 ghost use Rattle.asremote.specs.Talk.{done_line};
@@ -250,10 +249,12 @@ fn run_engine<S: Read, W: Write>(
     requires listed { AreListed ⟦<dyn Driver as Driver>⟧ (members drivers) }
     ensures done { IfOk result.0 (TalksOver ⟦<dyn Driver as Driver>⟧ (members drivers)
         result.1.items budget (S.remaining input.old) (S.remaining input.new)
-        (W.contents writer.old) (W.contents writer.new) profile.registry.entries) }
+        (W.contents writer.old) (W.contents writer.new)
+        (start_by profile.registry.entries profile.limits)) }
     ensures cut { OnErr result.0 (StopsOver ⟦<dyn Driver as Driver>⟧ (members drivers)
         result.1.items budget (S.remaining input.old) (S.remaining input.new)
-        (W.contents writer.old) (W.contents writer.new) profile.registry.entries) }
+        (W.contents writer.old) (W.contents writer.new)
+        (start_by profile.registry.entries profile.limits)) }
 {
     match limited_engine(alloc, profile, drivers) {
         Ok(mut engine) => {
@@ -290,10 +291,12 @@ fn run_drivers<S: Read, W: Write>(
     requires few { length drivers.items < 2 ^ 60 }
     ensures done { IfOk result.0 (TalksOver ⟦<dyn Driver as Driver>⟧ drivers.items
         result.1.items budget (S.remaining input.old) (S.remaining input.new)
-        (W.contents writer.old) (W.contents writer.new) profile.registry.entries) }
+        (W.contents writer.old) (W.contents writer.new)
+        (start_by profile.registry.entries profile.limits)) }
     ensures cut { OnErr result.0 (StopsOver ⟦<dyn Driver as Driver>⟧ drivers.items
         result.1.items budget (S.remaining input.old) (S.remaining input.new)
-        (W.contents writer.old) (W.contents writer.new) profile.registry.entries) }
+        (W.contents writer.old) (W.contents writer.new)
+        (start_by profile.registry.entries profile.limits)) }
 {
     match Drivers::new(drivers) {
         Ok(drivers) => run_engine(alloc, input, writer, buffer, profile, drivers, budget),

@@ -13,7 +13,7 @@ use Rattle.ang_host.specs.declared.event.HostEvent.{HostEvent}
 use Rattle.ang_view.specs.Registration.{RegistrationList}
 use Rattle.ang_engine.specs.Roles.{roles_of}
 use Rattle.ang_engine.specs.Sound.{HaveDrivers}
-use Rattle.ang_engine_modules.specs.World.{World, no_modules, engine_ended}
+use Rattle.ang_engine_modules.specs.World.{World, engine_ended}
 use Rattle.asrun_session.specs.LastEnds.{AreLastEnds}
 
 -- which driver stands at each place
@@ -78,6 +78,6 @@ pub record WasDiscarded {V : Type 0} {P : V → Type 0} (m : Meanings P) (R : Re
   pub last : AreLastEnds (length xs) events (engine_ended after).events
   pub back : AreBack m ys
 
--- nothing was done with an engine
-abbrev pub DidNothing : List HostEvent → World → Type 0
-DidNothing es after = (es ≡ []) × (after ≡ no_modules)
+-- nothing was done with an engine that had the world w
+abbrev pub DidNothing : World → List HostEvent → World → Type 0
+DidNothing w es after = (es ≡ []) × (after ≡ w)

@@ -49,8 +49,9 @@ module _ {V : Type 0} {P : V → Type 0} (m : Meanings P) (e f : Engine V P) whe
   -- the text of a session is done
   abbrev pub RunsText : List ℕ → ℕ → Option (List ℕ) → Option (List ℕ) → Status → Type 0
   RunsText text budget old new status =
-      Comes (RunsSession (registrations e) text budget old new status)
+      Comes (RunsSession (registrations e) (world_in m e) text budget old new status)
 
   -- some of it is
   abbrev pub StopsText : List ℕ → ℕ → Option (List ℕ) → Option (List ℕ) → Type 0
-  StopsText text budget old new = Comes (StopsSession (registrations e) text budget old new)
+  StopsText text budget old new =
+      Comes (StopsSession (registrations e) (world_in m e) text budget old new)

@@ -1,5 +1,6 @@
 -- The limits that a profile sets (docs/FORMATS.md, "Profile").
 use Rattle.std.specs.Prelude.{ℕ, List, [], ◌∷◌, Option, Some, None, if◌then◌else◌}
+use Rattle.ang_meaning.specs.World.{Bounds}
 use Rattle.ang_heap.specs.declared.limits.Limits.{Limits}
 use Rattle.asrun_lines.specs.Lines.{shown_of, is_skipped}
 use Rattle.asrun_lines.specs.ProfileLines.{Entry, DefaultMask, Limit, HostType, Factory, Method, Property, Function, Posted, Global, Enumeration, EnumValue, Blank, entry_of}
@@ -15,6 +16,15 @@ limit_put l most Objects = record l { objects = most }
 -- one of the limits is another
 abbrev pub with_limit : Limits → LimitLine → Limits
 with_limit l limit = limit_put l limit.most limit.kind
+
+abbrev pub bound_put : Bounds → ℕ → LimitKind → Bounds
+bound_put b most Events = record b { events = most }
+bound_put b most Slots = record b { slots = most }
+bound_put b most Objects = record b { objects = most }
+
+-- the same of what the host allows in a world
+abbrev pub with_bound : Bounds → LimitLine → Bounds
+with_bound b limit = bound_put b limit.most limit.kind
 
 -- the limits after a line
 abbrev pub entry_limits : Limits → Option Entry → Limits

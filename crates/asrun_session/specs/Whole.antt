@@ -10,10 +10,15 @@ use Rattle.ang_registry.specs.declared.error.RegError.{RegError}
 use Rattle.ang_registry.specs.declared.error.RegError.TheVariants.{Limit, EmptyMask, BadDeclaration, UnknownType, WrongDriver, Duplicate, Memory as NoMemory}
 use Rattle.ang_registry.specs.Registrations.{Registrations}
 use Rattle.ang_view.specs.Registration.{RegistrationList}
-use Rattle.ang_engine_modules.specs.World.{World, no_modules}
+use Rattle.ang_meaning.specs.World.{Bounds}
+use Rattle.ang_heap.specs.Stores.{bounds_of}
+use Rattle.ang_heap.specs.declared.limits.Limits.{Limits}
+use Rattle.ang_engine.specs.Limited.{no_limits}
+use Rattle.ang_engine_modules.specs.World.{World, no_modules, bounded_by}
 use Rattle.asrun_session.specs.Deeds.{IsDone, IsCut}
 use Rattle.asrun_session.specs.Drivers.{EngineRefusal, IsRefused, engine_text, WasDiscarded, DidNothing}
 use Rattle.asrun_lines.specs.Lines.{lines_of}
+use Rattle.asrun_session.specs.Limits.{limits_of}
 use Rattle.asrun_session.specs.Profile.{loaded}
 use Rattle.asrun_session.specs.Session.{session_from}
 use Rattle.asrun_session.specs.Writing.{HasFront}
@@ -55,37 +60,55 @@ long_profile_text = codes "profile 0 TooLong\n"
 abbrev pub long_session_text : List ℕ
 long_session_text = codes "line 0 TooLong\n"
 
--- the text of a profile that isn't taken, or what it registers
-abbrev pub registered_by : Result Registrations ProfileFault → Result RegistrationList (List ℕ)
-registered_by (Ok r) = Ok r.entries
-registered_by (Err fault) = Err (profile_fault_text fault)
+-- What a profile gives a run: the registration list, and how much scripts may hold and a command may
+-- list.
+pub record Start : Type 0 where
+  pub entries : RegistrationList
+  pub bounds : Bounds
 
--- a new registry has no entries, and bit 0 alone in its default mask
+abbrev pub start_by : RegistrationList → Limits → Start
+start_by R limits = record { entries = R; bounds = bounds_of limits }
+
+-- the world of an engine that begins so
+abbrev pub world_at_start : Start → World
+world_at_start s = bounded_by s.bounds no_modules
+
+-- the text of a profile that isn't taken, or what it gives
+abbrev pub started_by : Result Registrations ProfileFault → Limits → Result Start (List ℕ)
+started_by (Ok r) limits = Ok (start_by r.entries limits)
+started_by (Err fault) limits = Err (profile_fault_text fault)
+
+-- A new registry has no entries, and bit 0 alone in its default mask.
 abbrev pub fresh : Registrations
 fresh = record { default_mask = record { 0 = 1 }; entries = [] }
 
-abbrev pub start_of : List ℕ → Result RegistrationList (List ℕ)
+-- what these lines register, and the limits that they set, after these
+abbrev pub start_by_lines : Registrations → Limits → List (List ℕ) → Result Start (List ℕ)
+start_by_lines r limits lines = started_by (loaded 1 r lines) (limits_of limits lines)
+
+abbrev pub start_of : List ℕ → Result Start (List ℕ)
 start_of profile =
     if nat_lt most_profile (length profile)
     then Err long_profile_text
-    else registered_by (loaded 1 fresh (lines_of profile))
+    else start_by_lines fresh no_limits (lines_of profile)
 
--- What a session does over the list R, with a writer that has the bytes old and then new: which
--- events its replies list, and the world that it leaves.
-module _ (R : RegistrationList) (session : List ℕ) (budget : ℕ) (old new : Option (List ℕ)) where
+-- What a session does over the list R in the world w, with a writer that has the bytes old and then
+-- new: which events its replies list, and the world that it leaves.
+module _ (R : RegistrationList) (w : World) (session : List ℕ) (budget : ℕ)
+    (old new : Option (List ℕ)) where
   -- It was read and done.
   abbrev pub RunsSession : Status → List HostEvent → World → Type 0
   RunsSession status es after =
       ((most_session < length session) × Appends old new long_session_text × (status ≡ BadInput)
-      × DidNothing es after)
+      × DidNothing w es after)
       ⊎ ((length session ≤ most_session)
-      × IsDone R no_modules (session_from 1 budget 0 (lines_of session)) old new status es after)
+      × IsDone R w (session_from 1 budget 0 (lines_of session)) old new status es after)
 
   -- It was not done to its end.
   abbrev pub StopsSession : List HostEvent → World → Type 0
   StopsSession es after =
-      ((most_session < length session) × HasFront old new long_session_text × DidNothing es after)
-      ⊎ IsCut R no_modules (session_from 1 budget 0 (lines_of session)) old new es after
+      ((most_session < length session) × HasFront old new long_session_text × DidNothing w es after)
+      ⊎ IsCut R w (session_from 1 budget 0 (lines_of session)) old new es after
 
 -- A run with the drivers xs that come back as ys, and with a writer that has the bytes old and then
 -- new. Here m is the meaning of what is behind each vtable.
@@ -108,26 +131,33 @@ module _ {V : Type 0} {P : V → Type 0} (m : Meanings P) (xs ys : List (DynBox 
       (why : EngineRefusal) × IsRefused m R xs why × HasFront old new (engine_text why) × (ys ≡ xs)
 
   -- A run that came to its end: what it printed is all.
-  abbrev pub Ends : Result RegistrationList (List ℕ) → List ℕ → ℕ → Status → Type 0
+  abbrev pub Ends : Result Start (List ℕ) → List ℕ → ℕ → Status → Type 0
   Ends (Err text) session budget status = Appends old new text × (status ≡ BadInput) × (ys ≡ xs)
-  Ends (Ok R) session budget status =
-      EngineRefused R status ⊎ WasDiscarded m R xs ys (RunsSession R session budget old new status)
+  Ends (Ok s) session budget status =
+      EngineRefused s.entries status
+      ⊎ WasDiscarded m s.entries xs ys
+      (RunsSession s.entries (world_at_start s) session budget old new status)
 
   -- A run that was cut short: what it printed is a front. It may have been cut before there was an
   -- engine.
-  abbrev pub Stops : Result RegistrationList (List ℕ) → List ℕ → ℕ → Type 0
+  abbrev pub Stops : Result Start (List ℕ) → List ℕ → ℕ → Type 0
   Stops (Err text) session budget = HasFront old new text × (ys ≡ xs)
-  Stops (Ok R) session budget =
-      Untouched ⊎ (EngineStops R ⊎ WasDiscarded m R xs ys (StopsSession R session budget old new))
+  Stops (Ok s) session budget =
+      Untouched
+      ⊎ (EngineStops s.entries
+      ⊎ WasDiscarded m s.entries xs ys
+      (StopsSession s.entries (world_at_start s) session budget old new))
 
   -- A text that can't be read is found before anything is printed and any driver is asked. There
   -- may have been an engine.
-  abbrev pub Unread : Result RegistrationList (List ℕ) → Type 0
+  abbrev pub Unread : Result Start (List ℕ) → Type 0
   Unread (Err text) = Untouched
-  Unread (Ok R) = Untouched ⊎ ((new ≡ old) × WasDiscarded m R xs ys DidNothing)
+  Unread (Ok s) =
+      Untouched
+      ⊎ ((new ≡ old) × WasDiscarded m s.entries xs ys (DidNothing (world_at_start s)))
 
   -- What a run over these texts prints and asks, by its outcome.
-  abbrev pub Tells : Result RegistrationList (List ℕ) → List ℕ → ℕ → Result Status IoFault → Type 0
+  abbrev pub Tells : Result Start (List ℕ) → List ℕ → ℕ → Result Status IoFault → Type 0
   Tells start session budget (Ok AllOk) = Ends start session budget AllOk
   Tells start session budget (Ok SomeRefused) = Ends start session budget SomeRefused
   Tells start session budget (Ok BadInput) = Ends start session budget BadInput
@@ -136,16 +166,14 @@ module _ {V : Type 0} {P : V → Type 0} (m : Meanings P) (xs ys : List (DynBox 
   Tells start session budget (Err io.Read) = Unread start
 
 -- a profile that was loaded printed nothing, and one that wasn't said why
-abbrev pub Starts : Result RegistrationList (List ℕ) → RegistrationList → Option (List ℕ)
-    → Option (List ℕ) → Bool → Type 0
-Starts start R old new true = (start ≡ Ok R) × (new ≡ old)
-Starts start R old new false = (text : List ℕ) × (start ≡ Err text) × Appends old new text
+abbrev pub Starts : Result Start (List ℕ) → Start → Option (List ℕ) → Option (List ℕ) → Bool → Type 0
+Starts start s old new true = (start ≡ Ok s) × (new ≡ old)
+Starts start s old new false = (text : List ℕ) × (start ≡ Err text) × Appends old new text
 
 -- a front of what a profile prints that isn't taken, and else nothing
-abbrev pub StartStops :
-    Result RegistrationList (List ℕ) → Option (List ℕ) → Option (List ℕ) → Type 0
+abbrev pub StartStops : Result Start (List ℕ) → Option (List ℕ) → Option (List ℕ) → Type 0
 StartStops (Err text) old new = HasFront old new text
-StartStops (Ok R) old new = new ≡ old
+StartStops (Ok s) old new = new ≡ old
 
 -- want of memory is a status, and a fault is none
 abbrev pub outcome_of : Result Status SessionError → Result Status IoFault

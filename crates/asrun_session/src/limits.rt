@@ -3,9 +3,10 @@ ghost use Rattle.std.specs.Prelude.{◌≡◌, ◌↔◌, IfOk, IfErr, length};
 ghost use Rattle.ang_host.specs.Boxes.{members};
 ghost use Rattle.ang_host.specs.Members.{states_of, AreFresh};
 ghost use Rattle.ang_engine.specs.Engines.{registrations, world_in, drivers_in, limits_in};
+ghost use Rattle.ang_heap.specs.Stores.{bounds_of};
 ghost use Rattle.ang_engine.specs.Sound.{IsSound, HaveDrivers};
 ghost use Rattle.ang_engine.specs.declared.refused.NewError.TheVariants.{NoDriver};
-ghost use Rattle.ang_engine_modules.specs.World.{no_modules};
+ghost use Rattle.ang_engine_modules.specs.World.{no_modules, bounded_by};
 ghost use Rattle.asrun_session.specs.Limits.{with_limit};
 
 use crate::profile::LoadedProfile;
@@ -48,7 +49,8 @@ pub fn limited_engine(
     requires fresh { AreFresh (states_of ⟦<dyn Driver as Driver>⟧ (members drivers)) }
     ensures limits { IfOk result (λ e. limits_in e ≡ profile.limits) }
     ensures registrations { IfOk result (λ e. registrations e ≡ profile.registry.entries) }
-    ensures world { IfOk result (λ e. world_in ⟦<dyn Driver as Driver>⟧ e ≡ no_modules) }
+    ensures world { IfOk result (λ e. world_in ⟦<dyn Driver as Driver>⟧ e
+        ≡ bounded_by (bounds_of profile.limits) no_modules) }
     ensures drivers { IfOk result (λ e. drivers_in e ≡ members drivers) }
     ensures sound { IfOk result (λ e. IsSound ⟦<dyn Driver as Driver>⟧ e) }
     ensures drivers_back { IfErr result (λ r. members r.drivers ≡ members drivers) }

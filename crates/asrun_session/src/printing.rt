@@ -15,7 +15,7 @@ use crate::writing::write_text;
 use ang_engine::{Outcome, Reply};
 use ang_host::{EventLog, EventRef};
 use ang_kinds::{Denial, Error};
-use asrun_text::{push_denial, push_error, push_event, push_outcome};
+use asrun_text::{DenialLine, push_error, push_event, push_outcome};
 use std::alloc::{AllocError, Global};
 use std::io::Write;
 
@@ -67,14 +67,6 @@ impl Line for Error {
 
     fn push_line(&self, out: &mut Vec<u8>) -> Result<(), AllocError> {
         push_error(out, self)
-    }
-}
-
-impl Line for Denial {
-    ghost line = { denial_text };
-
-    fn push_line(&self, out: &mut Vec<u8>) -> Result<(), AllocError> {
-        push_denial(out, *self)
     }
 }
 
@@ -148,6 +140,62 @@ fn add_events<W: Write>(
     Ok(())
 }
 
+/// Prints a denial, after what is kept back. `line` is that of the denial before it.
+#[inline(always)]
+fn add_denial<W: Write>(
+    writer: &mut W,
+    text: &mut Vec<u8>,
+    line: &mut DenialLine,
+    denial: &Denial,
+) -> Result<(), SessionError>
+    ensures whole { OnOk result (Holds (W.contents writer.old) (W.contents writer.new)
+        text.new.items (text.old.items ++ denial_text denial.now)) }
+    ensures front { OnErr result (HasFront (W.contents writer.old) (W.contents writer.new)
+        (text.old.items ++ denial_text denial.now)) }
+    ensures fault { IfErr result (λ e. e ≢ unread) }
+{
+    line.push(text, denial)?;
+    settle(writer, text)
+}
+
+/// Prints denials, after what is kept back. `first` is whichever denial's line is made before them.
+fn add_denials_after<W: Write>(
+    writer: &mut W,
+    text: &mut Vec<u8>,
+    first: Denial,
+    denials: &[Denial],
+) -> Result<(), SessionError>
+    ensures whole { OnOk result (Holds (W.contents writer.old) (W.contents writer.new)
+        text.new.items (text.old.items ++ flat_map denial_text denials.now)) }
+    ensures front { OnErr result (HasFront (W.contents writer.old) (W.contents writer.new)
+        (text.old.items ++ flat_map denial_text denials.now)) }
+    ensures fault { IfErr result (λ e. e ≢ unread) }
+{
+    let mut line = DenialLine::new(first);
+    for denial in denials {
+        add_denial(writer, text, &mut line, denial)?;
+    }
+    Ok(())
+}
+
+/// Prints denials, after what is kept back.
+fn add_denials<W: Write>(
+    writer: &mut W,
+    text: &mut Vec<u8>,
+    denials: &[Denial],
+) -> Result<(), SessionError>
+    ensures whole { OnOk result (Holds (W.contents writer.old) (W.contents writer.new)
+        text.new.items (text.old.items ++ flat_map denial_text denials.now)) }
+    ensures front { OnErr result (HasFront (W.contents writer.old) (W.contents writer.new)
+        (text.old.items ++ flat_map denial_text denials.now)) }
+    ensures fault { IfErr result (λ e. e ≢ unread) }
+{
+    match denials {
+        [] => Ok(()),
+        [first, ..] => add_denials_after(writer, text, *first, denials),
+    }
+}
+
 /// Prints the parts of a reply, and writes all of it.
 fn print_parts<W: Write>(
     writer: &mut W,
@@ -168,7 +216,7 @@ fn print_parts<W: Write>(
     text.clear();
     add_events(writer, text, events)?;
     add_lines(writer, text, errors)?;
-    add_lines(writer, text, denials)?;
+    add_denials(writer, text, denials)?;
     push_outcome(text, outcome)?;
     write_text(writer, text.as_slice())?;
     Ok(())

@@ -1,17 +1,15 @@
 //! A whole run: a profile, a session, and the text of the replies.
-ghost use Rattle.std.specs.Prelude.{◌≡◌, ◌≢◌, ◌<◌, ◌^◌, ◌⊎◌, true, length, Ok, IfOk, IfErr, IfSome, OnOk, OnErr};
+ghost use Rattle.std.specs.Prelude.{◌≡◌, ◌≢◌, ◌<◌, ◌^◌, ◌⊎◌, length, Ok, IfOk, IfErr, IfSome, OnOk, OnErr};
 ghost use Rattle.std.specs.Io.KnownBytes.{Appends};
 ghost use Rattle.ang_host.specs.Boxes.{members};
-ghost use Rattle.ang_engine.specs.Engines.{world_in, drivers_in, limits_in};
+ghost use Rattle.ang_engine.specs.Engines.{drivers_in, limits_in};
+ghost use Rattle.ang_engine.specs.Limited.{no_limits};
 ghost use Rattle.ang_engine.specs.Sound.{IsSound};
-ghost use Rattle.ang_engine_modules.specs.World.{no_modules};
 ghost use Rattle.asrun_session.specs.Drivers.{kinds_of, AreListed, AreRefused, AreBack, NotListed, NoDriver, engine_text};
 ghost use Rattle.asrun_session.specs.Engines.{RunsText, StopsText};
 ghost use Rattle.asrun_lines.specs.Lines.{lines_of};
-ghost use Rattle.asrun_session.specs.Limits.{limits_of};
-ghost use Rattle.asrun_session.specs.Profile.{loaded};
 ghost use Rattle.asrun_session.specs.Reading.{unread, IsReadThrough};
-ghost use Rattle.asrun_session.specs.Whole.{registered_by, most_profile, most_session, long_profile_text, start_of, Starts, Tells, StartStops, Ends, Stops, Unread, outcome_of, fresh};
+ghost use Rattle.asrun_session.specs.Whole.{start_by, start_by_lines, most_profile, most_session, long_profile_text, start_of, Starts, Tells, StartStops, Ends, Stops, Unread, outcome_of, fresh};
 ghost use Rattle.asrun_session.specs.Writing.{HasFront, unwritten};
 
 use crate::ending::{IoFault, SessionError, Status};
@@ -43,15 +41,14 @@ fn load_text<W: Write>(
 ) -> Result<bool, SessionError>
     requires few { length text.now < 2 ^ 32 }
     ensures done { IfOk result (Starts
-        (registered_by (loaded 1 profile.old.registry (lines_of text.now)))
-        profile.new.registry.entries (W.contents writer.old) (W.contents writer.new)) }
-    ensures limits { IfOk result (λ ok. ok ≡ true
-        → profile.new.limits ≡ limits_of profile.old.limits (lines_of text.now)) }
+        (start_by_lines profile.old.registry profile.old.limits (lines_of text.now))
+        (start_by profile.new.registry.entries profile.new.limits) (W.contents writer.old)
+        (W.contents writer.new)) }
     ensures cut { OnErr result (StartStops
-        (registered_by (loaded 1 profile.old.registry (lines_of text.now)))
+        (start_by_lines profile.old.registry profile.old.limits (lines_of text.now))
         (W.contents writer.old) (W.contents writer.new)) }
-    ensures refused { IfErr result (λ e. e ≡ unwritten
-        → IfOk (registered_by (loaded 1 profile.old.registry (lines_of text.now))) (λ _. ⊥)) }
+    ensures refused { IfErr result (λ e. e ≡ unwritten → IfOk
+        (start_by_lines profile.old.registry profile.old.limits (lines_of text.now)) (λ _. ⊥)) }
     ensures fault { IfErr result (λ e. e ≢ unread) }
 {
     match load(profile, text) {
@@ -90,11 +87,10 @@ pub fn load_profile<R: Read, W: Write>(
     profile: &mut LoadedProfile,
 ) -> Result<bool, SessionError>
     requires new { profile.old.registry ≡ fresh }
+    requires unlimited { profile.old.limits ≡ no_limits }
     ensures done { IfOk result (λ ok. IfSome (R.remaining reader.old) (λ text.
-        Starts (start_of text) profile.new.registry.entries (W.contents writer.old)
-        (W.contents writer.new) ok)) }
-    ensures limits { IfOk result (λ ok. IfSome (R.remaining reader.old) (λ text. ok ≡ true
-        → profile.new.limits ≡ limits_of profile.old.limits (lines_of text))) }
+        Starts (start_of text) (start_by profile.new.registry.entries profile.new.limits)
+        (W.contents writer.old) (W.contents writer.new) ok)) }
     ensures cut { OnErr result (IfSome (R.remaining reader.old)
         (λ text. StartStops (start_of text) (W.contents writer.old) (W.contents writer.new))) }
     ensures through { IfOk result
@@ -124,7 +120,6 @@ fn run_text<R: Read, W: Write>(
     budget: u64,
 ) -> Result<Status, SessionError>
     requires sound { IsSound ⟦<dyn Driver as Driver>⟧ engine.old }
-    requires new { world_in ⟦<dyn Driver as Driver>⟧ engine.old ≡ no_modules }
     ensures sound { IsSound ⟦<dyn Driver as Driver>⟧ engine.new }
     ensures limits { limits_in engine.new ≡ limits_in engine.old }
     ensures order { kinds_of (drivers_in engine.new) ≡ kinds_of (drivers_in engine.old) }
@@ -193,11 +188,12 @@ fn run_engine<R: Read, W: Write>(
     requires listed { AreListed ⟦<dyn Driver as Driver>⟧ (members drivers) }
     ensures done { IfOk result.0 (λ status. IfSome (R.remaining reader.old) (λ text.
         Ends ⟦<dyn Driver as Driver>⟧ (members drivers) result.1.items
-        (W.contents writer.old) (W.contents writer.new) (Ok profile.registry.entries) text budget
-        status)) }
+        (W.contents writer.old) (W.contents writer.new)
+        (Ok (start_by profile.registry.entries profile.limits)) text budget status)) }
     ensures cut { OnErr result.0 (IfSome (R.remaining reader.old) (λ text.
         Stops ⟦<dyn Driver as Driver>⟧ (members drivers) result.1.items
-        (W.contents writer.old) (W.contents writer.new) (Ok profile.registry.entries) text budget)) }
+        (W.contents writer.old) (W.contents writer.new)
+        (Ok (start_by profile.registry.entries profile.limits)) text budget)) }
     ensures read { IfErr result.0 (λ e. e ≡ unwritten →
         IsReadThrough most_session (R.remaining reader.old) (R.remaining reader.new)
         ⊎ AreRefused ⟦<dyn Driver as Driver>⟧ profile.registry.entries (members drivers)) }
@@ -206,7 +202,8 @@ fn run_engine<R: Read, W: Write>(
         ⊎ AreBack ⟦<dyn Driver as Driver>⟧ result.1.items }
     ensures fault { IfErr result.0 (λ e. e ≡ unread →
         Unread ⟦<dyn Driver as Driver>⟧ (members drivers) result.1.items
-        (W.contents writer.old) (W.contents writer.new) (Ok profile.registry.entries)) }
+        (W.contents writer.old) (W.contents writer.new)
+        (Ok (start_by profile.registry.entries profile.limits))) }
 {
     match limited_engine(alloc, profile, drivers) {
         Ok(mut engine) => {
@@ -243,11 +240,12 @@ fn run_drivers<R: Read, W: Write>(
     requires few { length drivers.items < 2 ^ 60 }
     ensures done { IfOk result.0 (λ status. IfSome (R.remaining reader.old) (λ text.
         Ends ⟦<dyn Driver as Driver>⟧ drivers.items result.1.items
-        (W.contents writer.old) (W.contents writer.new) (Ok profile.registry.entries) text budget
-        status)) }
+        (W.contents writer.old) (W.contents writer.new)
+        (Ok (start_by profile.registry.entries profile.limits)) text budget status)) }
     ensures cut { OnErr result.0 (IfSome (R.remaining reader.old) (λ text.
         Stops ⟦<dyn Driver as Driver>⟧ drivers.items result.1.items
-        (W.contents writer.old) (W.contents writer.new) (Ok profile.registry.entries) text budget)) }
+        (W.contents writer.old) (W.contents writer.new)
+        (Ok (start_by profile.registry.entries profile.limits)) text budget)) }
     ensures read { IfErr result.0 (λ e. e ≡ unwritten →
         IsReadThrough most_session (R.remaining reader.old) (R.remaining reader.new)
         ⊎ AreRefused ⟦<dyn Driver as Driver>⟧ profile.registry.entries drivers.items) }
@@ -257,7 +255,8 @@ fn run_drivers<R: Read, W: Write>(
         × AreBack ⟦<dyn Driver as Driver>⟧ result.1.items) }
     ensures fault { IfErr result.0 (λ e. e ≡ unread →
         Unread ⟦<dyn Driver as Driver>⟧ drivers.items result.1.items
-        (W.contents writer.old) (W.contents writer.new) (Ok profile.registry.entries)) }
+        (W.contents writer.old) (W.contents writer.new)
+        (Ok (start_by profile.registry.entries profile.limits))) }
 {
     match Drivers::new(drivers) {
         Ok(drivers) => run_engine(alloc, reader, writer, buffer, profile, drivers, budget),
@@ -314,7 +313,7 @@ pub fn session<P: Read, S: Read, W: Write>(
     ensures session_read { IfErr result.outcome (λ e. e ≡ IoFault.Write
         → IsReadThrough most_session (S.remaining session.old) (S.remaining session.new)
         ⊎ IfSome (P.remaining profile.old) (λ p.
-        IfOk (start_of p) (λ R. AreRefused ⟦<dyn Driver as Driver>⟧ R drivers.items))) }
+        IfOk (start_of p) (λ t. AreRefused ⟦<dyn Driver as Driver>⟧ t.entries drivers.items))) }
     ensures order { kinds_of result.drivers.items ≡ kinds_of drivers.items }
     // They come back as they were, or, where an engine may have taken them, with nothing alive.
     ensures returned { (result.drivers.items ≡ drivers.items)

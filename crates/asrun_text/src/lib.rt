@@ -2,8 +2,10 @@
 //! (docs/HOST.md, "The program").
 #![tactic(auto)]
 
+mod denials;
 mod reply;
 mod trace;
 
-pub use reply::{push_denial, push_error, push_event, push_outcome, push_reply};
+pub use denials::DenialLine;
+pub use reply::{push_error, push_event, push_outcome, push_reply};
 pub use trace::push_trace_frame;

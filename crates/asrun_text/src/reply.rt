@@ -1,12 +1,13 @@
 //! The text of a reply, as the program writes it (docs/HOST.md, "The program").
-ghost use Rattle.std.specs.Prelude.{◌≡◌, ◌<◌, ◌++◌, OnOk, codes, decimal, flat_map};
+ghost use Rattle.std.specs.Prelude.{◌≡◌, ◌++◌, OnOk, codes, decimal, flat_map};
 ghost use Rattle.ang_host.specs.Lent.{event_of};
 ghost use Rattle.asrun_lines.specs.Texts.{object_text};
-ghost use Rattle.asrun_text.specs.Text.{value_text, values_text, fault_text, made_text, answer_text, host_reply_text, event_text, place_text, kind_text, name_text, error_text, mask_text, hex_digit, denial_text, refusal_text, outcome_text, reply_text};
+ghost use Rattle.asrun_text.specs.Text.{value_text, values_text, fault_text, made_text, answer_text, host_reply_text, event_text, place_text, kind_text, name_text, error_text, refusal_text, outcome_text, reply_text};
 
+use crate::denials::push_denials;
 use ang_engine::{Outcome, Refusal, Reply};
 use ang_host::{Answer, EventLog, EventRef, HostReply, Made};
-use ang_kinds::{Denial, Error, ErrorKind, Fault, Mask, Place, Value};
+use ang_kinds::{Error, ErrorKind, Fault, Place, Value};
 use asrun_lines::{push_key, push_number, push_object, push_signed, push_spaced_number, push_text};
 use std::alloc::AllocError;
 
@@ -250,48 +251,6 @@ pub fn push_error(out: &mut Vec<u8>, error: &Error) -> Result<(), AllocError>
     push_text(out, "\n")
 }
 
-fn hex_digit(d: u8) -> u8
-    requires digit { d < 16 }
-    ensures exact { result ≡ hex_digit d }
-{
-    if d < 10 { b'0' + d } else { b'a' - 10 + d }
-}
-
-fn push_mask(out: &mut Vec<u8>, mask: Mask) -> Result<(), AllocError>
-    ensures added { OnOk result (out.new.items ≡ out.old.items ++ mask_text mask.0) }
-{
-    let [first, second, third, fourth] = mask.0.to_be_bytes();
-    out.extend_from_slice(&[
-        hex_digit(first / 16),
-        hex_digit(first % 16),
-        hex_digit(second / 16),
-        hex_digit(second % 16),
-        hex_digit(third / 16),
-        hex_digit(third % 16),
-        hex_digit(fourth / 16),
-        hex_digit(fourth % 16),
-    ])
-}
-
-/// The line of a denial, put after what stands in `out`.
-///
-/// # Errors
-/// A growth of memory was refused. Nothing is promised of `out` then.
-#[tactic(auto, using(crate::proofs::Texts::texts), unfolding(crate::specs::Text::denial_text))]
-pub fn push_denial(out: &mut Vec<u8>, denial: Denial) -> Result<(), AllocError>
-    ensures added { OnOk result (out.new.items ≡ out.old.items ++ denial_text denial) }
-{
-    push_text(out, "denied ")?;
-    push_place(out, denial.place)?;
-    push_text(out, " ")?;
-    push_number(out, u64::from(denial.entity.0))?;
-    push_text(out, " ")?;
-    push_mask(out, denial.entity_mask)?;
-    push_text(out, " ")?;
-    push_mask(out, denial.module_mask)?;
-    push_text(out, "\n")
-}
-
 #[tactic(auto, using(crate::proofs::Texts::texts))]
 fn push_init_failed(out: &mut Vec<u8>, fault: Fault) -> Result<(), AllocError>
     ensures added { OnOk result (out.new.items ≡ out.old.items
@@ -381,16 +340,6 @@ fn push_errors(out: &mut Vec<u8>, errors: &[Error]) -> Result<(), AllocError>
 {
     for error in errors {
         push_error(out, error)?;
-    }
-    Ok(())
-}
-
-fn push_denials(out: &mut Vec<u8>, denials: &[Denial]) -> Result<(), AllocError>
-    ensures added { OnOk result (out.new.items ≡ out.old.items
-        ++ flat_map denial_text denials.now) }
-{
-    for denial in denials {
-        push_denial(out, *denial)?;
     }
     Ok(())
 }

@@ -30,6 +30,13 @@ export function drawn(tag, attributes = {}, ...children) {
   return it;
 }
 
+/** Gives an element a text. Where it has that already it is not laid out again. */
+export function setText(it, text) {
+  if (it.textContent !== text) {
+    it.textContent = text;
+  }
+}
+
 /** Puts these children in the place of those that an element has. */
 export function fill(it, ...children) {
   it.replaceChildren(...children);

@@ -1,6 +1,6 @@
 // The modules to choose from, and the bits of the chosen one's mask.
 
-import { at, counted, element, fill } from "./dom.js";
+import { at, counted, element, fill, setText } from "./dom.js";
 import { hex, moduleOf, state } from "./state.js";
 
 /** Draws a choice for each module. `choose` is given the name that is chosen. */
@@ -36,15 +36,12 @@ function bitOf(module, bit, flip) {
 /** Shows the chosen module's mask as it is. */
 export function showMask() {
   const module = moduleOf();
-  at("mask-of").textContent = module ? module.name : "no module";
-  at("mask-hex").textContent = module ? hex(module.mask) : "";
+  setText(at("mask-of"), module ? module.name : "no module");
+  setText(at("mask-hex"), module ? hex(module.mask) : "");
   for (const box of at("bits").querySelectorAll("input")) {
     box.checked = Boolean((module.mask >>> Number(box.dataset.bit)) & 1);
   }
-  for (const it of state.modules) {
-    const shown = document.querySelector(`[data-mask-of="${CSS.escape(it.name)}"]`);
-    if (shown) {
-      shown.textContent = hex(it.mask);
-    }
+  if (module) {
+    setText(document.querySelector(`[data-mask-of="${CSS.escape(module.name)}"]`), hex(module.mask));
   }
 }

@@ -1,6 +1,6 @@
 // The page of tools/play.py --web: what its controls do, and what is drawn again after that.
 
-import { at, counted, element, fill } from "./dom.js";
+import { at, counted, element, fill, setText } from "./dom.js";
 import { drawEditors, showLine, showMarks } from "./editors.js";
 import { drawImports } from "./imports.js";
 import { drawBits, drawTabs, showMask } from "./masks.js";
@@ -202,7 +202,7 @@ function showChosenMask(mask) {
   paintModule(module);
   showMask();
   showChange(module, before);
-  at("module-state").textContent = stateOf(module);
+  setText(at("module-state"), stateOf(module));
   return before;
 }
 

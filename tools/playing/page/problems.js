@@ -9,7 +9,8 @@ export function drawProblems(setBit, note = "") {
   const problems = state.problems.get(state.chosen) ?? [];
   const list = element("ol", { class: "problems" }, ...problems.map((it) => problemOf(it, setBit)));
   const denials = problems.filter((it) => it.denials.length > 0).length;
-  const reason = denials > 0 ? `, of which a mask is the reason of ${denials}` : "";
+  const which = problems.length > 1 ? ` ${denials} of them` : "";
+  const reason = denials > 0 ? `,${which} because a mask hides what is named` : "";
   const sum = problems.length ? `${counted(problems.length, "error")}${reason}.` : note;
   fill(at("problems"), element("p", { class: "quiet" }, sum), list);
 }
@@ -17,7 +18,7 @@ export function drawProblems(setBit, note = "") {
 function problemOf(problem, setBit) {
   const place = `${problem.section}:${problem.line}:${problem.column}`;
   const label = `Go to section ${problem.section}, line ${problem.line}, column ${problem.column}`;
-  const go = element("button", { type: "button", class: "place", "aria-label": label, click: () => goTo(problem) }, place);
+  const go = element("button", { type: "button", class: "place", "aria-label": label, title: label, click: () => goTo(problem) }, place);
   const hints = problem.hints.map((it) => element("p", { class: "hint" }, it));
   const denials = problem.denials.map((it) => denialOf(it, setBit));
   const kind = problem.denials.length > 0 ? "denied" : "wrong";

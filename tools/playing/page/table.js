@@ -1,5 +1,6 @@
-// The table of registrations: a row for each entry, a column for each module. Rows are laid out in blocks, and only those in
-// view, so that a change shows at once in a long table; roles say what elements of a table say by themselves elsewhere.
+// The table of registrations: a row for each entry, a column for each module. Rows are made in blocks, and only those in and near
+// view are there, so that a change shows at once in a long table; a block that is not has its height alone. Roles say what elements
+// of a table say by themselves elsewhere.
 
 import { at, counted, element, fill } from "./dom.js";
 import { bitsOf, hex, lookOf, moduleOf, sees, state } from "./state.js";
@@ -7,57 +8,104 @@ import { bitsOf, hex, lookOf, moduleOf, sees, state } from "./state.js";
 const WORDS = { seen: "seen", next: "seen from the next build on", still: "seen by the built program alone", hidden: "hidden" };
 const NAMED = 6; // entries that are named of those which appear or go
 const CELLS = new Map(Object.entries(WORDS).map(([look, word]) => [look, element("td", { role: "cell", class: `cell ${look}`, "aria-label": word })]));
-const columns = new Map(); // of each module: its cells, and how they look
-const BLOCK = 10; // rows that are laid out together
-let rows = [];
+const BLOCK = 5; // rows
+const TALL = 25; // pixels of a row, as long as it has not been there
+const FEW = 40; // rows of a table that is there as a whole
+const NEAR = "100px 0px"; // around the view: blocks that come so near are made
+let columns = new Map(); // of each module: its place, and where the head tells how many entries it sees
 let blocks = [];
+const watch = new IntersectionObserver(heedView, { root: at("table-scrolls"), rootMargin: NEAR });
 
 /** Draws the whole table, but for what depends on which module is chosen. */
 export function drawTable() {
-  columns.clear();
-  for (const module of state.modules) {
-    columns.set(module.name, { cells: [], looks: [], head: element("span", { class: "sum" }) });
-  }
-  rows = state.entries.map(rowOf);
-  const starts = rows.map((_, number) => number).filter((number) => number % BLOCK === 0);
-  blocks = starts.map((start) => blockOf(rows.slice(start, start + BLOCK)));
+  columns = new Map(state.modules.map((it, place) => [it.name, { place, sum: element("span", { class: "sum" }) }]));
   at("table").classList.toggle("many", state.modules.length > 6);
-  fill(at("table"), headOf(), ...blocks.map((it) => it.body));
+  fill(at("table"), headOf());
   find();
 }
 
-function blockOf(own) {
-  return { rows: own, body: element("tbody", { role: "rowgroup" }, ...own.map((it) => it.row)) };
+/** Shows the entries that have the text which is looked for. */
+export function find() {
+  const wanted = at("find").value.toLowerCase();
+  const found = state.entries.map((_, number) => number).filter((number) => textOf(number).includes(wanted));
+  drawBlocks(found);
+  const all = counted(state.entries.length, "entry", "entries");
+  at("registrations-sum").textContent = wanted ? `${found.length} of ${all}` : `${all}, ${counted(state.modules.length, "module")}`;
+}
+
+function drawBlocks(found) {
+  const starts = found.map((_, place) => place).filter((place) => place % BLOCK === 0);
+  watch.disconnect();
+  blocks.forEach((it) => it.body.remove());
+  blocks = starts.map((start) => newBlock(found.slice(start, start + BLOCK), start));
+  blocks.slice(0, FEW / BLOCK).forEach(make);
+  at("table").append(...blocks.map((it) => it.body));
+  at("table").setAttribute("aria-rowcount", found.length + 1);
+  if (found.length > FEW) {
+    blocks.forEach((it) => watch.observe(it.body));
+  }
+}
+
+function textOf(number) {
+  const entry = state.entries[number];
+  return `${number} ${entry.word} ${entry.told} ${hex(entry.mask)}`.toLowerCase();
 }
 
 function headOf() {
   const heads = state.modules.map((it) =>
-    element("th", { role: "columnheader", class: "of-module" }, element("span", { class: "name" }, it.name), columns.get(it.name).head));
+    element("th", { role: "columnheader", class: "of-module" }, element("span", { class: "name" }, it.name), columns.get(it.name).sum));
   for (const module of state.modules) {
     showSum(module);
   }
   const fixed = [["#", "number"], ["Declaration", "told"], ["Mask, bit 31 to bit 0", "mask-cell"]];
   const firsts = fixed.map(([text, name]) => element("th", { role: "columnheader", class: name }, text));
-  return element("thead", { role: "rowgroup" }, element("tr", { role: "row" }, ...firsts, ...heads));
+  return element("thead", { role: "rowgroup" }, element("tr", { role: "row", "aria-rowindex": 1 }, ...firsts, ...heads));
 }
 
-function rowOf(entry, number) {
+// ---- the blocks in view
+
+function newBlock(numbers, start) {
+  const it = { numbers, start, rows: [], body: element("tbody", { role: "none" }) };
+  leave(it, numbers.length * TALL);
+  return it;
+}
+
+/** Makes the blocks that come near the view, and leaves of others their height alone, but where their text is selected. */
+function heedView(changes) {
+  const blockOf = new Map(blocks.map((it) => [it.body, it]));
+  for (const { target, isIntersecting, boundingClientRect } of changes) {
+    const block = blockOf.get(target);
+    const isThere = block?.rows.length > 0;
+    if (block && isIntersecting && !isThere) {
+      make(block);
+    } else if (isThere && !isIntersecting && !getSelection().containsNode(target, true)) {
+      leave(block, boundingClientRect.height);
+    }
+  }
+}
+
+function make(block) {
+  block.rows = block.numbers.map((number, place) => rowOf(number, block.start + place));
+  block.body.style.height = "";
+  fill(block.body, ...block.rows.map((it) => it.row));
+}
+
+function leave(block, tall) {
+  block.rows = [];
+  block.body.style.height = `${tall}px`;
+  fill(block.body);
+}
+
+function rowOf(number, place) {
+  const entry = state.entries[number];
   const picture = maskPicture(entry);
   const told = element("th", { role: "rowheader", class: "told" }, element("span", { class: "word" }, entry.word), ` ${entry.told.replace(/^(type|enum) /, "")}`);
   const mask = element("td", { role: "cell", class: "mask-cell" }, element("code", {}, hex(entry.mask)), picture.whole);
-  const cells = state.modules.map((module) => cellOf(entry, module));
-  const row = element("tr", { role: "row" }, element("td", { role: "cell", class: "number" }, String(number)), told, mask, ...cells);
-  const text = `${number} ${entry.word} ${entry.told} ${hex(entry.mask)}`.toLowerCase();
-  return { row, told, text, entry, picture };
-}
-
-function cellOf(entry, module) {
-  const column = columns.get(module.name);
-  const look = lookOf(entry, module);
-  const cell = CELLS.get(look).cloneNode();
-  column.cells.push(cell);
-  column.looks.push(look);
-  return cell;
+  const cells = state.modules.map((module) => CELLS.get(lookOf(entry, module)).cloneNode());
+  const firsts = [element("td", { role: "cell", class: "number" }, String(number)), told, mask];
+  const row = element("tr", { role: "row", "aria-rowindex": place + 2 }, ...firsts, ...cells);
+  paintMask(entry, picture);
+  return { row, entry, picture, cells };
 }
 
 /** A mask as 32 cells. Those that the chosen module meets are brighter. */
@@ -65,18 +113,32 @@ function maskPicture(entry) {
   const bits = bitsOf(entry.mask);
   const cells = bits.map((bit) => element("i", { class: `at-${bit}` }));
   const label = `bits ${bits.join(", ")}`;
-  return { cells, bits, met: 0, whole: element("span", { class: "cells", role: "img", "aria-label": label }, ...cells) };
+  return { cells, bits, whole: element("span", { class: "cells", role: "img", "aria-label": label }, ...cells) };
 }
 
-/** Shows of each entry which bits the chosen module meets. */
+/** Shows of an entry which bits the chosen module meets. */
+function paintMask(entry, picture) {
+  const met = entry.mask & (moduleOf()?.mask ?? 0);
+  picture.bits.forEach((bit, place) => picture.cells[place].classList.toggle("met", Boolean((met >>> bit) & 1)));
+}
+
 function paintMasks() {
-  const mask = moduleOf()?.mask ?? 0;
-  for (const { entry, picture } of rows) {
-    const met = entry.mask & mask;
-    if (met !== picture.met) {
-      picture.met = met;
-      picture.bits.forEach((bit, place) => picture.cells[place].classList.toggle("met", Boolean((met >>> bit) & 1)));
+  blocks.flatMap((it) => it.rows).forEach((it) => paintMask(it.entry, it.picture));
+}
+
+/** Shows how a module stands to the entries: those cells change that look otherwise now. */
+export function paintModule(module) {
+  const { place } = columns.get(module.name);
+  for (const { entry, cells } of blocks.flatMap((it) => it.rows)) {
+    const look = lookOf(entry, module);
+    if (!cells[place].classList.contains(look)) {
+      cells[place].className = `cell ${look}`;
+      cells[place].setAttribute("aria-label", WORDS[look]);
     }
+  }
+  showSum(module);
+  if (module.name === state.chosen) {
+    paintMasks();
   }
 }
 
@@ -101,26 +163,9 @@ function bringIntoView(head) {
   }
 }
 
-/** Shows how a module stands to the entries: those cells change that are another's now. */
-export function paintModule(module) {
-  const column = columns.get(module.name);
-  state.entries.forEach((entry, number) => {
-    const look = lookOf(entry, module);
-    if (look !== column.looks[number]) {
-      column.looks[number] = look;
-      column.cells[number].className = `cell ${look}`;
-      column.cells[number].setAttribute("aria-label", WORDS[look]);
-    }
-  });
-  showSum(module);
-  if (module.name === state.chosen) {
-    paintMasks();
-  }
-}
-
 function showSum(module) {
   const seen = state.entries.filter((it) => sees(it, module.mask)).length;
-  columns.get(module.name).head.textContent = `${seen}`;
+  columns.get(module.name).sum.textContent = `${seen}`;
 }
 
 /** Says what appears and what goes as a module's mask changes. */
@@ -145,19 +190,4 @@ function named(title, entries) {
   const more = entries.length > NAMED ? [`and ${entries.length - NAMED} more`] : [];
   const listed = [...names, ...more].flatMap((it) => [it, " "]);
   return element("p", { class: title.toLowerCase() }, element("b", {}, `${title}: `), ...listed);
-}
-
-/** Shows the rows that have the text which is looked for. */
-export function find() {
-  const wanted = at("find").value.toLowerCase();
-  let shown = 0;
-  for (const it of rows) {
-    it.row.hidden = !it.text.includes(wanted);
-    shown += it.row.hidden ? 0 : 1;
-  }
-  for (const it of blocks) {
-    it.body.hidden = it.rows.every((own) => own.row.hidden);
-  }
-  const all = counted(rows.length, "entry", "entries");
-  at("registrations-sum").textContent = wanted ? `${shown} of ${all}` : `${all}, ${counted(state.modules.length, "module")}`;
 }

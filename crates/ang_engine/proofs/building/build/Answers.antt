@@ -1,6 +1,5 @@
 use Rattle.std.proofs.Common.{◌≡◌, rules, refl, sym, subst, true, false, Some, None}
 use Rattle.ang_heap.specs.Stores.{world_of}
-use Rattle.ang_vm.specs.Machines.{lent}
 use Rattle.ang_engine_modules.specs.declared.reply.Outcome.TheVariants.{Refused}
 use Rattle.ang_engine_modules.specs.declared.reply.Refusal.TheVariants.{NoModule, BadBudget}
 use Rattle.ang_engine_modules.specs.World.{World, module_named, left_to}
@@ -21,7 +20,7 @@ pub returns-in_default-clause-done : goal.returns-in_default-clause-done
 returns-in_default-clause-done g c =
     let R = c.args.registry.now.entries in
     let ls = c.args.list.now.code in
-    let w : World = left_to (states_in c.args.list.now) (world_of (λ v. (g.dyn-1.0.entry v).1) (lent c.args.machine.now c.args.events.now)) in
+    let w : World = left_to (states_in c.args.list.now) (world_of (λ v. (g.dyn-1.0.entry v).1) c.args.machine.now.store) in
     leads-at_once (building R c.args.name.now c.args.budget w) (Refused NoModule) w
     (λ rest. on_module-none c.args.name.now w rest (build_within c.args.budget R w) (found_same _ _ _ ls _ _ (c.in_default.ensures.exact ls) c.deref.ensures.value refl))
 
@@ -35,7 +34,7 @@ returns-then-not-may_run-clause-done g c =
     let R = c.args.registry.now.entries in
     let ls = c.args.list.now.code in
     let b : is_budget c.args.budget ≡ false = search rules in
-    let w : World = left_to (states_in c.args.list.now) (world_of (λ v. (g.dyn-1.0.entry v).1) (lent c.args.machine.now c.args.events.now)) in
+    let w : World = left_to (states_in c.args.list.now) (world_of (λ v. (g.dyn-1.0.entry v).1) c.args.machine.now.store) in
     leads-at_once (building R c.args.name.now c.args.budget w) (Refused BadBudget) w
     (λ rest. building-refused R c.args.name.now c.args.budget w c.in-Some.home rest (found_same _ _ _ ls _ _ (c.in-Some.ensures.exact ls) c.deref.ensures.value refl) b)
 
@@ -49,7 +48,7 @@ returns-clause-done g c =
     let R = c.args.registry.now.entries in
     let ls = c.args.list.now.code in
     let b : is_budget c.args.budget ≡ true = search rules in
-    let w : World = left_to (states_in c.args.list.now) (world_of (λ v. (g.dyn-1.0.entry v).1) (lent c.args.machine.now c.args.events.now)) in
+    let w : World = left_to (states_in c.args.list.now) (world_of (λ v. (g.dyn-1.0.entry v).1) c.args.machine.now.store) in
     leads-same _ (building R c.args.name.now c.args.budget w) _ _ _
     (λ rest. building-found R c.args.name.now c.args.budget w c.in-Some.home rest (found_same _ _ _ ls _ _ (c.in-Some.ensures.exact ls) c.deref.ensures.value refl) b)
     refl c.build_module.ensures.done
@@ -68,7 +67,7 @@ returns-clause-prepared g c =
     let x = c.args.list.now in
     let y = c.build_module.new.list in
     let ls = x.code in
-    let w : World = left_to (states_in x) (world_of (λ v. (g.dyn-1.0.entry v).1) (lent c.args.machine.now c.args.events.now)) in
+    let w : World = left_to (states_in x) (world_of (λ v. (g.dyn-1.0.entry v).1) c.args.machine.now.store) in
     let found : Some c.in-Some.home ≡ module_named c.args.name.now w = found_same _ _ _ ls _ _ (c.in-Some.ensures.exact ls) c.deref.ensures.value refl in
     subst (λ o. HaveMoved o x.builds (build_at x.places.items) y.builds (build_at y.places.items))
     (sym (begun_one c.build_module.result (listed_in c.build_module.new.events) (module_named c.args.name.now w) c.in-Some.home c.build_module.ensures.begun found))

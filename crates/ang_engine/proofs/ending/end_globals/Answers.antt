@@ -1,9 +1,22 @@
-use Rattle.std.proofs.Common.{refl, arith}
+use Rattle.std.proofs.Common.{◌≡◌, ◌+◌, ◌-◌, refl, ap, ◌∙◌, arith}
+use Rattle.ang_host.specs.Logs.{listed_in, log_len}
+use Rattle.ang_host.specs.Boxes.{members}
+use Rattle.ang_heap.specs.Globals.{values_in}
+use Rattle.ang_heap.specs.Heaps.{objects_of}
+use Rattle.ang_heap.specs.Parts.{counts_of, world_by}
+use Rattle.ang_heap.specs.Stores.{bounds_of}
 use Rattle.ang_heap.proofs.Spending.{ran_out_along}
 use Rattle.ang_engine.proofs.ending.end_globals.Goals as goal
 
 pub returns-clause-ended : goal.returns-clause-ended
-returns-clause-ended g c = λ is. c.end_module.ensures.ended c.args.machine.now.store.spent is
+returns-clause-ended g c = λ is.
+    let s = c.args.machine.now.store in
+    let u = c.end_module.new in
+    let left = s.live - (c.len.result - c.len-before.result) in
+    let same : log_len c.args.events.now + s.live ≡ log_len u.events + left =
+    omega (arith, c.requires.ready.kept.alive, c.end_module.ensures.level, c.end_module.ensures.fewer, c.len.ensures.exact, c.len-before.ensures.exact) in
+    c.end_module.ensures.ended (log_len c.args.events.now + s.live) s.spent (bounds_of s.limits) is
+    ∙ ap (λ n. world_by (objects_of u.heap) (counts_of (λ v. (g.dyn-1.0.entry v).1) (members u.drivers)) (values_in u.globals) (listed_in u.events) n s.spent (bounds_of s.limits) is) same
 
 pub returns-clause-moves : goal.returns-clause-moves
 returns-clause-moves g c = λ roles. record {

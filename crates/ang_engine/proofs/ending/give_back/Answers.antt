@@ -9,6 +9,7 @@ use Rattle.ang_meaning.specs.Results.{give_back}
 use Rattle.ang_heap.specs.Parts.{counts_of, world_by}
 use Rattle.ang_heap.specs.Heaps.{objects_of}
 use Rattle.ang_heap.proofs.Hosting.{parts_none, parts_join}
+use Rattle.ang_engine_modules.specs.World.{unbounded}
 use Rattle.ang_engine.proofs.Backwards.{last_of, none_of, back_turn, last_can, others_can}
 use Rattle.ang_engine.proofs.ending.give_back.Goals as goal
 
@@ -17,7 +18,7 @@ loop-left-init g c =
     let all : c.args.values.now ≡ take (length c.args.values.now) c.args.values.now = sym (take-length c.args.values.now) in
     record {
       within = omega arith;
-      gives = λ gs sp is. ap (λ l. give_back l (world_by (objects_of c.args.heap.now) (counts_of (λ v. (g.dyn-1.0.entry v).1) (members c.args.drivers.now)) gs (listed_in c.args.events.now) sp is)) all;
+      gives = λ gs n sp b is. ap (λ l. give_back l (world_by (objects_of c.args.heap.now) (counts_of (λ v. (g.dyn-1.0.entry v).1) (members c.args.drivers.now)) gs (listed_in c.args.events.now) n sp b is)) all;
       enough = subst (λ l. EnoughIn l (objects_of c.args.heap.now) (counts_of (λ v. (g.dyn-1.0.entry v).1) (members c.args.drivers.now))) all c.requires.enough;
       ready = c.requires.ready;
       capacity = refl;
@@ -42,11 +43,11 @@ loop-left-preserved g c =
     let e : take c.loop-left.left vs ≡ take (c.loop-left.left - 1) vs ++ v ∷ [] = last_of vs c.loop-left.left (Bits 0) c.loop-left-test.true c.loop-left.invariant.within in
     record {
       within = omega (arith, c.loop-left.invariant.within);
-      gives = λ gs sp is. back_turn vs c.loop-left.left v _ _ _ e (c.loop-left.invariant.gives gs sp is) (c.give_up.ensures.gives gs sp is);
+      gives = λ gs n sp b is. back_turn vs c.loop-left.left v _ _ _ e (c.loop-left.invariant.gives gs n sp b is) (c.give_up.ensures.gives gs n sp b is);
       enough = others_can (take (c.loop-left.left - 1) vs) (take c.loop-left.left vs) v
-          (world_by (objects_of c.loop-left.heap) (counts_of (λ v. (g.dyn-1.0.entry v).1) (members c.loop-left.drivers)) [] (listed_in c.loop-left.events) false [])
-          (world_by (objects_of c.give_up.new.self) (counts_of (λ v. (g.dyn-1.0.entry v).1) (members c.give_up.new.drivers)) [] (listed_in c.give_up.new.events) false [])
-          e c.loop-left.invariant.enough (c.give_up.ensures.gives [] false []);
+          (world_by (objects_of c.loop-left.heap) (counts_of (λ v. (g.dyn-1.0.entry v).1) (members c.loop-left.drivers)) [] (listed_in c.loop-left.events) 0 false unbounded [])
+          (world_by (objects_of c.give_up.new.self) (counts_of (λ v. (g.dyn-1.0.entry v).1) (members c.give_up.new.drivers)) [] (listed_in c.give_up.new.events) 0 false unbounded [])
+          e c.loop-left.invariant.enough (c.give_up.ensures.gives [] 0 false unbounded []);
       ready = c.give_up.ensures.ready;
       capacity = c.give_up.ensures.capacity ∙ c.loop-left.invariant.capacity;
       fewer = omega (arith, c.give_up.ensures.fewer, c.loop-left.invariant.fewer);
@@ -58,4 +59,4 @@ loop-left-preserved g c =
     }
 
 pub returns-clause-gives : goal.returns-clause-gives
-returns-clause-gives g c = λ gs sp is. c.loop-left.invariant.gives gs sp is ∙ none_of c.args.values.now c.loop-left.left _ c.loop-left-test.false
+returns-clause-gives g c = λ gs n sp b is. c.loop-left.invariant.gives gs n sp b is ∙ none_of c.args.values.now c.loop-left.left _ c.loop-left-test.false

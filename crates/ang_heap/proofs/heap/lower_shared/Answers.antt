@@ -2,7 +2,7 @@ use Rattle.std.proofs.Common.{◌≡◌, ◌-◌, Some, sym, refl, arith}
 use Rattle.slab.specs.Slab.{get, with_value}
 use Rattle.ang_heap.proofs.Heaping.{lower_kept, value_updates, count_in_slab, count_nowhere}
 use Rattle.ang_heap.specs.Heaps.{objects_in}
-use Rattle.ang_heap.proofs.Slots.{kept_slots}
+use Rattle.ang_meaning.proofs.Slots.{kept_slots}
 use Rattle.ang_heap.proofs.heap.lower_shared.Goals as goal
 
 pub returns-then-o-gt1-clause-lowered : goal.returns-then-o-gt1-clause-lowered

@@ -2,9 +2,9 @@ use Rattle.std.proofs.Common.{◌≡◌, ◌+◌, Some, sym, ap, ◌∙◌, arit
 use Rattle.std.specs.Option.{option_copied}
 use Rattle.slab.specs.Slab.{get}
 use Rattle.ang_heap.proofs.Heaping.{raise_none, raise_done, value_updates, count_in_slab}
-use Rattle.ang_heap.specs.Slots.{slots_of}
+use Rattle.ang_meaning.specs.Slots.{slots_of}
 use Rattle.ang_heap.specs.Heaps.{objects_in}
-use Rattle.ang_heap.proofs.Slots.{raised_slots}
+use Rattle.ang_meaning.proofs.Slots.{raised_slots}
 use Rattle.ang_heap.proofs.heap.raise.Goals as goal
 
 pub returns-in-None-clause-raised : goal.returns-in-None-clause-raised

@@ -18,9 +18,9 @@ pub release_listed-requires-clause-key_live : goal.release_listed-requires-claus
 release_listed-requires-clause-key_live g c = IsLive-held (state_at (states_of (λ v. (g.dyn-1.0.entry v).1) (members c.args.drivers.now)) c.args.driver) c.args.key c.requires.held
 
 pub returns-clause-gives : goal.returns-clause-gives
-returns-clause-gives g c = λ os gs sp is.
-    release_gives _ _ _ _ _ _ _ _ c.release_listed.ensures.moved os gs (listed_in c.args.events.now) sp is
-    ∙ ap (λ es. world_by os (counts_of (λ v. (g.dyn-1.0.entry v).1) (members c.release_listed.new.drivers)) gs es sp is) (sym c.release_listed.ensures.listed)
+returns-clause-gives g c = λ os gs n sp b is.
+    release_gives _ _ _ _ _ _ _ _ c.release_listed.ensures.moved os gs (listed_in c.args.events.now) n sp b is
+    ∙ ap (λ es. world_by os (counts_of (λ v. (g.dyn-1.0.entry v).1) (members c.release_listed.new.drivers)) gs es n sp b is) (sym c.release_listed.ensures.listed)
 
 pub returns-clause-ready : goal.returns-clause-ready
 returns-clause-ready g c = release_ready _ _ _ _ _ _ _ _ c.release_listed.ensures.moved _ _ _ _ c.requires.ready c.release_listed.ensures.len c.release_listed.ensures.capacity

@@ -1,4 +1,11 @@
-use Rattle.std.proofs.Common.{refl, arith}
+use Rattle.std.proofs.Common.{◌≡◌, ◌+◌, refl, ap, ◌∙◌, arith}
+use Rattle.std.specs.Prelude.{◌-◌}
+use Rattle.ang_host.specs.Logs.{listed_in, log_len}
+use Rattle.ang_host.specs.Boxes.{members}
+use Rattle.ang_heap.specs.Globals.{values_in}
+use Rattle.ang_heap.specs.Heaps.{objects_of}
+use Rattle.ang_heap.specs.Parts.{counts_of, world_by}
+use Rattle.ang_heap.specs.Stores.{bounds_of}
 use Rattle.ang_heap.proofs.Spending.{ran_out_along}
 use Rattle.ang_heap.proofs.store.give_script.Goals as goal
 
@@ -6,7 +13,12 @@ pub give_up-requires-clause-ready : goal.give_up-requires-clause-ready
 give_up-requires-clause-ready g c = record { sound = c.requires.ready.kept.drivers.sound; room = omega (arith, c.requires.ready.room, c.requires.ready.kept.alive) }
 
 pub returns-clause-given : goal.returns-clause-given
-returns-clause-given g c = λ is. c.give_up.ensures.gives _ _ is
+returns-clause-given g c = λ is.
+    let s = c.args.store.now in
+    let level : log_len s.events + s.live ≡ log_len c.give_up.new.events + (s.live - (c.len.result - c.len-before.result)) =
+    omega (arith, c.len.ensures.exact, c.len-before.ensures.exact, c.requires.ready.kept.alive, c.give_up.ensures.level, c.give_up.ensures.fewer) in
+    c.give_up.ensures.gives (values_in s.globals) (log_len s.events + s.live) s.spent (bounds_of s.limits) is
+    ∙ ap (λ n. world_by (objects_of c.give_up.new.self) (counts_of (λ v. (g.dyn-1.0.entry v).1) (members c.give_up.new.drivers)) (values_in s.globals) (listed_in c.give_up.new.events) n s.spent (bounds_of s.limits) is) level
 
 pub returns-clause-moves : goal.returns-clause-moves
 returns-clause-moves g c = λ roles. record {

@@ -1,5 +1,5 @@
-use Rattle.std.proofs.Common.{[], true, false, cond, refl, sym, ap, append-nil, ◌∙◌}
-use Rattle.ang_host.specs.Logs.{listed_in}
+use Rattle.std.proofs.Common.{[], true, false, cond, refl, sym, ap, append-nil, ◌+◌, ◌∙◌}
+use Rattle.ang_host.specs.Logs.{listed_in, log_len}
 use Rattle.ang_host.specs.Boxes.{members}
 use Rattle.ang_host.specs.Members.{states_of}
 use Rattle.ang_meaning.specs.World.{host_raised}
@@ -7,6 +7,7 @@ use Rattle.ang_heap.specs.Globals.{values_in}
 use Rattle.ang_heap.specs.Heaps.{objects_of}
 use Rattle.ang_meaning.proofs.Driving.{in_list_of}
 use Rattle.ang_heap.specs.Parts.{counts_of}
+use Rattle.ang_heap.specs.Stores.{bounds_of}
 use Rattle.ang_heap.proofs.Spending.{ran_out_along, ran_out_at}
 use Rattle.ang_heap.proofs.Storing.{host_hold}
 use Rattle.ang_heap.proofs.store.hold_host.Goals as goal
@@ -14,7 +15,7 @@ use Rattle.ang_heap.proofs.store.hold_host.Goals as goal
 pub returns-then-add-clause-told : goal.returns-then-add-clause-told
 returns-then-add-clause-told g c =
     let s = c.args.store.now in
-    host_hold (values_in s.globals) (listed_in s.events) s.spent c.args.driver c.args.key true (objects_of s.heap) (counts_of (λ v. (g.dyn-1.0.entry v).1) (members s.drivers)) _
+    host_hold (values_in s.globals) (listed_in s.events) (log_len s.events + s.live) s.spent (bounds_of s.limits) c.args.driver c.args.key true (objects_of s.heap) (counts_of (λ v. (g.dyn-1.0.entry v).1) (members s.drivers)) _
     (c.add.ensures.counts ∙ ap (λ b. cond b (host_raised c.args.driver c.args.key (counts_of (λ v. (g.dyn-1.0.entry v).1) (members s.drivers))) (counts_of (λ v. (g.dyn-1.0.entry v).1) (members s.drivers))) c.if-add.true)
 
 pub returns-then-add-clause-moves : goal.returns-then-add-clause-moves
@@ -39,7 +40,7 @@ returns-then-add-clause-moves g c = λ roles. record {
 pub returns-clause-told : goal.returns-clause-told
 returns-clause-told g c =
     let s = c.args.store.now in
-    host_hold (values_in s.globals) (listed_in s.events) s.spent c.args.driver c.args.key false (objects_of s.heap) (counts_of (λ v. (g.dyn-1.0.entry v).1) (members s.drivers)) _
+    host_hold (values_in s.globals) (listed_in s.events) (log_len s.events + s.live) s.spent (bounds_of s.limits) c.args.driver c.args.key false (objects_of s.heap) (counts_of (λ v. (g.dyn-1.0.entry v).1) (members s.drivers)) _
     (c.add.ensures.counts ∙ ap (λ b. cond b (host_raised c.args.driver c.args.key (counts_of (λ v. (g.dyn-1.0.entry v).1) (members s.drivers))) (counts_of (λ v. (g.dyn-1.0.entry v).1) (members s.drivers))) c.if-add.false)
 
 pub returns-clause-moves : goal.returns-clause-moves

@@ -11,7 +11,7 @@ use Rattle.ang_vm_ask.proofs.asking.call.Goals as goal
 pub returns-in_default-clause-told : goal.returns-in_default-clause-told
 returns-in_default-clause-told g c = λ z m sees.
     let host = c.args.host.now in
-    refused z m c.args.caller.now c.args.entity host sees c.args.object (values_of host.driver host.params c.args.args.now) host.result (world_of (λ v. (g.dyn-1.0.entry v).1) c.args.store.now) _ refl
+    refused z m c.args.caller.now c.args.entity host sees c.args.object (values_of host.driver host.params c.args.args.now) host.result (world_of (λ v. (g.dyn-1.0.entry v).1) c.args.store.now) _ _ refl refl
 
 pub call_with-requires-clause-args_live : goal.call_with-requires-clause-args_live
 call_with-requires-clause-args_live g c =

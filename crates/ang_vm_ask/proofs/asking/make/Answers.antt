@@ -1,5 +1,5 @@
-use Rattle.std.proofs.Common.{◌++◌, ◌∷◌, [], None, refl, sym, ap, subst, ◌∙◌, arith}
-use Rattle.ang_host.specs.Logs.{listed_in}
+use Rattle.std.proofs.Common.{◌+◌, ◌++◌, ◌∷◌, [], None, refl, sym, ap, subst, ◌∙◌, arith}
+use Rattle.ang_host.specs.Logs.{listed_in, log_len}
 use Rattle.ang_host.specs.Laws.{AreLive}
 use Rattle.ang_host.specs.declared.answer.HostReply.TheVariants.{Making}
 use Rattle.ang_host.specs.declared.event.HostEvent.TheVariants.{Called}
@@ -14,30 +14,30 @@ use Rattle.ang_heap.specs.Stores.{world_of}
 use Rattle.ang_heap.proofs.Hosting.{made_counts}
 use Rattle.ang_vm_ask.specs.Askings.{StoreAsked, driver_state}
 use Rattle.ang_vm_stack.specs.Arms.{done}
-use Rattle.ang_vm_ask.specs.Replies.{with_result, made_as}
-use Rattle.ang_vm_ask.proofs.Asks.{refused, made_told, by_making, listed_by, made_can}
+use Rattle.ang_vm_ask.specs.Replies.{with_result, made_as, objects_made}
+use Rattle.ang_vm_ask.proofs.Asks.{refused, made_told, making_allowed, by_making, listed_by, made_can}
 use Rattle.ang_vm_ask.proofs.Moved.{refused_asked, made_asked}
 use Rattle.ang_vm_ask.proofs.asking.make.Goals as goal
 
 pub returns-then-store-clause-told : goal.returns-then-store-clause-told
 returns-then-store-clause-told g c = λ z m sees.
     let host = c.args.host.now in
-    refused z m c.args.caller.now c.args.entity host sees None (values_of host.driver host.params c.args.args.now) host.result (world_of (λ v. (g.dyn-1.0.entry v).1) c.args.store.now) _ refl
+    refused z m c.args.caller.now c.args.entity host sees None (values_of host.driver host.params c.args.args.now) host.result (world_of (λ v. (g.dyn-1.0.entry v).1) c.args.store.now) _ _ refl refl
 
 pub returns-in_default-clause-told : goal.returns-in_default-clause-told
 returns-in_default-clause-told g c = λ z m sees.
     let host = c.args.host.now in
-    refused z m c.args.caller.now c.args.entity host sees None (values_of host.driver host.params c.args.args.now) host.result (world_of (λ v. (g.dyn-1.0.entry v).1) c.args.store.now) _ refl
+    refused z m c.args.caller.now c.args.entity host sees None (values_of host.driver host.params c.args.args.now) host.result (world_of (λ v. (g.dyn-1.0.entry v).1) c.args.store.now) _ _ refl refl
 
 pub returns-in_default-room_for_call-clause-told : goal.returns-in_default-room_for_call-clause-told
 returns-in_default-room_for_call-clause-told g c = λ z m sees.
     let host = c.args.host.now in
-    refused z m c.args.caller.now c.args.entity host sees None (values_of host.driver host.params c.args.args.now) host.result (world_of (λ v. (g.dyn-1.0.entry v).1) c.args.store.now) _ c.room_for_call.ensures.events
+    refused z m c.args.caller.now c.args.entity host sees None (values_of host.driver host.params c.args.args.now) host.result (world_of (λ v. (g.dyn-1.0.entry v).1) c.args.store.now) _ _ c.room_for_call.ensures.events (ap (λ n. n + c.args.store.now.live) c.room_for_call.ensures.len)
 
 pub returns-in_default-room_for_ends-clause-told : goal.returns-in_default-room_for_ends-clause-told
 returns-in_default-room_for_ends-clause-told g c = λ z m sees.
     let host = c.args.host.now in
-    refused z m c.args.caller.now c.args.entity host sees None (values_of host.driver host.params c.args.args.now) host.result (world_of (λ v. (g.dyn-1.0.entry v).1) c.args.store.now) _ c.room_for_call.ensures.events
+    refused z m c.args.caller.now c.args.entity host sees None (values_of host.driver host.params c.args.args.now) host.result (world_of (λ v. (g.dyn-1.0.entry v).1) c.args.store.now) _ _ c.room_for_call.ensures.events (ap (λ n. n + c.args.store.now.live) c.room_for_call.ensures.len)
 
 pub make_listed-answer-requires-clause-args_live : goal.make_listed-answer-requires-clause-args_live
 make_listed-answer-requires-clause-args_live g c =
@@ -50,9 +50,12 @@ returns-clause-told g c = λ z m sees.
     told_then
     (made_told z m c.args.caller.now c.args.entity host sees None (values_of host.driver host.params c.args.args.now) host.result made (world_of (λ v. (g.dyn-1.0.entry v).1) c.args.store.now)
     (counts_of (λ v. (g.dyn-1.0.entry v).1) (members c.make_listed-answer.new.drivers)) (listed_in c.make_listed-answer.new.events)
+    (log_len c.make_listed-answer.new.events + (c.args.store.now.live + objects_made made))
+    (making_allowed host.role c.args.number (world_of (λ v. (g.dyn-1.0.entry v).1) c.args.store.now) c.requires.role (omega (arith, c.if-store.false)) (omega (arith, c.room_for_call.ensures.len, c.in-Ok-room_for_call.ensures.within)))
     (by_making host.role c.args.number made c.requires.role)
     (made_counts _ _ _ _ _ _ _ made c.make_listed-answer.ensures.moved)
-    (listed_by _ _ _ _ c.args.entity host.driver None _ _ (Making made) c.make_listed-answer.ensures.listed c.room_for_call.ensures.events (c.as_slice-args.ensures ∙ c.in-Ok.ensures.exact)))
+    (listed_by _ _ _ _ c.args.entity host.driver None _ _ (Making made) c.make_listed-answer.ensures.listed c.room_for_call.ensures.events (c.as_slice-args.ensures ∙ c.in-Ok.ensures.exact))
+    (omega (arith, c.make_listed-answer.ensures.len, c.room_for_call.ensures.len)))
     (told_same (λ is. (λ j. done ((sym c.take_made.ensures.exact) j) (with_inputs is (world_of (λ v. (g.dyn-1.0.entry v).1) ((sym c.take_made.ensures.live) j))))))
 
 pub returns-clause-enough : goal.returns-clause-enough

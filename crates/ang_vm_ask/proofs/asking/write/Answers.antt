@@ -1,5 +1,5 @@
-use Rattle.std.proofs.Common.{◌++◌, ◌∷◌, [], refl, ap, ◌∙◌, arith}
-use Rattle.ang_host.specs.Logs.{listed_in}
+use Rattle.std.proofs.Common.{◌+◌, ◌++◌, ◌∷◌, [], refl, ap, ◌∙◌, arith}
+use Rattle.ang_host.specs.Logs.{listed_in, log_len}
 use Rattle.ang_host.specs.declared.answer.HostReply.TheVariants.{Asking}
 use Rattle.ang_host.specs.declared.event.HostEvent.TheVariants.{Called}
 use Rattle.ang_host.specs.Boxes.{members}
@@ -9,14 +9,14 @@ use Rattle.ang_meaning.proofs.Telling.{told_then}
 use Rattle.ang_heap.specs.Parts.{counts_of}
 use Rattle.ang_heap.specs.Stores.{world_of}
 use Rattle.ang_heap.proofs.Hosting.{answer_counts}
-use Rattle.ang_vm_ask.proofs.Asks.{refused, told_by, by_property, listed_by}
+use Rattle.ang_vm_ask.proofs.Asks.{refused, told_by, property_allowed, by_property, listed_by}
 use Rattle.ang_vm_ask.proofs.Moved.{refused_asked, asked_then, moved_asked, answered_asked}
 use Rattle.ang_vm_ask.proofs.asking.write.Goals as goal
 
 pub returns-in_default-clause-told : goal.returns-in_default-clause-told
 returns-in_default-clause-told g c = λ z m sees.
     let host = c.args.host.now in
-    refused z m c.args.caller.now c.args.entity host sees c.args.object (value_of host.driver host.result c.args.value ∷ []) Nothing (world_of (λ v. (g.dyn-1.0.entry v).1) c.args.store.now) _ c.room_for_call.ensures.events
+    refused z m c.args.caller.now c.args.entity host sees c.args.object (value_of host.driver host.result c.args.value ∷ []) Nothing (world_of (λ v. (g.dyn-1.0.entry v).1) c.args.store.now) _ _ c.room_for_call.ensures.events (ap (λ n. n + c.args.store.now.live) c.room_for_call.ensures.len)
 
 pub returns-clause-told : goal.returns-clause-told
 returns-clause-told g c = λ z m sees.
@@ -25,9 +25,10 @@ returns-clause-told g c = λ z m sees.
     told_then
     (told_by z m c.args.caller.now c.args.entity host sees c.args.object (value_of host.driver host.result c.args.value ∷ []) Nothing reply (world_of (λ v. (g.dyn-1.0.entry v).1) c.args.store.now)
     (counts_of (λ v. (g.dyn-1.0.entry v).1) (members c.write_listed-answer.new.drivers)) (listed_in c.write_listed-answer.new.events)
+    (log_len c.write_listed-answer.new.events + c.args.store.now.live) (property_allowed host.role c.args.number (world_of (λ v. (g.dyn-1.0.entry v).1) c.args.store.now) c.requires.role (omega (arith, c.room_for_call.ensures.len, c.in-Ok.ensures.within)))
     (by_property host.role c.args.number c.write_listed-answer.result c.requires.role)
     (answer_counts _ _ _ _ _ _ _ _ c.write_listed-answer.ensures.moved)
-    (listed_by _ _ _ _ c.args.entity host.driver c.args.object _ _ reply c.write_listed-answer.ensures.listed c.room_for_call.ensures.events (ap (λ x. x ∷ []) c.value_from-value.ensures.exact)))
+    (listed_by _ _ _ _ c.args.entity host.driver c.args.object _ _ reply c.write_listed-answer.ensures.listed c.room_for_call.ensures.events (ap (λ x. x ∷ []) c.value_from-value.ensures.exact)) (omega (arith, c.write_listed-answer.ensures.len, c.room_for_call.ensures.len)))
     c.take_answer.ensures.told
 
 pub returns-clause-asked : goal.returns-clause-asked

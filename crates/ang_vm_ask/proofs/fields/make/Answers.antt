@@ -11,6 +11,7 @@ use Rattle.ang_vm_ask.proofs.fields.make.Goals as goal
 pub returns-in-Ok-clause-told : goal.returns-in-Ok-clause-told
 returns-in-Ok-clause-told g c = λ z home number e.
     made z home number c.args.class.now e (world_of (λ v. (g.dyn-1.0.entry v).1) c.args.store.now) c.in-Ok.number (objects_of c.make.new.self)
+    (omega (arith, c.in-Some.ensures.held, ap length c.as_slice.ensures.same, c.requires.ready.kept.tallied))
     (if_ok c.make.result c.in-Ok.number (λ n. map.get (objects_of c.args.store.now.heap) n ≡ None) c.in-Ok.is c.make.ensures.free)
     (if_ok c.make.result c.in-Ok.number (λ n. objects_of c.make.new.self ≡ map.insert (objects_of c.args.store.now.heap) n (new_object c.args.class.now)) c.in-Ok.is c.make.ensures.made)
 

@@ -1,10 +1,10 @@
-use Rattle.std.proofs.Common.{[], ◌∷◌, sym, ◌∙◌}
-use Rattle.ang_host.specs.Logs.{listed_in}
+use Rattle.std.proofs.Common.{◌+◌, [], ◌∷◌, sym, ◌∙◌}
+use Rattle.ang_host.specs.Logs.{listed_in, log_len}
 use Rattle.ang_host.specs.Boxes.{members}
 use Rattle.ang_heap.specs.Globals.{values_in}
 use Rattle.ang_heap.specs.Heaps.{objects_of}
 use Rattle.ang_heap.specs.Parts.{counts_of}
-use Rattle.ang_heap.specs.Stores.{world_of}
+use Rattle.ang_heap.specs.Stores.{world_of, bounds_of}
 use Rattle.ang_heap.proofs.Storing.{moves_join}
 use Rattle.ang_meaning.specs.World.{with_inputs}
 use Rattle.ang_meaning.proofs.Telling.{told_same}
@@ -21,7 +21,7 @@ pub returns-then-not-may_take-clause-told : goal.returns-then-not-may_take-claus
 returns-then-not-may_take-clause-told g c = λ z home.
     let s = c.args.store.now in
     told_same (λ is. set_refused z home c.in-Some.number c.args.index c.args.object c.args.value (world_of (λ v. (g.dyn-1.0.entry v).1) s) (sym c.number_of.ensures.exact ∙ c.in-Some.is) is
-    (sym (c.may_take.ensures.exact (counts_of (λ v. (g.dyn-1.0.entry v).1) (members s.drivers)) (values_in s.globals) (listed_in s.events) s.spent is) ∙ c.if-not-may_take.true))
+    (sym (c.may_take.ensures.exact (counts_of (λ v. (g.dyn-1.0.entry v).1) (members s.drivers)) (values_in s.globals) (listed_in s.events) (log_len s.events + s.live) s.spent (bounds_of s.limits) is) ∙ c.if-not-may_take.true))
 
 pub hold-requires : goal.hold-requires
 hold-requires g c = record { there = (second_known c.args.object c.args.value (world_of (λ v. (g.dyn-1.0.entry v).1) c.args.store.now) c.requires.counted).1 }
@@ -32,7 +32,7 @@ returns-then-not-hold-clause-told g c = λ z home.
     let w = world_of (λ v. (g.dyn-1.0.entry v).1) s in
     let u = world_of (λ v. (g.dyn-1.0.entry v).1) c.hold.new.store in
     not_stored z home c.in-Some.number c.args.index c.args.object c.args.value w (sym c.number_of.ensures.exact ∙ c.in-Some.is) c.hold.result u c.hold.ensures.told
-    (λ is. sym (c.may_take.ensures.exact (counts_of (λ v. (g.dyn-1.0.entry v).1) (members s.drivers)) (values_in s.globals) (listed_in s.events) s.spent is) ∙ c.if-not-may_take.false) c.if-not-hold.true
+    (λ is. sym (c.may_take.ensures.exact (counts_of (λ v. (g.dyn-1.0.entry v).1) (members s.drivers)) (values_in s.globals) (listed_in s.events) (log_len s.events + s.live) s.spent (bounds_of s.limits) is) ∙ c.if-not-may_take.false) c.if-not-hold.true
 
 pub give-requires-clause-ready : goal.give-requires-clause-ready
 give-requires-clause-ready g c = (moves_heap_within _ [] c.hold.new.store c.set_field-old.new.self c.set_field-old.ensures.counted c.set_field-old.ensures.less).ready ((c.hold.ensures.moves []).ready c.requires.ready)
@@ -48,7 +48,7 @@ give-requires-clause-enough g c =
     let i = c.args.index in
     let v = c.args.value in
     let os = c.args.object ∷ v ∷ [] in
-    let takes = sym (c.may_take.ensures.exact (counts_of (λ v. (g.dyn-1.0.entry v).1) (members s.drivers)) (values_in s.globals) (listed_in s.events) s.spent []) ∙ c.if-not-may_take.false in
+    let takes = sym (c.may_take.ensures.exact (counts_of (λ v. (g.dyn-1.0.entry v).1) (members s.drivers)) (values_in s.globals) (listed_in s.events) (log_len s.events + s.live) s.spent (bounds_of s.limits) []) ∙ c.if-not-may_take.false in
     let held = held_stand v c.hold.result w u c.if-not-hold.false c.hold.ensures.told os ((second_known c.args.object v w c.requires.counted).0) c.requires.counted in
     first_gives c.set_field-old.result os x
     (field_stand n i v c.set_field-old.result os u x (field_is n i v c.set_field-old.result u c.set_field-old.ensures.old) (field_set_is n i v u (objects_of c.set_field-old.new.self) c.set_field-old.ensures.put [])
@@ -69,7 +69,7 @@ give-requires-2-clause-enough g c =
     let i = c.args.index in
     let v = c.args.value in
     let os = c.args.object ∷ v ∷ [] in
-    let takes = sym (c.may_take.ensures.exact (counts_of (λ v. (g.dyn-1.0.entry v).1) (members s.drivers)) (values_in s.globals) (listed_in s.events) s.spent []) ∙ c.if-not-may_take.false in
+    let takes = sym (c.may_take.ensures.exact (counts_of (λ v. (g.dyn-1.0.entry v).1) (members s.drivers)) (values_in s.globals) (listed_in s.events) (log_len s.events + s.live) s.spent (bounds_of s.limits) []) ∙ c.if-not-may_take.false in
     let held = held_stand v c.hold.result w u c.if-not-hold.false c.hold.ensures.told os ((second_known c.args.object v w c.requires.counted).0) c.requires.counted in
     let put = field_stand n i v c.set_field-old.result os u x (field_is n i v c.set_field-old.result u c.set_field-old.ensures.old) (field_set_is n i v u (objects_of c.set_field-old.new.self) c.set_field-old.ensures.put [])
     (held_below v c.hold.result w u c.if-not-hold.false c.hold.ensures.told n os takes c.requires.counted) held in
@@ -85,7 +85,7 @@ returns-clause-told g c = λ z home.
     let y = world_of (λ v. (g.dyn-1.0.entry v).1) c.give.new.store in
     let last = world_of (λ v. (g.dyn-1.0.entry v).1) c.give-2.new.store in
     stored z home c.in-Some.number c.args.index c.args.object c.args.value w (sym c.number_of.ensures.exact ∙ c.in-Some.is) c.hold.result u c.hold.ensures.told
-    (λ is. sym (c.may_take.ensures.exact (counts_of (λ v. (g.dyn-1.0.entry v).1) (members s.drivers)) (values_in s.globals) (listed_in s.events) s.spent is) ∙ c.if-not-may_take.false)
+    (λ is. sym (c.may_take.ensures.exact (counts_of (λ v. (g.dyn-1.0.entry v).1) (members s.drivers)) (values_in s.globals) (listed_in s.events) (log_len s.events + s.live) s.spent (bounds_of s.limits) is) ∙ c.if-not-may_take.false)
     c.set_field-old.result x y last c.if-not-hold.false (field_is c.in-Some.number c.args.index c.args.value c.set_field-old.result u c.set_field-old.ensures.old)
     (field_set_is c.in-Some.number c.args.index c.args.value u (objects_of c.set_field-old.new.self) c.set_field-old.ensures.put) c.give.ensures.given c.give-2.ensures.given
 

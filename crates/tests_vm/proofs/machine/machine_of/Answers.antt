@@ -6,6 +6,8 @@ use Rattle.ang_host.specs.Members.{states_of}
 use Rattle.ang_meaning.specs.Counting.{counts_by}
 use Rattle.ang_meaning.proofs.Roots.{nothing_counted}
 use Rattle.ang_heap.specs.Heaps.{objects_of}
+use Rattle.ang_heap.specs.Parts.{world_by}
+use Rattle.ang_heap.proofs.Giving.{no_bounds}
 use Rattle.tests_vm.proofs.Ready.{ready_fresh, live_fresh, no_counts, empty_globals}
 use Rattle.tests_vm.proofs.machine.machine_of.Goals as goal
 
@@ -25,7 +27,7 @@ returns g c = record {
           room = room;
         };
         counted = nothing_counted
-            (record { objects = objects_of c.new-heap.result; hosts = counts_by ss; globals = list_map (λ b. b.value.items) c.args.modules.items; events = listed_in events; spent = false; inputs = [] })
+            (world_by (objects_of c.new-heap.result) (counts_by ss) (list_map (λ b. b.value.items) c.args.modules.items) (listed_in events) (log_len events) false no_bounds [])
             c.new-heap.ensures.empty (no_counts ss c.requires.fresh) (λ x. empty_globals x c.args.modules.items c.requires.empty);
       };
 }

@@ -3,9 +3,11 @@ use Rattle.std.specs.Prelude.{Ok, Err, IsSome, slice_get, slice_index_or}
 use Rattle.ang_heap.specs.Stores.{world_of}
 use Rattle.ang_vm.specs.Machines.{lent}
 use Rattle.ang_engine_modules.specs.Loaded.{modules_of}
+use Rattle.ang_engine_modules.specs.World.{left_to}
 use Rattle.ang_engine_modules.specs.States.{states_in, program_in}
 use Rattle.ang_engine.specs.Engines.{registrations, world_in}
 use Rattle.ang_engine.specs.Step.{of_function}
+use Rattle.ang_engine.proofs.Between.{left_without, run_begins}
 use Rattle.ang_engine.proofs.Places.{places_built}
 use Rattle.ang_engine.proofs.Entries.{drivers_there}
 use Rattle.ang_engine.proofs.Calls.{call-run, number-one}
@@ -56,9 +58,11 @@ returns-in-Ok-clause-done g c =
     numbered-built w c.args.home c.args.number c.args.args.now c.args.budget (program_in l) (Ok c.run_chosen.result) (listed_in c.run_chosen.new.events) _
     (program_there m.places.items m.code c.args.home (Some l) there c.in-Some.ensures.exact)
     (call-run (program_in l) (modules_of m.code) (of_function c.args.number (slice_get l.names.functions c.args.number) c.args.args.now) c.args.home c.args.budget c.in-Ok.chosen c.in-Ok.ensures.chosen.0
-    c.run_chosen.result (states_in m)
+    c.run_chosen.result w (left_to (states_in m) (world_of (λ v. (g.dyn-1.0.entry v).1) c.run_chosen.new.machine.store))
     (world_of (λ v. (g.dyn-1.0.entry v).1) (lent c.args.self.now.machine c.args.events.now)) (world_of (λ v. (g.dyn-1.0.entry v).1) (lent c.run_chosen.new.machine c.run_chosen.new.events))
-    (places_built (registrations c.args.self.now) m.places.items m.code m.order.items c.requires.sound.modules.each) c.requires.first c.in-Ok.ensures.chosen.1
+    (places_built (registrations c.args.self.now) m.places.items m.code m.order.items c.requires.sound.modules.each) c.requires.first
+    (λ is. run_begins (λ v. (g.dyn-1.0.entry v).1) (states_in m) c.args.self.now.machine.store c.args.events.now is c.requires.first)
+    (left_without (λ v. (g.dyn-1.0.entry v).1) (states_in m) c.run_chosen.new.machine.store c.run_chosen.new.events) c.in-Ok.ensures.chosen.1
     (number-one l.names.functions c.args.number c.args.args.now c.in-Ok.chosen.number c.in-Ok.ensures.chosen.0 c.in-Ok.chosen.args.items c.in-Ok.ensures.chosen.1).at
     (c.run_chosen.ensures.means l.names
     (typed_chosen (registrations c.args.self.now) m.places.items m.code c.args.home l c.args.number c.args.args.now c.in-Ok.chosen c.requires.sound.modules.each

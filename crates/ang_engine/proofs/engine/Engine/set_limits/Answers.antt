@@ -12,8 +12,8 @@ use Rattle.ang_engine.proofs.engine.Engine.set_limits.Goals as goal
 pub returns-clause-set : goal.returns-clause-set
 returns-clause-set g c = ap (λ s. s.limits) c.set_limits.ensures.set
 
-pub returns-clause-same : goal.returns-clause-same
-returns-clause-same g c = ap (λ w. left_to (states_in c.args.self.now.modules) w) c.set_limits.ensures.world
+pub returns-clause-world : goal.returns-clause-world
+returns-clause-world g c = ap (λ w. left_to (states_in c.args.self.now.modules) w) c.set_limits.ensures.world
 
 pub returns-clause-drivers : goal.returns-clause-drivers
 returns-clause-drivers g c = ap (λ s. members s.drivers) c.set_limits.ensures.set

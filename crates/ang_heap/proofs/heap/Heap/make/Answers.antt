@@ -3,8 +3,8 @@ use Rattle.std.proofs.lemmas.List.{length-map}
 use Rattle.ang_meaning.specs.World.{ScriptRecord}
 use Rattle.ang_meaning.specs.Environment.{default_of}
 use Rattle.ang_heap.specs.Heaps.{objects_of, record_of}
-use Rattle.ang_heap.specs.Slots.{slots_of}
-use Rattle.ang_heap.proofs.Slots.{made_slots}
+use Rattle.ang_meaning.specs.Slots.{slots_of}
+use Rattle.ang_meaning.proofs.Slots.{made_slots}
 use Rattle.ang_heap.proofs.heap.Heap.make.Goals as goal
 
 pub returns-clause-counted : goal.returns-clause-counted

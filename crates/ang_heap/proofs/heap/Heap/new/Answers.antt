@@ -1,7 +1,7 @@
 use Rattle.std.proofs.Common.{sym, ap, ◌∙◌}
-use Rattle.ang_heap.specs.Slots.{slots_of}
+use Rattle.ang_meaning.specs.Slots.{slots_of}
 use Rattle.ang_heap.proofs.Heaping.{no_objects}
-use Rattle.ang_heap.proofs.Slots.{empty_slots}
+use Rattle.ang_meaning.proofs.Slots.{empty_slots}
 use Rattle.ang_heap.proofs.heap.Heap.new.Goals as goal
 
 pub returns : goal.returns

@@ -5,7 +5,7 @@ use Rattle.ang_heap.proofs.Numbering.{field_place, number_was}
 use Rattle.ang_meaning.specs.declared.slot.Slot.TheVariants.{Bits}
 use Rattle.std.proofs.Common.{sym, ap, ◌∙◌}
 use Rattle.ang_heap.specs.Heaps.{objects_in}
-use Rattle.ang_heap.proofs.Slots.{number_slots}
+use Rattle.ang_meaning.proofs.Slots.{number_slots}
 use Rattle.ang_heap.proofs.heap.Heap.put_number.Goals as goal
 
 pub returns-clause-there : goal.returns-clause-there

@@ -1,8 +1,8 @@
 use Rattle.std.proofs.Common.{sym, ap, ◌∙◌}
 use Rattle.ang_heap.specs.Heaps.{objects_of}
-use Rattle.ang_heap.specs.Slots.{slots_of}
+use Rattle.ang_meaning.specs.Slots.{slots_of}
 use Rattle.ang_heap.proofs.Heaping.{field_stored}
-use Rattle.ang_heap.proofs.Slots.{field_slots}
+use Rattle.ang_meaning.proofs.Slots.{field_slots}
 use Rattle.ang_heap.proofs.heap.Heap.set_field.Goals as goal
 
 pub returns-clause-put : goal.returns-clause-put

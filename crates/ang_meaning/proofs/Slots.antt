@@ -1,5 +1,5 @@
 -- How the slots of script objects change as objects are made, changed and given up.
-use Rattle.std.specs.Prelude.{ℕ, zero, suc, ◌+◌, ◌≡◌, Bool, true, false, cond, not, T, ◌&&◌, List, [], ◌∷◌, length, Option, Some, None, slice_set}
+use Rattle.std.specs.Prelude.{ℕ, zero, suc, ◌+◌, ◌≡◌, ◌⊎◌, Bool, true, false, cond, not, T, ◌&&◌, List, [], ◌∷◌, length, Option, Some, None, slice_set}
 use Rattle.std.specs.Ordering.{nat_cmp, is_lt, is_eq, eq_by_cmp}
 use Rattle.std.specs.declared.cmp.Ordering.TheVariants.{Less, Equal, Greater}
 use Rattle.std.specs.FinMap.Entries.{by_order, put, where_key, find, below_all, is_sorted, same_entries, is_sorted-where_key, find-where_key}
@@ -8,14 +8,16 @@ use Rattle.std.specs.FinMap as map
 use Rattle.std.specs.FinMap.{entries_sorted, entries-insert, get-entries, get-remove, nat_cmp-IsAntisymmetric}
 use Rattle.std.proofs.lemmas.Cmp.{nat_cmp_total}
 use Rattle.std.proofs.lemmas.List.{length-set}
-use Rattle.std.proofs.Common.{refl, sym, ◌∙◌, ap, subst, arith}
+use Rattle.std.proofs.Common.{refl, sym, ◌∙◌, ap, subst, arith, inl, inr}
+use Rattle.std.proofs.lemmas.Bool.{eq-eqb}
+use Rattle.ang_host.proofs.Steps.{same_test}
 use Rattle.ang_meaning.specs.World.{ScriptRecord, ScriptObjects, Lowered, Gone, Kept, one_less, lowered_at, script_lowered, raised_at, script_raised}
 use Rattle.ang_meaning.specs.declared.slot.Slot.{Slot}
 use Rattle.ang_meaning.specs.Perform.{with_field}
-use Rattle.ang_heap.specs.Slots.{slots_at, slots_listed, slots_of}
+use Rattle.ang_meaning.specs.Slots.{slots_at, slots_listed, slots_of}
 
 -- what is found takes
-abbrev held : Option ScriptRecord → ℕ
+abbrev pub held : Option ScriptRecord → ℕ
 held None = 0
 held (Some o) = slots_at o
 
@@ -168,9 +170,22 @@ none_listed : (es : List (ℕ × ScriptRecord)) → length es ≡ 0 → slots_li
 none_listed [] e = refl
 none_listed (x ∷ es) e = absurd (omega (arith, e))
 
-pub empty_slots : slots_of map.empty ≡ 0
+pub slots_of_none : (os : ScriptObjects) → map.len os ≡ 0 → slots_of os ≡ 0
 unfolding slots_of
-empty_slots = none_listed (map.entries map.empty) (sym (map.len-entries map.empty) ∙ map.len-empty nat_cmp ScriptRecord)
+slots_of_none os e = none_listed (map.entries os) (sym (map.len-entries os) ∙ e)
+
+pub empty_slots : slots_of map.empty ≡ 0
+empty_slots = slots_of_none map.empty (map.len-empty nat_cmp ScriptRecord)
+
+-- a table is empty, or has a first object
+first_listed : (os : ScriptObjects) (es : List (ℕ × ScriptRecord)) → map.entries os ≡ es → (map.len os ≡ 0) ⊎ ((n : ℕ) × (o : ScriptRecord) × (map.get os n ≡ Some o))
+first_listed os [] e = inl (map.len-entries os ∙ ap length e)
+first_listed os (x ∷ es) e =
+    let t : is_eq (nat_cmp x.0 x.0) ≡ true = same_test x.0 x.0 ∙ eq-eqb x.0 x.0 refl in
+    inr (x.0, x.1, get-entries os x.0 ∙ ap (find nat_cmp x.0) e ∙ ap (λ b. cond b (Some x.1) (find nat_cmp x.0 es)) t)
+
+pub first_of_slots : (os : ScriptObjects) → (map.len os ≡ 0) ⊎ ((n : ℕ) × (o : ScriptRecord) × (map.get os n ≡ Some o))
+first_of_slots os = first_listed os (map.entries os) refl
 
 pub number_slots : (b : Bool) (os us : ScriptObjects) (n i : ℕ) (v : Slot) → (b ≡ true → us ≡ with_field n (map.get os n) i v os) → (b ≡ false → us ≡ os) → slots_of us ≡ slots_of os
 number_slots true os us n i v put kept = ap slots_of (put refl) ∙ field_slots n i v os
