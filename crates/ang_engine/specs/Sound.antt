@@ -4,7 +4,10 @@ use Rattle.ang_host.specs.Meanings.{Meanings}
 use Rattle.ang_view.specs.declared.entry.Entry.{Entry}
 use Rattle.ang_view.specs.declared.entry.EntryKind.{EntryKind}
 use Rattle.ang_view.specs.declared.entry.EntryKind.TheVariants.{HostType, Factory, Method, Property, Function, Global, Enumeration, EnumValue}
+use Rattle.ang_view.specs.Only.{IsWithin}
 use Rattle.ang_view.specs.Registration.{RegistrationList, entry_at, seen}
+use Rattle.ang_typed.specs.View.{view_typed}
+use Rattle.ang_engine_build.specs.Narrowed.{narrowed}
 use Rattle.ang_meaning.specs.Counting.{IsCounted}
 use Rattle.ang_heap.specs.Globals.{values_in}
 use Rattle.ang_heap.specs.Stores.{world_of, IsKept}
@@ -17,13 +20,15 @@ use Rattle.ang_engine_modules.specs.States.{build_at}
 use Rattle.ang_engine.specs.declared.engine.Engine.{Engine}
 use Rattle.ang_engine.specs.Engines.{resolved_in, registrations, drivers_in}
 
--- What a module was built to, under its name and its built mask: some sections' program over what
--- the mask sees.
+-- What a module was built to, under its name and its built mask: some sections' program over what it
+-- saw then, of which it keeps what it uses; and all of that stands, and the mask sees it.
 pub record IsBuiltBy (R : RegistrationList) (own : List ℕ) (mask : ℕ) (l : LoadedModule) : Type 0 where
   pub name : l.name ≡ own
-  pub view : l.view ≡ seen R mask
+  pub sight : RegistrationList
   pub sections : List (List ℕ)
-  pub built : build_of l.view sections ≡ Compiled (resolved_in l)
+  pub built : build_of sight sections ≡ Compiled (resolved_in l)
+  pub view : l.view ≡ narrowed sight (view_typed l.tree)
+  pub stands : IsWithin l.view (seen R mask)
 
 abbrev pub IsSoundPlace : RegistrationList → Option Module → Option LoadedModule → Type 0
 IsSoundPlace R = IsPlaceOf (IsBuiltBy R)

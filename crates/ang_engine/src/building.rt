@@ -4,6 +4,7 @@ ghost use Rattle.ang_host.specs.Logs.{listed_in, is_heard};
 ghost use Rattle.ang_host.specs.Boxes.{members};
 ghost use Rattle.ang_view.specs.Registration.{seen};
 ghost use Rattle.ang_source.specs.Sound.{SoundProgram};
+ghost use Rattle.ang_engine_build.specs.Narrowed.{narrowed};
 ghost use Rattle.ang_typed.specs.View.{view_typed};
 ghost use Rattle.ang_meaning.specs.Counting.{IsCounted};
 ghost use Rattle.ang_heap.specs.Globals.{values_in};
@@ -29,7 +30,7 @@ ghost use Rattle.ang_engine_modules.specs.World.{module_at, module_in, left_to};
 
 use crate::budget::may_run;
 use crate::ending::end_globals;
-use ang_engine_build::{NoProgram, Program, build_sections};
+use ang_engine_build::{NoProgram, Program, build_sections, narrow};
 use ang_engine_modules::{
     KeptTree, LoadedModule, Module, ModuleList, Modules, Refusal, WholeModule, find, put_globals,
 };
@@ -151,7 +152,7 @@ fn with_view(
     }
 }
 
-/// What the sections build to over what the mask sees.
+/// What the sections build to over what the mask sees. The module keeps of that what its program uses.
 pub fn compile(
     alloc: Global,
     registry: &Registry,
@@ -164,7 +165,8 @@ pub fn compile(
         (build_of (seen registry.now.entries mask.0) sections.now) }
     ensures denials { HasDenials result (denials_in registry.now.entries mask.0 sections.now) }
     ensures name { IfOk result (λ l. l.name ≡ name.now) }
-    ensures view { IfOk result (λ l. l.view ≡ seen registry.now.entries mask.0) }
+    ensures view { IfOk result
+        (λ l. l.view ≡ narrowed (seen registry.now.entries mask.0) (view_typed l.tree)) }
     ensures unbound { IfOk result (λ l. l.links ≡ list_map (λ h. None) l.tree.imports) }
     ensures sound { IfOk result (λ l. SoundProgram l.view (view_typed l.tree)) }
 {
@@ -178,7 +180,13 @@ pub fn compile(
             return Err(why);
         }
     };
-    match with_view(alloc, name, view, program) {
+    let Ok(kept) = narrow(alloc, &view, &program.tree) else {
+        drop(program);
+        drop(view);
+        return Err(NoProgram::Memory);
+    };
+    drop(view);
+    match with_view(alloc, name, kept, program) {
         Ok(loaded) => Ok(loaded),
         Err(_) => Err(NoProgram::Memory),
     }
@@ -198,6 +206,8 @@ fn compile_waiting(
         (denials_in registry.now.entries from.old.mask.0 from.old.sections.items) }
     ensures built { IfOk result
         (λ l. IsBuiltBy registry.now.entries from.new.name from.new.built_mask.0 l) }
+    ensures shown { IfOk result
+        (λ l. l.view ≡ narrowed (seen registry.now.entries from.old.mask.0) (view_typed l.tree)) }
     ensures unbound { IfOk result (λ l. l.links ≡ list_map (λ h. None) l.tree.imports) }
     ensures sound { IfOk result (λ l. SoundProgram l.view (view_typed l.tree)) }
     ensures emptied { (l : Option LoadedModule)
@@ -310,6 +320,9 @@ fn compile_place(
         (module_in (place_of place.old l)).sections) }
     ensures built { IfOk result
         (λ loaded. IsSoundPlace registry.now.entries place.new (Some loaded)) }
+    ensures shown { IfOk result (λ loaded. (k : Option LoadedModule) → loaded.view
+        ≡ narrowed (seen registry.now.entries (module_in (place_of place.old k)).mask)
+        (view_typed loaded.tree)) }
     ensures unbound { IfOk result (λ l. l.links ≡ list_map (λ h. None) l.tree.imports) }
     ensures sound { IfOk result (λ l. SoundProgram l.view (view_typed l.tree)) }
     ensures emptied { (l : Option LoadedModule)

@@ -166,7 +166,7 @@ impl Engine {
         ensures trace { trace_in self.new ≡ trace_in self.old }
         ensures ticks { ticks_in self.new ≡ ticks_in self.old }
         ensures sound { IsSound ⟦<dyn Driver as Driver>⟧ self.new }
-        ensures registrations { registrations self.new ≡ registrations self.old }
+        ensures registry { self.new.registry ≡ self.old.registry }
     {
         let alloc = self.alloc;
         let done = check_named(alloc, &self.registry, &mut self.modules, name);

@@ -1,3 +1,4 @@
 pub mod SoFar
 pub mod Scripts
 pub mod Programs
+pub mod Narrowing

@@ -3,6 +3,8 @@ ghost use Rattle.std.specs.Prelude.{◌≡◌, ℕ, ◌≤◌, ◌<◌, true, Li
 ghost use Rattle.ang_view.specs.Registration.{RegistrationList};
 ghost use Rattle.ang_view.specs.Values.{TakesValues};
 ghost use Rattle.ang_source.specs.Sound.{SoundProgram};
+ghost use Rattle.ang_typed.specs.Typed as t;
+ghost use Rattle.ang_engine_build.specs.Narrowed.{narrowed};
 ghost use Rattle.ang_names_known.specs.declared.names.Family.{Family};
 ghost use Rattle.ang_names_known.specs.Spaces.{AreFamilies};
 ghost use Rattle.ang_names_listed.specs.Sources.{Source};
@@ -51,4 +53,10 @@ pub fn programs_have_falling_ranks()
         → slice_get r.names.families j ≡ Some g
         → can_hold V ss i j ≡ true
         → g.rank < f.rank }
+{}
+
+/// A tree that is sound over a view is sound over what it uses of the view.
+pub fn narrowed_is_sound()
+    ensures sound { (V : RegistrationList) (p : t.Program) → SoundProgram V p
+        → SoundProgram (narrowed V p) p }
 {}

@@ -12,6 +12,7 @@ mod ended;
 mod entities;
 mod failed;
 mod globals;
+mod keeping;
 mod kept;
 mod last;
 mod links;

@@ -31,8 +31,8 @@ pub enum Outcome {
 }
 
 /// Why a command was refused. docs/HOST.md, "Commands", has the order in which each command
-/// looks for the causes. `Memory` may come in the place of any other, but never from `SetMask` and
-/// `Unbind`.
+/// looks for the causes. `Memory` may come in the place of any other, but never from `SetMask`,
+/// `Unbind` and `RemoveGroup`.
 #[derive(Clone, Copy)]
 pub enum Refusal {
     /// The name of a new module is no identifier.
@@ -67,6 +67,10 @@ pub enum Refusal {
     /// Another number of values than there are parameters, or one that is not of its parameter's
     /// type and range. Nothing is converted.
     BadArguments,
+    /// The registration list has no group of that name.
+    NoGroup,
+    /// The group is in use: an entry outside it names a type or an enumeration of it, or a built module uses an entry of it.
+    InUse,
     /// A growth of memory was refused before anything was changed.
     Memory,
 }

@@ -3,12 +3,13 @@
 
 mod declaration;
 mod error;
+mod groups;
 mod lookup;
 mod overload;
 mod refusal;
 mod registry;
 mod settle;
 
-pub use ang_view::{Entry, EntryKind, View};
-pub use error::RegError;
+pub use ang_view::{Entry, EntryKind, Group, View};
+pub use error::{GroupError, RegError};
 pub use registry::Registry;

@@ -85,6 +85,7 @@ told_more b section future (line.Build name) a e = e
 told_more b section future (line.Bind name index exporter decl) a e = e
 told_more b section future (line.Unbind name index) a e = e
 told_more b section future (line.Discard name) a e = e
+told_more b section future (line.Remove name) a e = e
 told_more b section future (line.Call name args decl) a e = e
 told_more b section future (line.Budget ticks) a e = e
 
@@ -102,6 +103,7 @@ act_lines b section (line.Build name) a e = ap (λ x. x.lines) (some_inj _ a e)
 act_lines b section (line.Bind name index exporter decl) a e = ap (λ x. x.lines) (some_inj _ a e)
 act_lines b section (line.Unbind name index) a e = ap (λ x. x.lines) (some_inj _ a e)
 act_lines b section (line.Discard name) a e = ap (λ x. x.lines) (some_inj _ a e)
+act_lines b section (line.Remove name) a e = ap (λ x. x.lines) (some_inj _ a e)
 act_lines b section (line.Call name args decl) a e = ap (λ x. x.lines) (some_inj _ a e)
 act_lines b section (line.Budget ticks) a e = ap (λ x. x.lines) (some_inj _ a e)
 
@@ -131,6 +133,7 @@ told_none (Some (line.Build name)) e = refl
 told_none (Some (line.Bind name index exporter decl)) e = refl
 told_none (Some (line.Unbind name index)) e = refl
 told_none (Some (line.Discard name)) e = refl
+told_none (Some (line.Remove name)) e = refl
 told_none (Some (line.Call name args decl)) e = refl
 told_none (Some (line.Budget ticks)) e = refl
 
@@ -144,6 +147,7 @@ no_line b section (Some (line.Build name)) e f = absurd (none_some _ (sym f))
 no_line b section (Some (line.Bind name index exporter decl)) e f = absurd (none_some _ (sym f))
 no_line b section (Some (line.Unbind name index)) e f = absurd (none_some _ (sym f))
 no_line b section (Some (line.Discard name)) e f = absurd (none_some _ (sym f))
+no_line b section (Some (line.Remove name)) e f = absurd (none_some _ (sym f))
 no_line b section (Some (line.Call name args decl)) e f = absurd (none_some _ (sym f))
 no_line b section (Some (line.Budget ticks)) e f = absurd (none_some _ (sym f))
 

@@ -23,6 +23,7 @@ may_head (Some (line.Build name)) = false
 may_head (Some (line.Bind name index exporter decl)) = false
 may_head (Some (line.Unbind name index)) = false
 may_head (Some (line.Discard name)) = false
+may_head (Some (line.Remove name)) = false
 may_head (Some (line.Call name args decl)) = false
 may_head (Some (line.Budget ticks)) = false
 
