@@ -1,8 +1,11 @@
 //! Where the last command faulted, and the ticks that it used.
-ghost use Rattle.std.specs.Prelude.{◌≡◌, ◌≤◌, Some, IsNone, IfSome, option_map, length, slice_get};
+ghost use Rattle.std.specs.Prelude.{◌≡◌, ◌≤◌, ℕ, List, Some, IsNone, IfSome, option_map, length, slice_get};
 ghost use Rattle.ang_code.specs.declared.instruction.Frame.{Frame};
 ghost use Rattle.ang_engine_modules.specs.declared.modules.LoadedModule.{LoadedModule};
 ghost use Rattle.ang_engine_modules.specs.Traced.{frame_of, frame_in};
+ghost use Rattle.ang_engine_build.specs.Build.{Compiled, build_of};
+ghost use Rattle.ang_engine_build.specs.Placed.{IsTokenPlace};
+ghost use Rattle.ang_engine.specs.Engines.{resolved_in};
 ghost use Rattle.ang_engine.specs.Trace.{budget_of};
 
 use crate::engine::Engine;
@@ -52,6 +55,12 @@ impl Engine {
             → slice_get (trace_in self.now) depth ≡ Some frame
             → loaded_in self.now frame.of.home ≡ Some l
             → option_map frame_of result ≡ frame_in l frame.of.number }
+        ensures placed { (frame : Frame) (l : LoadedModule) (sections : List (List ℕ))
+            → slice_get (trace_in self.now) depth ≡ Some frame
+            → loaded_in self.now frame.of.home ≡ Some l
+            → build_of l.view sections ≡ Compiled (resolved_in l)
+            → IfSome result (λ f. IsTokenPlace sections f.declared
+            × IfSome f.place (IsTokenPlace sections)) }
         ensures section { IfSome result (λ f. IfSome f.place (λ p. p.sect ≡ f.declared.sect)) }
     {
         trace_at(&self.modules.code, &self.machine.last, depth)

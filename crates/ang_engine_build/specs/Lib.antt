@@ -3,3 +3,4 @@ pub mod Reading
 pub mod Build
 pub mod Answer
 pub mod Named
+pub mod Placed

@@ -1,12 +1,14 @@
 -- What the bodies of a module are declared as, by number: those of functions, then those of methods and
 -- constructors, then the initializers of globals (docs/CLAIMS.md, "A run of a built module").
-use Rattle.std.specs.Prelude.{ℕ, ◌==◌, ◌+◌, ◌-◌, nat_le, nat_lt, if◌then◌else◌, Bool, true, false, List, [], length, Option, Some, None, is_some, option_map, position, reverse, slice_get}
+use Rattle.std.specs.Prelude.{ℕ, ◌==◌, ◌+◌, ◌-◌, nat_le, nat_lt, if◌then◌else◌, Bool, true, false, List, [], length, Option, Some, None, is_some, option_map, position, reverse, slice_get, slice_index_or, Contains, ◌≡◌}
 use Rattle.std.specs.List.{prefix_len}
 use Rattle.std.specs.Option.{option_or, option_and_then}
 use Rattle.ang_kinds.specs.declared.place.Place.{Place}
 use Rattle.ang_kinds.specs.declared.position.Position.{Position}
 use Rattle.ang_code.specs.declared.instruction.Mark.{Mark}
 use Rattle.ang_code.specs.declared.instruction.RoutineCode.{RoutineCode}
+use Rattle.ang_typed.specs.View.{view_typed}
+use Rattle.ang_lower.specs.Positions.{of_module}
 use Rattle.ang_names_known.specs.declared.names.Family.{Family}
 use Rattle.ang_names_known.specs.declared.names.ScriptConstructor.{ScriptConstructor}
 use Rattle.ang_names_known.specs.declared.names.ScriptFunction.{ScriptFunction}
@@ -18,6 +20,7 @@ use Rattle.ang_vm_stack.specs.declared.table.ModuleCode.{ModuleCode}
 use Rattle.ang_engine_modules.specs.declared.failed.FailedModule.{FailedModule}
 use Rattle.ang_engine_modules.specs.declared.modules.LoadedModule.{LoadedModule}
 use Rattle.ang_engine_modules.specs.declared.traced.TraceFrame.{TraceFrame}
+use Rattle.ang_engine_modules.specs.Numbers.{initialized_from}
 
 -- a body: the name of its module; the class of a method or a constructor, else nothing; the name of the function, or
 -- of the global whose initializer it is; and the place of that name
@@ -94,23 +97,34 @@ member_frame own n fs =
 
 -- ---- any body
 
--- that of a global, of whose initializers the first has this number
-abbrev pub initializer_frame : List ℕ → ℕ → ℕ → List ScriptGlobal → Option Frame
-initializer_frame own first n gs =
-    if nat_le first n then option_map (global_frame own) (slice_get gs (n - first)) else None
+-- that of a global, of whose initializers the first has this number: those without one have no body
+abbrev pub initializer_frame : List ℕ → ℕ → List ℕ → ℕ → List ScriptGlobal → Option Frame
+initializer_frame own first numbers n gs =
+    if nat_le first n then option_and_then (λ i. option_map (global_frame own) (slice_get gs i)) (slice_get numbers (n - first))
+    else None
 
 -- the body of number n of a module
 abbrev pub frame_in : LoadedModule → ℕ → Option Frame
 frame_in l n =
     option_or (option_map (function_frame l.name []) (slice_get l.names.functions n))
     (option_or (member_frame l.name n l.names.families)
-    (initializer_frame l.name (length l.tree.functions) n l.names.globals))
+    (initializer_frame l.name (length l.tree.functions) (initialized_from 0 l.tree.globals) n l.names.globals))
 
 -- ---- where a body stands
 
 -- a place within a section, whose lines and columns count from 0
 abbrev pub place_in : ℕ → Position → Place
 place_in section p = record { sect = section; line = p.line + 1; column = p.column + 1 }
+
+-- the places of the statements of body n of a module; an initializer has none
+abbrev pub places_of : LoadedModule → ℕ → List Position
+places_of l n = slice_index_or (of_module (view_typed l.tree)) n []
+
+-- in a section, one of those places
+pub record StandsIn (l : LoadedModule) (n section : ℕ) (p : Place) : Type 0 where
+  pub at : Position
+  pub among : Contains (places_of l n) at
+  pub is : p ≡ place_in section at
 
 -- the marks of a body, if there is one
 abbrev pub marks_in : Option RoutineCode → List Mark

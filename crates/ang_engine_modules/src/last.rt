@@ -3,7 +3,7 @@ ghost use Rattle.std.specs.Prelude.{◌≡◌, ◌≤◌, [], false, Some, IsNon
 ghost use Rattle.ang_code.specs.declared.instruction.Frame.{Frame};
 ghost use Rattle.ang_engine_modules.specs.declared.modules.LoadedModule.{LoadedModule};
 ghost use Rattle.ang_engine_modules.specs.Loaded.{loaded_at};
-ghost use Rattle.ang_engine_modules.specs.Traced.{frame_of, frame_in, frames_of};
+ghost use Rattle.ang_engine_modules.specs.Traced.{frame_of, frame_in, frames_of, StandsIn};
 ghost use Rattle.ang_engine_modules.specs.Ended.{is_fault, may_have_run};
 
 use crate::ended::{is_fault, may_have_run};
@@ -62,6 +62,10 @@ pub fn trace_at<'a>(code: &'a Modules, last: &LastRun, depth: usize) -> Option<T
         → slice_get (frames_of last.now) depth ≡ Some frame
         → loaded_at code.now frame.of.home ≡ Some l
         → option_map frame_of result ≡ frame_in l frame.of.number }
+    ensures stands { (frame : Frame) (l : LoadedModule)
+        → slice_get (frames_of last.now) depth ≡ Some frame
+        → loaded_at code.now frame.of.home ≡ Some l
+        → IfSome result (λ f. IfSome f.place (StandsIn l frame.of.number f.declared.sect)) }
     ensures section { IfSome result (λ f. IfSome f.place (λ p. p.sect ≡ f.declared.sect)) }
 {
     let frame = frame_at(last, depth)?;

@@ -15,7 +15,7 @@ ghost use Rattle.ang_engine_modules.specs.Executed.{first_globals, call_of, init
 ghost use Rattle.ang_engine_modules.specs.Ends.{Ends, Answers, completed};
 ghost use Rattle.ang_engine_modules.specs.declared.modules.LoadedModule.{LoadedModule};
 ghost use Rattle.ang_engine_modules.specs.Loaded.{loaded_at, modules_of, linked_in, unbound_in};
-ghost use Rattle.ang_engine_modules.specs.Traced.{frame_of, frame_in};
+ghost use Rattle.ang_engine_modules.specs.Traced.{frame_of, frame_in, StandsIn};
 ghost use Rattle.ang_engine_modules.specs.Modules.{module_at, result_at, LinkFits, TakesSoMany, AreDriversThere, AgreesWith, IsAskedIn};
 
 use crate::failed::{FailedModule, failed_frame, failed_module, marks_at, put_failed};
@@ -275,6 +275,8 @@ impl Modules {
     pub fn trace_frame(&self, body: Routine, at: usize) -> Option<TraceFrame<'_>>
         ensures named { (l : LoadedModule) → loaded_at self.now body.home ≡ Some l
             → option_map frame_of result ≡ frame_in l body.number }
+        ensures stands { (l : LoadedModule) → loaded_at self.now body.home ≡ Some l
+            → IfSome result (λ f. IfSome f.place (StandsIn l body.number f.declared.sect)) }
         ensures section { IfSome result (λ f. IfSome f.place (λ p. p.sect ≡ f.declared.sect)) }
     {
         match self.loaded(body.home) {

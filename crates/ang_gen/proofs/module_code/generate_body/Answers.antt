@@ -19,5 +19,6 @@ returns c =
         text = c.in_ok-text.ensures.exact ∙ ap (λ n. body_code n b.statement) count;
         height = is_height b top (top - c.len-count.result) peak (ap (λ n. top - n) count);
         counted = omega (arith, peak, count, c.in_ok-peak.ensures.counted);
+        marks = c.in_ok-text.ensures.among;
       };
     }
