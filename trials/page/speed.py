@@ -22,9 +22,11 @@ OPENED = "document.querySelector('#share-note').innerText.includes('64 commands'
 LOOKS = """[...document.querySelectorAll('#table tbody tr')].map(row =>
     [Number(row.querySelector('.number').textContent), row.querySelectorAll('td.cell')[40].className])"""
 IN_VIEW = """(() => { const box = document.querySelector('#table-scrolls').getBoundingClientRect();
-    const rows = [...document.querySelectorAll('#table tbody tr')].map(it => it.getBoundingClientRect());
     const head = document.querySelector('#table thead').getBoundingClientRect();
-    return rows.length > 0 && Math.min(...rows.map(it => it.top)) <= head.bottom + 1 && Math.max(...rows.map(it => it.bottom)) >= box.bottom - 2; })()"""
+    const rows = [...document.querySelectorAll('#table tbody tr')].map(it => it.getBoundingClientRect())
+        .filter(it => it.bottom > head.bottom && it.top < box.bottom).sort((one, other) => one.top - other.top);
+    return rows.length > 0 && rows[0].top <= head.bottom + 1 && rows.at(-1).bottom >= box.bottom - 2
+        && rows.every((it, at) => at === 0 || it.top <= rows[at - 1].bottom + 2); })()"""
 SETTLED = "new Promise(done => requestAnimationFrame(() => requestAnimationFrame(() => setTimeout(done, 300))))"
 PLACED = """[...document.querySelectorAll('#table tbody tr')].every(it =>
     Number(it.ariaRowIndex) === Number(it.querySelector('.number').textContent) + 2)"""
