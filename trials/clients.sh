@@ -5,7 +5,7 @@
 #
 # ASREMOTE and ASRUN are the programs: those that `rt ci`, or `rt run` in their crates, leave at crates/asremote/out/asremote
 # and crates/asrun/out/asrun, if none are named. FOLDER is what `make -C clients/c` makes: clients/c/out/proved, if it is there
-# and no other one is named. With it the hosts of the parts game, posts, limits, traces and mended run in both ways. The
+# and no other one is named. With it the hosts of the parts game, posts, limits, groups, traces and mended run in both ways. The
 # parts, all of them if none is named:
 #
 #     versions   all clients, the library's header, both programs and docs/CHANGES.md name one version
@@ -16,6 +16,7 @@
 #     lines      some 200 lines, most of wrong forms: what asremote says to each, and that nothing behind the head of a section runs
 #     kills      100 engines of each client are killed at random moments: the host goes on, and the next engine works
 #     limits     a host of each client sets limits, and prints trials/clients/limits.expected
+#     groups     a host of each client takes entries away, and prints trials/clients/groups.expected
 #     traces     a host of each client prints trials/clients/traces.expected: where faults came, and the lines there
 #     bounds     300 random scripts under random limits: what asremote asks, lists, takes and holds is what a model of limits says
 #     mended     a host of each client does what once went wrong, and prints trials/clients/mended.expected: texts that are
@@ -40,12 +41,12 @@ programs "$asremote" "$asrun"
 built() {
     [ ! -d "$folder/release" ] || return 0
     (cd clients/rust && CARGO_TARGET_DIR="$folder" cargo build -q --offline --release --lib --examples)
-    for name in kills limits mended posts traces; do
+    for name in groups kills limits mended posts traces; do
         rustc --edition 2021 -O -L "$folder/release/deps" --extern bustlebrick="$folder/release/libbustlebrick.rlib" \
             "trials/clients/$name.rs" -o "$folder/release/examples/$name"
     done
-    for source in clients/cpp/game.cpp trials/clients/kills.cpp trials/clients/limits.cpp trials/clients/mended.cpp \
-        trials/clients/posts.cpp trials/clients/traces.cpp; do
+    for source in clients/cpp/game.cpp trials/clients/groups.cpp trials/clients/kills.cpp trials/clients/limits.cpp \
+        trials/clients/mended.cpp trials/clients/posts.cpp trials/clients/traces.cpp; do
         "${CXX:-c++}" -std=c++17 -O1 -Wall -Wextra -Iclients/cpp "$source" -o "$folder/$(basename "$source" .cpp)" -ldl
     done
 }
@@ -82,6 +83,10 @@ limits() {
 
 mended() {
     hosts "the host of what was mended" trials/clients/mended trials/clients/mended.expected
+}
+
+groups() {
+    hosts "the host that takes entries away" trials/clients/groups trials/clients/groups.expected
 }
 
 traces() {
@@ -135,4 +140,4 @@ versions() {
     fi
 }
 
-try_parts "versions game sessions posts lines kills limits traces bounds mended strangers" "$@"
+try_parts "versions game sessions posts lines kills limits groups traces bounds mended strangers" "$@"

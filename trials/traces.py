@@ -645,6 +645,8 @@ class Session:
         frame = self.push(f"global {name}")
         body = Body(self, chunk, frame, link, True)
         body.has_x = False
+        for _ in range(self.rng.randint(0, 2)):  # these have no initializer, so no body
+            chunk.put("int", self.name("g"), ";")
         form = self.rng.randint(0, 3)
         chunk.put(*[["int"], ["const", "int", self.name("g"), "=", "1", ","], ["Held"], ["Held", "@"]][form])
         frame.declared = chunk.here()

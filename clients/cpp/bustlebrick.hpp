@@ -904,6 +904,24 @@ class Profile {
         add("property " + type, declaration, detail::asked(get), detail::asked(set));
     }
 
+    // While it is there, what is registered belongs to a group.
+    class Group {
+      public:
+        Group(const Group&) = delete;
+        ~Group() { profile_.ends_[profile_.entries_.size()].push_back("endgroup"); }
+
+      private:
+        friend class Profile;
+        Group(Profile& profile, const std::string& name) : profile_(profile) {
+            profile.ends_[profile.entries_.size()].push_back("group " + name.substr(0, name.find_first_of("\r\n")));
+        }
+
+        Profile& profile_;
+    };
+
+    // What is registered while the guard is there belongs to the group, and Engine::remove_group takes it away together.
+    [[nodiscard]] Group group(const std::string& name) { return Group(*this, name); }
+
   private:
     friend class Engine;
 
@@ -917,15 +935,32 @@ class Profile {
         entries_.push_back({mask, line, declaration, std::move(asked), std::move(written)});
     }
 
-    // What the engine reads: two lines for each entry.
-    std::string text() const {
+    // What the engine reads: two lines for each entry. Of the groups that were removed blanks are left.
+    std::string text(const std::set<std::string>& removed) const {
         std::string text;
-        for (auto& entry : entries_) text += "mask " + detail::mask(entry.mask) + "\n" + entry.line + "\n";
+        bool is_removed = false;
+        for (std::size_t number = 0; number <= entries_.size(); number++) {
+            for (auto& line : ends(number)) {
+                bool was_removed = is_removed;
+                is_removed = line != "endgroup" && removed.count(line.substr(6));
+                if (!is_removed && !was_removed) text += line + "\n";
+            }
+            if (number == entries_.size()) break;
+            auto& entry = entries_[number];
+            text += is_removed ? "blank\n" : "mask " + detail::mask(entry.mask) + "\n" + entry.line + "\n";
+        }
         return text;
+    }
+
+    // The lines that begin and end groups before an entry.
+    std::vector<std::string> ends(std::size_t number) const {
+        auto found = ends_.find(number);
+        return found == ends_.end() ? std::vector<std::string>() : found->second;
     }
 
     std::vector<std::string> types_;
     std::vector<detail::Entry> entries_;
+    std::map<std::size_t, std::vector<std::string>> ends_;
 };
 
 // An engine with a profile. It ends where this is destroyed.
@@ -993,6 +1028,10 @@ class Engine {
         return frames;
     }
 
+    // Takes the entries of a group of the profile away: later builds don't see them. It is refused as InUse while a built
+    // module, or an entry outside the group, uses one of them, and as NoGroup where there is none.
+    void remove_group(const std::string& name) { done("remove " + name); }
+
     // The lines that answer a question of one line, as `used`, without `ok`. It is no command: the last one stays that
     // before it.
     std::vector<std::string> told(const std::string& question) {
@@ -1010,12 +1049,12 @@ class Engine {
     Module module(const std::string& name, std::uint32_t mask);
 
     // Ends the engine, if there is one, and starts another one with the same profile, budget and limits. The modules are
-    // gone: they have to be made, built and bound anew. All objects are given up.
+    // gone: they have to be made, built and bound anew. All objects are given up. Groups that were removed stay so.
     void restart() {
         check_turn();
         end();
         events_.clear();
-        auto text = profile_.text();
+        auto text = profile_.text(removed_);
         for (auto& line : detail::lines(limits_)) text += line + "\n";
         std::string said;
         auto hear = [&](const std::string& line) { said = line; };
@@ -1123,6 +1162,7 @@ class Engine {
         }
         is_busy_ = false;
         sources_.follow(text, last);
+        if (last == "ok" && text.rfind("remove ", 0) == 0) removed_.insert(text.substr(7, text.find_first_of("\r\n") - 7));
     }
 
     // Throws how an engine ended, and what it said last: at its start, why its profile is refused.
@@ -1158,6 +1198,7 @@ class Engine {
     detail::Objects objects_;
     detail::Sources sources_;
     std::optional<std::uint32_t> ticks_;
+    std::set<std::string> removed_;  // names of groups
     std::exception_ptr cause_;
 };
 

@@ -23,18 +23,18 @@ import struct
 import subprocess
 import tempfile
 import time
-from contextlib import AbstractContextManager
+from contextlib import AbstractContextManager, contextmanager
 from functools import lru_cache
 from itertools import repeat
 from operator import attrgetter, index
-from typing import Any, Callable, Dict, Iterable, Iterator, List, NamedTuple, Optional, Sequence, Tuple, Union
+from typing import Any, Callable, Dict, Iterable, Iterator, List, NamedTuple, Optional, Sequence, Set, Tuple, Union
 
 __version__ = "0.1.0"
 
 Asked = Callable[..., Any]
-LINE, FIELD, MASK, NUMBER = "[^\n]+", "[^ \n]+", "[0-9a-f]{8}", "[0-9]{1,10}"
+LINE, FIELD, GROUP, MASK, NUMBER = "[^\n]+", "[^ \n]+", "[^ \r\n]+", "[0-9a-f]{8}", "[0-9]{1,10}"
 HEAD = re.compile("section [^ ]+ ([0-9]{1,10})")
-OF_SECTIONS = re.compile("(section|build|check|discard) ([^ \r\n]+)")
+NOTED = re.compile("(section|build|check|discard|remove) ([^ \r\n]+)")
 LIKE_HEAD = re.compile("[^a-z]*section", re.ASCII | re.IGNORECASE)  # what follows such a line could be a script's text
 MOST_COMMAND = 16_777_216  # bytes
 MOST_WAIT = 2**31 - 1  # milliseconds, of one `poll`
@@ -474,6 +474,7 @@ class Profile:
         self.mask = 1
         self.entries: List[Entry] = []
         self.drivers = 1
+        self._ends: Dict[int, List[str]] = {}  # the lines that begin and end groups, by the number of the next entry
 
     def type(self, name: str) -> Type:
         """A type of host objects, which are any Python objects."""
@@ -510,6 +511,54 @@ class Profile:
         """A line of the profile, in which the entry's number is the driver's own too."""
         line = f"{words} {len(self.entries)} {_checked(declaration)}"
         self.entries.append(Entry(self.mask, line, declaration, _types(declaration)[0], asked))
+
+    @contextmanager
+    def group(self, name: str) -> Iterator[Profile]:
+        """What is registered within belongs to the group, and `Engine.remove_group` takes it away together. An exception ends
+        the group too::
+
+            with profile.group("weather"):
+                profile.function("int wind()", wind)
+        """
+        self.begin_group(name)
+        try:
+            yield self
+        finally:
+            self.end_group()
+
+    def begin_group(self, name: str) -> None:
+        """Begins a group, where `with` does not serve: what is registered up to `end_group` belongs to it."""
+        self._ends.setdefault(len(self.entries), []).append(f"group {_checked(name, GROUP)}")
+
+    def end_group(self) -> None:
+        """Ends the group."""
+        self._ends.setdefault(len(self.entries), []).append("endgroup")
+
+    def groups(self) -> Dict[str, range]:
+        """The numbers of the entries of each group that was ended."""
+        groups, name, first = {}, "", 0
+        for number, lines in self._ends.items():
+            for line in lines:
+                if line == "endgroup":
+                    groups[name] = range(first, number)
+                name, first = line.partition(" ")[2], number
+        return groups
+
+    def lines(self, removed: Set[str]) -> Iterator[Tuple[str, str]]:
+        """The lines of the profile, each with what it declares. Of the groups that were removed blanks are left."""
+        is_removed = False
+        for number in range(len(self.entries) + 1):
+            for line in self._ends.get(number, ()):
+                was_removed, name = is_removed, line.partition(" ")[2]
+                is_removed = name in removed
+                if not (is_removed or was_removed):
+                    yield line, name
+            entry = self.entries[number] if number < len(self.entries) else None
+            if entry and is_removed:
+                yield "blank", entry.declaration
+            elif entry:
+                yield f"mask {entry.mask:08x}", entry.declaration
+                yield entry.line, entry.declaration
 
 
 class Type(NamedTuple):
@@ -588,6 +637,7 @@ class Engine(AbstractContextManager["Engine"]):
         self.profile, self.program, self.timeout, self.memory = profile, program, timeout, memory
         self.ticks: Optional[int] = None
         self._limits = _fit(Limits(events, slots, objects), 0)
+        self._removed: Set[str] = set()  # names of groups
         self._library = _loaded(library) if library else None
         self._start()
 
@@ -600,15 +650,14 @@ class Engine(AbstractContextManager["Engine"]):
         self._starts = getattr(self, "_starts", 0) + 1  # numbers of prepared calls are those of one start
         self._cause: Optional[Exception] = None
         limits = [_limit(name, most) for name, most in self._limits._asdict().items()]
-        lines = [line for entry in self.profile.entries for line in (f"mask {entry.mask:08x}", entry.line)] + limits
+        lines = [*self.profile.lines(self._removed), *zip(limits, limits)]
         said: List[str] = []
         try:
-            self._talk = self._talking("".join(f"{line}\n" for line in lines), said)
+            self._talk = self._talking("".join(f"{line}\n" for line, _ in lines), said)
         except EngineLost as lost:
             found = re.match(r"profile (\d+) (.*)", "".join(said))
             if found:
-                declared = [it.declaration for it in self.profile.entries for _ in ("mask", "line")] + limits
-                raise Refused(f"{found[2]}: {declared[int(found[1]) - 1]}") from lost
+                raise Refused(f"{found[2]}: {lines[int(found[1]) - 1][1]}") from lost
             raise
 
     def _talking(self, profile: str, said: List[str]) -> Union[Conversation, InProcess]:
@@ -640,7 +689,8 @@ class Engine(AbstractContextManager["Engine"]):
     def restart(self) -> None:
         """Ends the engine, and starts another one with the same profile, budget and limits.
 
-        The modules are gone: they have to be made, built and bound anew. All objects are given up.
+        The modules are gone: they have to be made, built and bound anew. All objects are given up. Groups that were
+        removed stay so.
         """
         self.close()
         self._start()
@@ -688,6 +738,11 @@ class Engine(AbstractContextManager["Engine"]):
             return self._sections[module].lines(section) if module in self._sections else []
 
         return [it._replace(source=_source(it, lines_of)) for it in map(_frame, lines)]
+
+    def remove_group(self, name: str) -> None:
+        """Takes the entries of a group of the profile away: later builds don't see them. Raises `Refused`: as ``InUse`` while
+        a built module, or an entry outside the group, uses one of them, and as ``NoGroup`` where there is none."""
+        self.done(f"remove {_checked(name, GROUP)}")
 
     def told(self, text: str) -> List[str]:
         """The lines that answer a question of one line, as ``used``, without ``ok``. It is no command: the last one stays
@@ -753,12 +808,14 @@ class Engine(AbstractContextManager["Engine"]):
                 self._give_up()
 
     def _note(self, text: str, outcome: str) -> None:
-        """Notes what a command made of the sections of its module."""
-        found = OF_SECTIONS.match(text)
+        """Notes what a command made of the sections of its module, and which group is removed."""
+        found = NOTED.match(text)
         if not found:
             return
         word, name = found.groups()
-        if word == "discard" and outcome == "ok":
+        if word == "remove" and outcome == "ok":
+            self._removed.add(name)
+        elif word == "discard" and outcome == "ok":
             self._sections.pop(name, None)
         elif word == "section" and outcome == "ok":
             self._sections.setdefault(name, Sections()).follow(word, outcome)

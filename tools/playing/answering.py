@@ -41,7 +41,7 @@ class Plain:
             if found:
                 line = f"{found[1]} {number} {found[2]}"
                 self._results[number] = result_of(plain(found[2]))
-            number += word in FORMS and word not in ("mask", "limit")
+            number += word in FORMS and word not in ("mask", "group", "endgroup", "limit")
             lines.append(line)
         self.profile = "\n".join(lines)
         self._made = 0

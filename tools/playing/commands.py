@@ -13,6 +13,7 @@ FORMS = {
     "unbind": rf"({NAME}) ([0-9]{{1,10}})",
     "call": rf"({NAME}) (\([^ ]*\)) (.+)",
     "discard": rf"({NAME})",
+    "remove": rf"({NAME})",
     "budget": r"([0-9]{1,10})",
 }
 DRAFT = re.compile(rf"#draft ({NAME}) ([0-9]{{1,10}})")

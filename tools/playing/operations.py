@@ -48,7 +48,7 @@ class Operations:
         self._lock = threading.Lock()
         self._known: Dict[str, Callable[[Fields], Fields]] = {
             "begin": self._begin, "sample": self._sample, "open": self._open, "close": self._close, "alive": self._alive,
-            "module": self._module, "mask": self._mask, "discard": self._discard, "budget": self._budget,
+            "module": self._module, "mask": self._mask, "discard": self._discard, "remove": self._remove, "budget": self._budget,
             "build": self._build, "bind": self._bind, "unbind": self._unbind, "call": self._call,
             "check": self._check, "share": self._share,
         }
@@ -150,6 +150,9 @@ class Operations:
     def _discard(self, given: Fields) -> Fields:
         return self._told(given, f"discard {name_in(given)}")
 
+    def _remove(self, given: Fields) -> Fields:
+        return self._told(given, f"remove {name_in(given)}")
+
     def _budget(self, given: Fields) -> Fields:
         return self._told(given, f"budget {number_in(given, 'ticks')}")
 
@@ -242,7 +245,7 @@ def _shown(page: Page) -> Fields:
     objects = [{"driver": key[0], "key": str(key[1]), **thing._asdict()} for key, thing in things[:MOST_OBJECTS]]
     return {
         "modules": [it.shown(name) for name, it in page.modules.items()], "objects": objects, "alive": len(things),
-        "used": page.used(), "budget": page.budget,
+        "used": page.used(), "budget": page.budget, "groups": page.groups(), "removed": page.blanked(),
     }
 
 

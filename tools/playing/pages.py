@@ -96,6 +96,7 @@ class Page:
         self.modules: Dict[str, Module] = {}
         self.objects: Dict[Tuple[int, int], Thing] = {}
         self.budget = BUDGET
+        self.removed: List[str] = []  # groups
         self._bytes = self._lines = 0
         self._processes: List[Process] = []
         if self.answers not in ANSWERING:
@@ -246,10 +247,26 @@ class Page:
             self._heed_build(fields[0], lines, has)
         elif word == "module" and done:
             self.modules[fields[0]] = Module(int(fields[1], 16))
+        elif word == "remove" and done:
+            self._forget_group(fields[0])
         elif fields[0] in self.modules and done:
             self._heed_done(word, fields, text)
         for line in lines:
             self._heed_event(line)
+
+    def _forget_group(self, name: str) -> None:
+        profiles.blank_out(self.read.profile, name)
+        self.masks = profiles.masks_of(self.read.profile)
+        self.removed.append(name)
+
+    def groups(self) -> List[str]:
+        """The groups that can be removed, in their order."""
+        return [it for it in self.read.profile.groups() if it not in self.removed]
+
+    def blanked(self) -> List[int]:
+        """The numbers of the entries that were removed."""
+        groups = self.read.profile.groups()
+        return [number for name in self.removed for number in groups.get(name, ())]
 
     def _heed_build(self, name: str, lines: Sequence[str], has: Sequence[str]) -> None:
         module = self.modules.get(name)

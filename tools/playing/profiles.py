@@ -17,6 +17,8 @@ FORMS = {
     "enum": r"([^ ]+)",
     "value": r"([^ ]+) ([^ ]+) (-?[0-9]{1,10})",
     "blank": r"",
+    "group": r"([^ ]+)",
+    "endgroup": r"",
     "limit": r"(events|slots|objects) ([0-9]{1,19})",
 }
 WANTED = {
@@ -31,6 +33,8 @@ WANTED = {
     "enum": "enum NAME",
     "value": "value ENUM NAME NUMBER",
     "blank": "blank",
+    "group": "group NAME",
+    "endgroup": "endgroup",
     "limit": "limit events, slots or objects, and a number",
 }
 ASKED = {
@@ -88,7 +92,7 @@ def _fields(number: int, line: str) -> Any:
     if word not in FORMS:
         raise BadProfile(number, f"'{word}' begins no line of a profile; these do: {', '.join(FORMS)}")
     found = re.fullmatch(FORMS[word], rest)
-    if not found or (word == "blank" and line != "blank"):
+    if not found or (not FORMS[word] and line != word):
         raise BadProfile(number, f"wanted here: {WANTED[word]}")
     return word, found.groups()
 
@@ -107,9 +111,23 @@ def _add(read: Read, word: str, fields: Any, answering: Answering) -> None:
     elif word == "value":
         profile.value(fields[0], fields[1], int(fields[2]))
     elif word == "blank":
-        profile.entries.append(Entry(profile.mask, "blank", "blank", "", {}))
+        profile.entries.append(_blank(profile.mask))
+    elif word == "group":
+        profile.begin_group(fields[0])
+    elif word == "endgroup":
+        profile.end_group()
     else:
         _add_asked(profile, word, fields, answering)
+
+
+def _blank(mask: int) -> Entry:
+    return Entry(mask, "blank", "blank", "", {})
+
+
+def blank_out(profile: Profile, name: str) -> None:
+    """Makes blanks of the entries of a group that was removed."""
+    for number in profile.groups().get(name, ()):
+        profile.entries[number] = _blank(profile.entries[number].mask)
 
 
 def _add_asked(profile: Profile, word: str, fields: Any, answering: Answering) -> None:
@@ -172,7 +190,7 @@ def masks_of(profile: Profile) -> List[List[int]]:
 def _types_in(entry: Entry) -> List[str]:
     """The types that an entry names: that of which it is, and those of its declaration."""
     word, *rest = entry.line.split(" ")
-    if word in ("type", "enum"):
+    if word in ("type", "enum", "blank"):
         return []
     parts = re.split(r"[(,]", plain(entry.declaration).partition(")")[0]) if word != "value" else []
     return sorted({*re.findall(r"^(?:const )?(\w+)", "\n".join(parts).replace("\n ", "\n"), re.MULTILINE), rest[0]})

@@ -27,6 +27,7 @@ What does not begin with a colon is script: it is added to the module, which is 
 :reload                    reads the profile, the host file and all scripts again; modules are built and bound anew
 :clear                     drops the module's sections
 :discard                   ends the module
+:remove GROUP              takes the entries of a group of the profile away
 :events                    the events of the last command, as lines of docs/FORMATS.md
 :functions                 what can be called
 :profile                   what is registered, and what of it the module sees
@@ -153,7 +154,7 @@ class Shell:
         word, _, rest = line[1:].strip().partition(" ")
         known: Dict[str, Callable[[str], Any]] = {
             "call": self._call, "mask": self._mask, "module": self._module, "imports": self._imports, "bind": self._bind,
-            "load": self._load, "reload": self._reload, "clear": self._clear, "discard": self._discard,
+            "load": self._load, "reload": self._reload, "clear": self._clear, "discard": self._discard, "remove": self._remove,
             "events": self._events, "functions": self._functions, "profile": self._profile, "budget": self._budget,
             "limits": self._limits, "help": self._help,
         }
@@ -211,6 +212,10 @@ class Shell:
     def _discard(self, _: str) -> None:
         if self.part and self.stage.discard(self.name):
             self.name = next(iter(self.stage.parts), self.name)
+
+    def _remove(self, text: str) -> None:
+        if self.stage.remove(text):
+            self.tell("note", message=f"the entries of the group {text} are gone")
 
     def _events(self, _: str) -> None:
         self._lines(self.stage.events or ["there were none"])

@@ -261,6 +261,13 @@ class Stage:
         del self.parts[name]
         return True
 
+    def remove(self, name: str) -> bool:
+        """Takes the entries of a group away."""
+        if not self.done(f"remove {name}", f"remove {_field(name)}"):
+            return False
+        profiles.blank_out(self.engine.profile, name)
+        return True
+
     # ---- calls
 
     def call(self, name: str, called: Called) -> bool:

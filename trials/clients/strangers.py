@@ -35,7 +35,7 @@ BUSY = max(1.0, os.getloadavg()[0] / (os.cpu_count() or 1))  # programs that wai
 TIMEOUT = 10.0 * BUSY  # seconds
 SECONDS = 100.0 * BUSY  # that a command may take where its processor time is measured
 DEPTH = 200  # functions, one inside the other
-WAITING = 2600  # bytes of each, of which each is an instruction at most: all may wait at once (docs/LANGUAGE.md, "Depth")
+WAITING = 2230  # bytes of each, of which each is an instruction at most: all may wait at once (docs/LANGUAGE.md, "Depth")
 ROUNDS = 3  # of which the quickest counts
 OTHER = "class Note{int64 n;Note(int64 m){n=m;}}Note note(42);int64 answer(){return note.n;}"
 

@@ -180,6 +180,8 @@ pub struct Engine {
     events: Vec<String>,
     ticks: Option<u32>,
     limits: Limits,
+    /// The groups that were removed.
+    removed: Vec<String>,
     /// How often it was started: numbers of prepared calls are those of one start.
     starts: u64,
     /// What a command may take, with what closures take meanwhile. It doesn't end a closure.
@@ -214,6 +216,7 @@ impl Engine {
             events: Vec::new(),
             ticks: None,
             limits,
+            removed: Vec::new(),
             starts: 0,
             timeout: Duration::from_secs(10),
         };
@@ -221,12 +224,12 @@ impl Engine {
     }
 
     /// Ends the engine, if there is one, and starts another one with the same profile, budget and limits. The modules are
-    /// gone: they have to be made, built and bound anew. All objects are given up.
+    /// gone: they have to be made, built and bound anew. All objects are given up. Groups that were removed stay so.
     pub fn restart(&mut self) -> Result<(), Error> {
         (self.talk, self.objects, self.sources) = (None, Objects::default(), Sources::default());
         self.starts += 1;
         self.events.clear();
-        let text = format!("{}{}\n", self.profile.text(), self.limits.lines().join("\n"));
+        let text = format!("{}{}\n", self.profile.text(&self.removed), self.limits.lines().join("\n"));
         let drivers = 1 + self.profile.types.len();
         if let Some(library) = self.library {
             self.talk = Some(Box::new(InProcess::start(library, &text, drivers, self.memory)?));
@@ -296,6 +299,12 @@ impl Engine {
         let lines = self.told("trace")?;
         let frames: Option<Vec<Frame>> = lines.iter().map(|line| Frame::told(line, &self.sources)).collect();
         frames.ok_or(Error::Unfit(lines.join("\n")))
+    }
+
+    /// Takes the entries of a group of the profile away: later builds don't see them. It is refused as `InUse` while a built
+    /// module, or an entry outside the group, uses one of them, and as `NoGroup` where there is none.
+    pub fn remove_group(&mut self, name: &str) -> Result<(), Error> {
+        self.done(&format!("remove {name}")).map(drop)
     }
 
     /// The lines that answer a question of one line, as `used`, without `ok`. It is no command: the last one stays that
@@ -480,6 +489,8 @@ impl Engine {
         match talk.tell(text, deadline, &mut host)? {
             Said::Done => {
                 sources.follow(text, &last);
+                let removed = text.strip_prefix("remove ").filter(|_| last == "ok");
+                self.removed.extend(removed.map(|name| name.trim_end().to_owned()));
                 (self.talk, self.objects, self.sources) = (Some(talk), objects, sources);
             }
             Said::Ended(_) if text.is_empty() && !last.is_empty() => return Err(Error::Refused(last)),

@@ -17,11 +17,13 @@ pub struct Profile {
     pub mask: u32,
     pub(crate) types: Vec<String>,
     pub(crate) entries: Vec<Entry>,
+    /// Groups that begin, by their names, and groups that end: each with the number of the next entry.
+    ends: Vec<(usize, Option<String>)>,
 }
 
 impl Default for Profile {
     fn default() -> Profile {
-        Profile { mask: 1, types: Vec::new(), entries: Vec::new() }
+        Profile { mask: 1, types: Vec::new(), entries: Vec::new(), ends: Vec::new() }
     }
 }
 
@@ -83,6 +85,14 @@ impl Profile {
         self.add(&format!("property {of}"), declaration, get.asked(), Some(set.asked()));
     }
 
+    /// What is registered by `register` belongs to the group, and [`Engine::remove_group`](crate::Engine::remove_group) takes
+    /// it away together.
+    pub fn group(&mut self, name: &str, register: impl FnOnce(&mut Profile)) {
+        self.ends.push((self.entries.len(), Some(name.trim().to_owned())));
+        register(self);
+        self.ends.push((self.entries.len(), None));
+    }
+
     /// The driver of the first type that a declaration names.
     fn driver_of(&self, declaration: &str) -> usize {
         let mut words = declaration.split(|c: char| !c.is_alphanumeric() && c != '_');
@@ -99,8 +109,24 @@ impl Profile {
         self.entries.push(Entry { mask, line, declaration: declaration.to_owned(), asked: Some(asked), write });
     }
 
-    /// The profile as the engine reads it: two lines for each entry.
-    pub(crate) fn text(&self) -> String {
-        self.entries.iter().map(|it| format!("mask {:08x}\n{}\n", it.mask, it.line)).collect()
+    /// The profile as the engine reads it: two lines for each entry. Of the groups that were removed blanks are left.
+    pub(crate) fn text(&self, removed: &[String]) -> String {
+        let (mut text, mut is_removed) = (String::new(), false);
+        let mut ends = self.ends.iter().peekable();
+        for number in 0..=self.entries.len() {
+            while let Some((_, name)) = ends.next_if(|(at, _)| *at == number) {
+                let was_removed = is_removed;
+                is_removed = name.as_ref().is_some_and(|name| removed.contains(name));
+                if !is_removed && !was_removed {
+                    text += &name.as_ref().map_or("endgroup\n".to_owned(), |name| format!("group {name}\n"));
+                }
+            }
+            match self.entries.get(number) {
+                Some(_) if is_removed => text += "blank\n",
+                Some(it) => text += &format!("mask {:08x}\n{}\n", it.mask, it.line),
+                None => {}
+            }
+        }
+        text
     }
 }

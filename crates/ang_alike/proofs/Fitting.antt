@@ -1,5 +1,5 @@
 -- What a binding and a call choose fits the modules.
-use Rattle.std.proofs.Common.{◌≡◌, ◌≤◌, ◌+◌, ℕ, suc, List, [], ◌∷◌, ◌++◌, length, reverse, refl, sym, ap, ◌∙◌, subst, arith, Option, Some, None, map}
+use Rattle.std.proofs.Common.{◌≡◌, ◌≤◌, ℕ, suc, List, [], ◌∷◌, ◌++◌, length, reverse, refl, sym, ap, ◌∙◌, subst, arith, Option, Some, None, map}
 use Rattle.std.specs.Prelude.{Bool, true, false, Result, Ok, Err, option_map, slice_get, slice_index_or, if◌then◌else◌}
 use Rattle.std.proofs.lemmas.List.{length-map, reverse-append}
 use Rattle.ang_kinds.specs.declared.primitive.Primitive.{Primitive}
@@ -210,9 +210,9 @@ chosen_fits ms good i p decl args n f slots here e =
     let are = arguments_are f args slots one.arguments in
     let numbers = turned_numbers slots are.numbers in
     let a = program_found ms.places i p good.places here in
-    let has : HasNamesOf p.view a.sections (record { names = p.names; tree = p.tree }) = program-named p.view a.sections (record { names = p.names; tree = p.tree }) a.built in
+    let has : HasNamesOf a.sight a.sections (record { names = p.names; tree = p.tree }) = program-named a.sight a.sections (record { names = p.names; tree = p.tree }) a.built in
     let ps : List TypedParameter = typed_parameters f in
-    let named : slice_get (module_in p.view p.names).parameters n ≡ Some ps = get-front (map typed_parameters p.names.functions) _ n ps (get-map typed_parameters p.names.functions n f one.at) in
+    let named : slice_get (module_in a.sight p.names).parameters n ≡ Some ps = get-front (map typed_parameters p.names.functions) _ n ps (get-map typed_parameters p.names.functions n f one.at) in
     let found = map-get (λ (g : t.TypedFunction). g.parameters) p.tree.functions n ps (ap (λ xs. slice_get xs n) has.names.parameters ∙ named) in
     record {
       takes = record {

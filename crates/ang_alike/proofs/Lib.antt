@@ -14,3 +14,4 @@ pub mod Unseen
 pub mod Compared
 pub mod Sessions
 pub mod Unrefused
+pub mod Reading

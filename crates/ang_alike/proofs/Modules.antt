@@ -1,9 +1,12 @@
 -- What the modules of an engine keep: each program is what some sections are built to, and imports lead where they may.
-use Rattle.std.proofs.Common.{inl, inr, ◌≡◌, ◌≢◌, ◌≤◌, ◌+◌, ℕ, zero, suc, List, [], ◌∷◌, ◌++◌, length, refl, sym, ap, ◌∙◌, subst, Option, Some, None, map}
+use Rattle.std.proofs.Common.{inl, inr, ◌≡◌, ◌≢◌, ◌≤◌, ℕ, zero, suc, List, [], ◌∷◌, ◌++◌, length, refl, sym, ap, ◌∙◌, subst, Option, Some, None, map}
 use Rattle.std.specs.Prelude.{◌⊎◌, Bool, true, false, ◌==◌, option_map, is_none, position, slice_get, slice_set, slice_index_or, if◌then◌else◌}
 use Rattle.std.specs.Option.{option_flatten}
 use Rattle.std.proofs.lemmas.Bool.{eqb-true, eqb-false}
+use Rattle.ang_view.specs.Registration.{RegistrationList}
 use Rattle.ang_view.specs.Values.{TakesValues}
+use Rattle.ang_engine_build.specs.Narrowed.{narrowed}
+use Rattle.ang_engine_build.proofs.Narrowing.{narrowed_sound}
 use Rattle.ang_view.proofs.Seen.{position-passes}
 use Rattle.ang_typed.specs.declared.program.Heading.{Heading}
 use Rattle.ang_typed.specs.Typed as t
@@ -26,12 +29,14 @@ use Rattle.ang_alike.proofs.Linking.{IsBindable, program_imports, takes_alike}
 
 -- ---- programs
 
--- it is what some sections are built to, over what a registry shows
+-- it is what some sections are built to, over what a registry showed, of which it keeps what it uses
 pub record IsProgram (p : Program) : Type 0 where
+  pub sight : RegistrationList
   pub sections : List (List ℕ)
-  pub built : build_of p.view sections ≡ Compiled (record { names = p.names; tree = p.tree })
-  pub values : TakesValues p.view
-  pub few : length p.view ≤ 1024
+  pub built : build_of sight sections ≡ Compiled (record { names = p.names; tree = p.tree })
+  pub view : p.view ≡ narrowed sight p.tree
+  pub values : TakesValues sight
+  pub few : length sight ≤ 1024
 
 abbrev pub IsBuilt : Option Program → Type 0
 IsBuilt None = Unit {0}
@@ -68,7 +73,7 @@ place_more (p ∷ ps) h = (h.0, place_more ps h.1)
 
 program_unbound : (i : ℕ) (o : Option Program) → IsBuilt o → IsBuilt (option_map (unbound_program i) o)
 program_unbound i None h = tt
-program_unbound i (Some p) h = record { sections = h.sections; built = h.built; values = h.values; few = h.few }
+program_unbound i (Some p) h = record { sight = h.sight; sections = h.sections; built = h.built; view = h.view; values = h.values; few = h.few }
 
 place_unbound : (i : ℕ) (o : Option ModuleState) → IsPlace o → IsPlace (option_map (unbound_module i) o)
 place_unbound i None h = tt
@@ -142,7 +147,9 @@ tree_of (Some m) p e = ap (built_of m.name) e
 -- ---- trees are sound
 
 program_sound : (p : Program) → IsProgram p → SoundProgram p.view p.tree
-program_sound p h = program-sound p.view h.sections (record { names = p.names; tree = p.tree }) h.values h.few h.built
+program_sound p h =
+    subst (λ V. SoundProgram V p.tree) (sym h.view)
+    (narrowed_sound h.sight p.tree (program-sound h.sight h.sections (record { names = p.names; tree = p.tree }) h.values h.few h.built))
 
 nothing_sound : SoundProgram [] nothing
 nothing_sound = record { functions = tt; globals = tt; classes = tt }
@@ -392,7 +399,7 @@ module _ (index : ℕ) (link : Option Routine) where
     relinked_linked fits linked = record { each = λ n k g there. after_fits fits linked n k g ((module_after n).1 k g there) }
 
 program_relinked : (index : ℕ) (link : Option Routine) (p : Program) → IsProgram p → IsProgram (with_link index link p)
-program_relinked index link p h = record { sections = h.sections; built = h.built; values = h.values; few = h.few }
+program_relinked index link p h = record { sight = h.sight; sections = h.sections; built = h.built; view = h.view; values = h.values; few = h.few }
 
 -- what is built of the module of a number is such a program
 pub program_found : (ps : List (Option ModuleState)) (i : ℕ) (p : Program) → ArePlaces ps → (state_in (slice_index_or ps i None)).program ≡ Some p → IsProgram p
@@ -416,15 +423,15 @@ module _ (ms : List Module) (i j index n : ℕ) (p q : Program) (importer : (mod
   declared_so : heading_among (module_at ms i).tree.imports index ≡ Some ways_taken
   declared_so =
       ap (λ (x : t.Program). heading_among x.imports index) importer
-      ∙ ap (λ l. option_map (λ (h : Heading). passings_of h.parameters) (slice_get l index)) (program_imports p.view a.sections (record { names = p.names; tree = p.tree }) a.built)
+      ∙ ap (λ l. option_map (λ (h : Heading). passings_of h.parameters) (slice_get l index)) (program_imports a.sight a.sections (record { names = p.names; tree = p.tree }) a.built)
       ∙ ap (option_map (λ (h : Heading). passings_of h.parameters)) (get-map import_heading p.names.imports index import there)
 
-  has : HasNamesOf q.view b.sections (record { names = q.names; tree = q.tree })
-  has = program-named q.view b.sections (record { names = q.names; tree = q.tree }) b.built
+  has : HasNamesOf b.sight b.sections (record { names = q.names; tree = q.tree })
+  has = program-named b.sight b.sections (record { names = q.names; tree = q.tree }) b.built
 
   function_so : slice_get (passings_in (module_at ms j).tree) n ≡ Some ways_taken
   function_so =
-      let named : slice_get (module_in q.view q.names).parameters n ≡ Some (typed_parameters g.function) =
+      let named : slice_get (module_in b.sight q.names).parameters n ≡ Some (typed_parameters g.function) =
       get-front (map typed_parameters q.names.functions) _ n (typed_parameters g.function) (get-map typed_parameters q.names.functions n g.function g.at) in
       let here = map-get (λ (f : t.TypedFunction). f.parameters) q.tree.functions n (typed_parameters g.function) (ap (λ l. slice_get l n) has.names.parameters ∙ named) in
       ap (λ (x : t.Program). slice_get (passings_in x) n) exporter

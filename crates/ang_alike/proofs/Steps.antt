@@ -1,5 +1,5 @@
 -- One command does the same in two worlds that are alike.
-use Rattle.std.proofs.Common.{◌≡◌, ◌≤◌, ◌+◌, ◌-◌, ℕ, inl, inr, List, [], ◌∷◌, ◌++◌, length, refl, sym, ap, ap₂, subst, Option, Some, None}
+use Rattle.std.proofs.Common.{◌≡◌, ◌≤◌, ◌-◌, ℕ, inl, inr, List, [], ◌∷◌, ◌++◌, length, refl, sym, ap, ap₂, subst, Option, Some, None}
 use Rattle.std.specs.Prelude.{◌⊎◌, Bool, true, false, Result, Ok, Err, nat_le, is_none, position, slice_get, slice_set, slice_index_or, if◌then◌else◌}
 use Rattle.ang_kinds.specs.declared.error.Error.{Error}
 use Rattle.ang_kinds.specs.declared.error.Denial.{Denial}
@@ -22,13 +22,16 @@ use Rattle.ang_engine_call.specs.Calls.{result_of}
 use Rattle.ang_engine_modules.specs.Modules.{LinkFits}
 use Rattle.ang_engine_modules.specs.Ends.{Ended}
 use Rattle.ang_engine_modules.specs.declared.command.Command.{Command}
-use Rattle.ang_engine_modules.specs.declared.command.Command.TheVariants.{NewModule, SetMask, AddSection, Build, Bind, Unbind, Call, Discard}
+use Rattle.ang_engine_modules.specs.declared.command.Command.TheVariants.{NewModule, SetMask, AddSection, Build, Bind, Unbind, Call, Discard, RemoveGroup}
 use Rattle.ang_engine_modules.specs.declared.reply.Outcome.{Outcome}
 use Rattle.ang_engine_modules.specs.declared.reply.Outcome.TheVariants.{Done, Failed, Refused}
 use Rattle.ang_engine_modules.specs.declared.reply.Refusal.{Refusal}
-use Rattle.ang_engine_modules.specs.declared.reply.Refusal.TheVariants.{BadName, ModuleExists, Limit, NoModule, NotBuilt, NoImport, BadBudget, BuildMemory, InitFailed, Memory}
+use Rattle.ang_engine_modules.specs.declared.reply.Refusal.TheVariants.{BadName, ModuleExists, Limit, NoModule, NotBuilt, NoImport, BadBudget, BuildMemory, InitFailed, NoGroup, InUse, Memory}
 use Rattle.ang_engine_modules.specs.World.{Program, ModuleState, ModuleStates, World, module_named, module_at, placed, all_unbound_from, built_in, running, left_to, globals_ended}
 use Rattle.ang_engine_modules.specs.Commands.{with_link, Stepped, reply_of, answered, refused, after_run, fresh_module, in_place, empty_place, where_free, added_module, set_mask, or_limit, add_section, unbind_import, unbind_program, unbind, without, discard, on_module, on_both, most_modules}
+use Rattle.ang_view.specs.Groups.{Grouped}
+use Rattle.ang_engine.specs.Groups as Groups
+use Rattle.ang_engine.specs.Groups.{Removal, Removed, removal, removing}
 use Rattle.ang_engine.specs.Step.{errors_reply, is_budget, emptied, program_over, with_program, globals_begun, initializers_end, initialized, started, after_errors, after_build, build, build_within, link_of, bound, bind_programs, bind, Choice, Chosen, Not, choice_of, called, call_ended, call_end, call_chosen, call_program, call, judged, granted, step}
 use Rattle.ang_alike.proofs.Fitting.{bound_fits, chosen_fits, result_renamed, seen_values, seen_few}
 use Rattle.ang_alike.proofs.Modules.{good_fresh, good_new, AreGood, good_kept, good_rebuilt, good_relinked, modules_sound, all_none}
@@ -265,7 +268,7 @@ module _ (apart : Type 0) where
           → AreGood (placed (others i) i (with_program (program_over (seen R (module_at W i).mask) q) (module_at W i)))
       built_good i q e =
           good_rebuilt ms i (Some (with_program (program_over (seen R (module_at W i).mask) q) (module_at W i))) ms.order good
-          (record { sections = (module_at W i).sections; built = e; values = seen_values R (module_at W i).mask values; few = seen_few R (module_at W i).mask few })
+          (record { sight = seen R (module_at W i).mask; sections = (module_at W i).sections; built = e; view = refl; values = seen_values R (module_at W i).mask values; few = seen_few R (module_at W i).mask few })
           (all_none q.tree.imports)
 
       initialized_by : (i : ℕ) (p : Program) (x y : Result Slot Fault) (q : Renaming) (a b : RunWorld) → AreGood (placed (others i) i (with_program p (module_at W i))) → y ≡ turned_result q x → IsCounted [] a → AlikeUpTo apart q a b
@@ -304,7 +307,7 @@ module _ (apart : Type 0) where
 
 -- ---- a command
 
-module _ (apart : Type 0) (R : RegistrationList) (values : TakesValues R) (few : length R ≤ 1024) (ms : ModuleStates) (good : AreGood ms) (r : Renaming) (v w : RunWorld) (counted : IsCounted [] v)
+module _ (apart : Type 0) (R : Grouped) (values : TakesValues R.entries) (few : length R.entries ≤ 1024) (ms : ModuleStates) (good : AreGood ms) (r : Renaming) (v w : RunWorld) (counted : IsCounted [] v)
     (alike : (is js : List Input) → Match apart is js → AlikeUpTo apart r (with_inputs is v) (with_inputs js w)) where
   abbrev before : World
   before = left_to ms v
@@ -312,11 +315,11 @@ module _ (apart : Type 0) (R : RegistrationList) (values : TakesValues R) (few :
   abbrev again : World
   again = left_to ms w
 
-  build_alike : (i budget : ℕ) (is js : List Input) → Match apart is js → BothAlike apart (build R before i (module_at before i) budget is) (build R again i (module_at before i) budget js)
-  build_alike i budget [] js m = none_first apart (build R again i (module_at before i) budget js)
-  build_alike i budget (Said x ∷ is) js m = none_first apart (build R again i (module_at before i) budget js)
-  build_alike i budget (Tallied x ∷ is) js m = none_first apart (build R again i (module_at before i) budget js)
-  build_alike i budget (Fresh x ∷ is) js m = none_first apart (build R again i (module_at before i) budget js)
+  build_alike : (i budget : ℕ) (is js : List Input) → Match apart is js → BothAlike apart (build R.entries before i (module_at before i) budget is) (build R.entries again i (module_at before i) budget js)
+  build_alike i budget [] js m = none_first apart (build R.entries again i (module_at before i) budget js)
+  build_alike i budget (Said x ∷ is) js m = none_first apart (build R.entries again i (module_at before i) budget js)
+  build_alike i budget (Tallied x ∷ is) js m = none_first apart (build R.entries again i (module_at before i) budget js)
+  build_alike i budget (Fresh x ∷ is) js m = none_first apart (build R.entries again i (module_at before i) budget js)
   build_alike i budget (Room a ∷ is) [] m = tt
   build_alike i budget (Room a ∷ is) (Said y ∷ js) m = tt
   build_alike i budget (Room a ∷ is) (Tallied y ∷ js) m = tt
@@ -328,14 +331,19 @@ module _ (apart : Type 0) (R : RegistrationList) (values : TakesValues R) (few :
       let V = running before is in
       let X = running again js in
       let begins : AlikeUpTo apart r V X = begins_again apart ms r (with_inputs is v) (with_inputs js w) h in
-      built_alike apart ms good r (with_inputs is v) (with_inputs js w) counted h R values few i budget r (globals_ended i V) (globals_ended i X)
-      (build_of (seen R (module_at before i).mask) (module_at before i).sections) refl (ended_none i V) (ended_counted i V counted) (ended_alike apart r i V X begins)
+      built_alike apart ms good r (with_inputs is v) (with_inputs js w) counted h R.entries values few i budget r (globals_ended i V) (globals_ended i X)
+      (build_of (seen R.entries (module_at before i).mask) (module_at before i).sections) refl (ended_none i V) (ended_counted i V counted) (ended_alike apart r i V X begins)
   build_alike i budget (Room false ∷ is) (Room false ∷ js) m =
       let h = alike is js m.1 in
       let V = running before is in
       let X = running again js in
       let begins : AlikeUpTo apart r V X = begins_again apart ms r (with_inputs is v) (with_inputs js w) h in
-      no_memory apart ms good r (with_inputs is v) (with_inputs js w) counted h R values few i r (globals_ended i V) (globals_ended i X) (ended_counted i V counted) (ended_alike apart r i V X begins)
+      no_memory apart ms good r (with_inputs is v) (with_inputs js w) counted h R.entries values few i r (globals_ended i V) (globals_ended i X) (ended_counted i V counted) (ended_alike apart r i V X begins)
+
+  removed_alike : (x : Removal) (is js : List Input) → Match apart is js → BothAlike apart (removing x before is) (removing x again js)
+  removed_alike (Removed s) is js m = answered_alike apart (Done None) ms r (with_inputs is v) (with_inputs js w) good counted (alike is js m)
+  removed_alike Groups.NoGroup is js m = kept apart ms good r (with_inputs is v) (with_inputs js w) counted (alike is js m) NoGroup
+  removed_alike Groups.InUse is js m = kept apart ms good r (with_inputs is v) (with_inputs js w) counted (alike is js m) InUse
 
   judged_alike : (c : Command) (is js : List Input) → Match apart is js → BothAlike apart (judged R before c is) (judged R again c js)
   judged_alike (NewModule name mask) is js m = new_alike apart ms good r (with_inputs is v) (with_inputs js w) counted (alike is js m) name mask.0
@@ -349,7 +357,7 @@ module _ (apart : Type 0) (R : RegistrationList) (values : TakesValues R) (few :
       (λ i. section_alike apart ms good r (with_inputs is v) (with_inputs js w) counted h text i)
   judged_alike (Build name budget) is js m =
       let h = alike is js m in
-      on_alike apart ms good r (with_inputs is v) (with_inputs js w) counted h (module_named name before) (build_within budget R before) (build_within budget R again)
+      on_alike apart ms good r (with_inputs is v) (with_inputs js w) counted h (module_named name before) (build_within budget R.entries before) (build_within budget R.entries again)
       (λ i. if_alike apart (is_budget budget) _ _ _ _ (build_alike i budget is js m) (kept apart ms good r (with_inputs is v) (with_inputs js w) counted h BadBudget))
   judged_alike (Bind name index exporter decl) is js m =
       both_alike apart ms good r (with_inputs is v) (with_inputs js w) counted (alike is js m) (module_named name before) (module_named exporter before) index decl
@@ -365,6 +373,7 @@ module _ (apart : Type 0) (R : RegistrationList) (values : TakesValues R) (few :
       let h = alike is js m in
       on_alike apart ms good r (with_inputs is v) (with_inputs js w) counted h (module_named name before) (discard before) (discard again)
       (λ i. discard_alike apart ms good r (with_inputs is v) (with_inputs js w) counted h i)
+  judged_alike (RemoveGroup name) is js m = removed_alike (removal name R ms) is js m
 
   granted_alike : (c : Command) (is js : List Input) → Match apart is js → BothAlike apart (granted R before c is) (granted R again c js)
   granted_alike c [] js m = none_first apart (granted R again c js)
@@ -389,3 +398,4 @@ module _ (apart : Type 0) (R : RegistrationList) (values : TakesValues R) (few :
   step_alike (Unbind name index) is js m = judged_alike (Unbind name index) is js m
   step_alike (Call name decl args budget) is js m = granted_alike (Call name decl args budget) is js m
   step_alike (Discard name) is js m = granted_alike (Discard name) is js m
+  step_alike (RemoveGroup name) is js m = judged_alike (RemoveGroup name) is js m

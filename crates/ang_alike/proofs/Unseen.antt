@@ -2,16 +2,18 @@
 use Rattle.std.proofs.Common.{◌≡◌, ℕ, List, [], ◌∷◌, refl, ap, ◌∙◌, Option, Some, None}
 use Rattle.std.specs.Prelude.{Bool, true, false, option_map, if◌then◌else◌}
 use Rattle.ang_kinds.specs.declared.error.Denial.{Denial}
+use Rattle.ang_view.specs.Groups.{Grouped}
 use Rattle.ang_view.specs.Registration.{RegistrationList, seen}
 use Rattle.ang_meaning.specs.World.{Input, Room, Said, Tallied, Fresh, World as RunWorld}
 use Rattle.ang_engine_build.specs.Build.{Built, Errors, Compiled, build_of, denials_in}
 use Rattle.ang_engine_modules.specs.declared.command.Command.{Command}
-use Rattle.ang_engine_modules.specs.declared.command.Command.TheVariants.{NewModule, SetMask, AddSection, Build, Bind, Unbind, Call, Discard}
+use Rattle.ang_engine_modules.specs.declared.command.Command.TheVariants.{NewModule, SetMask, AddSection, Build, Bind, Unbind, Call, Discard, RemoveGroup}
 use Rattle.ang_engine_modules.specs.World.{ModuleState, World, module_named, module_at, all_unbound_from, running, globals_ended}
 use Rattle.ang_engine_modules.specs.Commands.{Stepped, refused, on_module}
 use Rattle.ang_engine_modules.specs.declared.reply.Refusal.TheVariants.{BadBudget}
+use Rattle.ang_engine.specs.Groups.{Removal, Removed, NoGroup, InUse, removal, removing}
 use Rattle.ang_engine.specs.Step.{is_budget, after_build, build, build_within, judged, granted, step}
-use Rattle.ang_alike.specs.Alike.{SeesSame, undenied}
+use Rattle.ang_alike.specs.Alike.{SeesSame, common, undenied}
 
 -- what a command leaves, without its denials
 abbrev pub bare : Stepped → Stepped
@@ -43,20 +45,37 @@ module _ (R S : RegistrationList) (w : World) where
   builds_same name budget None is h = refl
   builds_same name budget (Some i) is h = within_same (is_budget budget) i budget (module_at w i) is (h i refl)
 
-  granted_same : (c : Command) → ((is : List Input) → option_map bare (judged R w c is) ≡ option_map bare (judged S w c is)) → (is : List Input) → option_map bare (granted R w c is) ≡ option_map bare (granted S w c is)
-  granted_same c h [] = refl
-  granted_same c h (Said x ∷ is) = refl
-  granted_same c h (Tallied x ∷ is) = refl
-  granted_same c h (Fresh x ∷ is) = refl
-  granted_same c h (Room true ∷ is) = h is
-  granted_same c h (Room false ∷ is) = refl
+-- the same with what both lists have in common of the reply
+abbrev pub common_step : Command → Stepped → Stepped
+common_step c s = record s { reply = common c s.reply }
 
-  pub hidden_same : (c : Command) → SeesSame R S w c → (is : List Input) → option_map bare (step R w c is) ≡ option_map bare (step S w c is)
-  hidden_same (NewModule name mask) h is = granted_same (NewModule name mask) (λ js. refl) is
+removing_same : (name : List ℕ) (x y : Removal) (w : World) (is : List Input) → option_map (common_step (RemoveGroup name)) (removing x w is) ≡ option_map (common_step (RemoveGroup name)) (removing y w is)
+removing_same name (Removed r) (Removed s) w is = refl
+removing_same name (Removed r) NoGroup w is = refl
+removing_same name (Removed r) InUse w is = refl
+removing_same name NoGroup (Removed s) w is = refl
+removing_same name NoGroup NoGroup w is = refl
+removing_same name NoGroup InUse w is = refl
+removing_same name InUse (Removed s) w is = refl
+removing_same name InUse NoGroup w is = refl
+removing_same name InUse InUse w is = refl
+
+module _ (R S : Grouped) (w : World) where
+  granted_same : (c : Command) (f : Stepped → Stepped) → ((is : List Input) → option_map f (judged R w c is) ≡ option_map f (judged S w c is)) → (is : List Input) → option_map f (granted R w c is) ≡ option_map f (granted S w c is)
+  granted_same c f h [] = refl
+  granted_same c f h (Said x ∷ is) = refl
+  granted_same c f h (Tallied x ∷ is) = refl
+  granted_same c f h (Fresh x ∷ is) = refl
+  granted_same c f h (Room true ∷ is) = h is
+  granted_same c f h (Room false ∷ is) = refl
+
+  pub hidden_same : (c : Command) → SeesSame R S w c → (is : List Input) → option_map (common_step c) (step R w c is) ≡ option_map (common_step c) (step S w c is)
+  hidden_same (NewModule name mask) h is = granted_same (NewModule name mask) (common_step (NewModule name mask)) (λ js. refl) is
   hidden_same (SetMask name mask) h is = refl
-  hidden_same (AddSection name text) h is = granted_same (AddSection name text) (λ js. refl) is
-  hidden_same (Build name budget) h is = granted_same (Build name budget) (λ js. builds_same name budget (module_named name w) js h) is
-  hidden_same (Bind name index exporter decl) h is = granted_same (Bind name index exporter decl) (λ js. refl) is
+  hidden_same (AddSection name text) h is = granted_same (AddSection name text) (common_step (AddSection name text)) (λ js. refl) is
+  hidden_same (Build name budget) h is = granted_same (Build name budget) bare (λ js. builds_same R.entries S.entries w name budget (module_named name w) js h) is
+  hidden_same (Bind name index exporter decl) h is = granted_same (Bind name index exporter decl) (common_step (Bind name index exporter decl)) (λ js. refl) is
   hidden_same (Unbind name index) h is = refl
-  hidden_same (Call name decl args budget) h is = granted_same (Call name decl args budget) (λ js. refl) is
-  hidden_same (Discard name) h is = granted_same (Discard name) (λ js. refl) is
+  hidden_same (Call name decl args budget) h is = granted_same (Call name decl args budget) (common_step (Call name decl args budget)) (λ js. refl) is
+  hidden_same (Discard name) h is = granted_same (Discard name) (common_step (Discard name)) (λ js. refl) is
+  hidden_same (RemoveGroup name) h is = removing_same name (removal name R w.modules) (removal name S w.modules) w is

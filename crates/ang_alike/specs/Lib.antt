@@ -1,2 +1,3 @@
 pub mod SourcesAlike
 pub mod Alike
+pub mod Read

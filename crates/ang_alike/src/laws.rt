@@ -7,6 +7,7 @@ ghost use Rattle.ang_typed.specs.Typed.{Program};
 ghost use Rattle.ang_meaning.specs.Environment.{Environment};
 ghost use Rattle.ang_source.specs.Meaning.{Codes};
 ghost use Rattle.ang_alike.specs.SourcesAlike.{AreSoundSources, AreAlikeInRuns};
+ghost use Rattle.ang_alike.specs.Read.{RepliesTell};
 ghost use Rattle.ang_alike.specs.Alike.{HiddenDoesNotMatter, AnswersDecide, ToldAlikeReplyAlike, ToldAlikeReplySame, UnrefusedReplyAlike, UnrefusedReplySame};
 
 /// Two calls of a function of sound trees, and a module's initializers run twice, in worlds that are
@@ -20,8 +21,9 @@ pub fn sources_alike()
 {}
 
 /// Two registration lists that show the same to each mask with which a build is done give equal replies
-/// to equal commands under equal limits, apart from their denials, where drivers answer the same and
-/// neither memory nor one more reference was refused. A limit may have been met.
+/// to equal commands under equal limits, apart from their denials and from what `RemoveGroup` answers, where
+/// drivers answer the same and neither memory nor one more reference was refused. The lists are those of each
+/// build, so groups may go between builds. A limit may have been met.
 pub fn alike()
     ensures alike { HiddenDoesNotMatter }
 {}
@@ -44,4 +46,10 @@ pub fn told_alike()
 pub fn unrefused_alike()
     ensures alike { UnrefusedReplyAlike }
     ensures same { UnrefusedReplySame }
+{}
+
+/// The same with nothing hidden among its premises: two lists of replies, as `Engine::apply` gives them, and
+/// what a host knows of its registrations, masks and drivers.
+pub fn replies_tell()
+    ensures alike { RepliesTell }
 {}

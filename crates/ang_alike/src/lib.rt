@@ -1,6 +1,10 @@
 //! What a module's mask hides from it is not felt: over registrations that show the same, the same
 //! commands have the same replies. Below that, the numbers of script objects do not show in what the
-//! bodies of sound trees do.
+//! bodies of sound trees do. A host reads off a reply whether it tells of a refusal, where the law does
+//! not bind.
 #![tactic(auto)]
 
+mod host;
 pub mod laws;
+
+pub use host::tells_of_no_refusal;

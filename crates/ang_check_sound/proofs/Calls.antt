@@ -1,5 +1,5 @@
 -- A name and a call make sound trees of sound operands.
-use Rattle.std.specs.Prelude.{◌≡◌, ◌≢◌, ℕ, suc, ◌<◌, ◌==◌, Bool, true, false, not, ◌&&◌, if◌then◌else◌, length, List, [], ◌∷◌, map, option_map, option_and_then, Option, Some, None, IfSome, Err, IfOk, slice_get}
+use Rattle.std.specs.Prelude.{◌≡◌, ◌≢◌, ℕ, suc, ◌<◌, ◌==◌, Bool, true, false, not, ◌&&◌, if◌then◌else◌, length, List, [], ◌∷◌, map, option_map, option_and_then, Option, Some, None, IfSome, IsSome, Err, IfOk, slice_get}
 use Rattle.std.specs.List.{flat_map}
 use Rattle.std.proofs.Common.{refl, ap, sym, ◌∙◌, subst}
 use Rattle.std.proofs.lemmas.List.{length-map}
@@ -10,6 +10,7 @@ use Rattle.ang_kinds.specs.declared.primitive.Primitive.TheVariants as primitive
 use Rattle.ang_kinds.specs.declared.types.Pass.{Pass}
 use Rattle.ang_kinds.specs.declared.types.Pass.TheVariants as pass
 use Rattle.ang_lex.specs.declared.token.Token.{Token}
+use Rattle.ang_view.specs.Registration.{entry_at}
 use Rattle.ang_types.specs.declared.arg_type.ArgType.{ArgType}
 use Rattle.ang_types.specs.declared.arg_type.ArgType.TheVariants as type
 use Rattle.ang_types.specs.declared.asks.Asks.{Asks}
@@ -55,7 +56,7 @@ use Rattle.ang_check_sound.proofs.Passings.{takes, TakeAlike, params_alike, only
 use Rattle.ang_check_sound.proofs.Items.{every_mapped, every_flat_of, first_true, second_true, not_true}
 use Rattle.ang_check_sound.proofs.Operators.{IsStoredSite, IsTargeted, SoundOperand, no_site, read_sound, fit_sound}
 use Rattle.ang_check_sound.proofs.Hosts.{Values}
-use Rattle.ang_check_sound.proofs.Uses.{Here, IsMeant, global_sound, IsCallee, IsCallable, IsMeantCall, call_there, best_method_there}
+use Rattle.ang_check_sound.proofs.Uses.{HasValue, value_of_there, Here, IsMeant, global_sound, IsCallee, IsCallable, IsMeantCall, call_there, best_method_there}
 
 -- ---- arguments, in a module where n locals are alive
 
@@ -272,15 +273,17 @@ module _ (s : BodyContext) (n : ℕ) where
   -- ---- a bare call
 
   -- a conversion to an enumeration, of one operand
-  enumerated_sound : (x : Token) (k : ℕ) (operands : List Operand) → Every (SoundOperand M n) operands → IfOk (enumerated_of x k operands) (SoundOperand M n)
-  enumerated_sound x k [] all = tt
-  enumerated_sound x k (a ∷ []) all =
-      holds (λ q. Unit {0}) (SoundOperand M n) (integer a) _ (any (integer a)) (λ q h. no_site M n x.place (type.Enumeration k) (t.naming (record { 0 = k }) (t.convert q primitive.I32 a.tree)) all.0.tree)
-  enumerated_sound x k (a ∷ b ∷ rest) all = tt
+  enumerated_sound : (x : Token) (k : ℕ) (operands : List Operand) → IsSome (entry_at s.view k) → Every (SoundOperand M n) operands
+      → IfOk (enumerated_of x k operands) (SoundOperand M n)
+  enumerated_sound x k [] there all = tt
+  enumerated_sound x k (a ∷ []) there all =
+      holds (λ q. Unit {0}) (SoundOperand M n) (integer a) _ (any (integer a))
+      (λ q h. no_site M n x.place (type.Enumeration k) (t.naming (record { 0 = k }) (t.convert q primitive.I32 a.tree)) (there, all.0.tree))
+  enumerated_sound x k (a ∷ b ∷ rest) there all = tt
 
   bare_sound : (x : Token) (a : Asks) (there : Bool) (operands : List Operand) (args : List ArgType) (r : Resolution) → IsMeantCall s args r
       → length args ≡ length operands → Every (SoundOperand M n) operands → IfOk (bare_use s x a there operands r) (SoundOperand M n)
-  bare_sound x a there operands args (resolution.Enumeration k) h count all = enumerated_sound x k operands all
+  bare_sound x a there operands args (resolution.Enumeration k) h count all = enumerated_sound x k operands h all
   bare_sound x a there operands args (resolution.Call c) h count all = use_sound x.place x a there operands args (resolution.Call c) h count all
   bare_sound x a there operands args (resolution.Variable v ty read_only) h count all = tt
   bare_sound x a there operands args (resolution.Property q) h count all = tt
@@ -355,16 +358,18 @@ module _ (s : BodyContext) (n : ℕ) where
   value_sound x there (resolution.Call c) h = tt
   value_sound x there (resolution.Type k) h = tt
   value_sound x there (resolution.Enumeration k) h = tt
-  value_sound x there (resolution.Value v) h = no_site M n x.place (type.Enumeration v.enumeration) (t.naming v.entity (t.number primitive.I32 (int_bits v.number))) tt
+  value_sound x there (resolution.Value v) h = no_site M n x.place (type.Enumeration v.enumeration) (t.naming v.entity (t.number primitive.I32 (int_bits v.number))) (h, tt)
   value_sound x there (resolution.Refused why) h = tt
 
   -- `E::V`
-  or_unknown : (c x : Token) (v : Option EnumerationValue) → IfOk (value_or_unknown c x v) (SoundOperand M n)
-  or_unknown c x None = tt
-  or_unknown c x (Some v) = no_site M n c.place (type.Enumeration v.enumeration) (t.naming v.entity (t.number primitive.I32 (int_bits v.number))) tt
+  or_unknown : (c x : Token) (v : Option EnumerationValue) → IfSome v (HasValue s.view) → IfOk (value_or_unknown c x v) (SoundOperand M n)
+  or_unknown c x None h = tt
+  or_unknown c x (Some v) h =
+      no_site M n c.place (type.Enumeration v.enumeration) (t.naming v.entity (t.number primitive.I32 (int_bits v.number))) (h, tt)
 
   scoped_name_sound : (c x : Token) (there : Bool) (r : Resolution) → IfOk (scoped_name_use s c x there r) (SoundOperand M n)
-  scoped_name_sound c x there (resolution.Enumeration k) = or_unknown c x (value_of s.view k (text_of s.text x))
+  scoped_name_sound c x there (resolution.Enumeration k) =
+      or_unknown c x (value_of s.view k (text_of s.text x)) (value_of_there s.view k (text_of s.text x))
   scoped_name_sound c x there (resolution.Variable v ty read_only) = tt
   scoped_name_sound c x there (resolution.Property q) = tt
   scoped_name_sound c x there (resolution.Call k) = tt

@@ -23,3 +23,5 @@ pub mod Standing
 pub mod Built
 pub mod Program
 pub mod Soundness
+pub mod DeclaredTypes
+pub mod SeenUses

@@ -1,10 +1,11 @@
 -- Members, casts and what makes objects are sound, of sound operands.
-use Rattle.std.specs.Prelude.{ℕ, suc, ◌<◌, ◌==◌, Bool, false, ◌||◌, length, List, [], ◌∷◌, Option, Some, None, IfSome, Ok, Err, IfOk}
+use Rattle.std.specs.Prelude.{◌≡◌, ℕ, suc, ◌<◌, ◌==◌, Bool, false, ◌||◌, length, List, [], ◌∷◌, Option, Some, None, IfSome, IsSome, Ok, Err, IfOk}
 use Rattle.std.proofs.Common.{refl, ap, subst}
 use Rattle.std.proofs.lemmas.List.{length-map}
 use Rattle.ang_kinds.specs.declared.error.ErrorKind.TheVariants as kind
 use Rattle.ang_kinds.specs.declared.place.Place.{Place}
 use Rattle.ang_lex.specs.declared.token.Token.{Token}
+use Rattle.ang_view.specs.Registration.{entry_at}
 use Rattle.ang_tree.specs.declared.type_name.TypeName.{TypeName}
 use Rattle.ang_tree.specs.Stmt.{Every}
 use Rattle.ang_types.specs.declared.arg_type.ArgType.{ArgType}
@@ -96,21 +97,25 @@ module _ (s : BodyContext) (n : ℕ) where
 
   -- ---- casts
 
-  cast_between_sound : (place : Place) (number : ℕ) (c : Bool) (a : Operand) (m : ℕ) (own other : Option ℕ) → IfSome own (λ d. d < length s.names.families)
+  -- a class or an interface that is there, or a host type that the view has
+  abbrev IsClassOrHost : ℕ → Option ℕ → Type 0
+  IsClassOrHost number own = IfSome own (λ d. d < length s.names.families) × (own ≡ None → IsSome (entry_at s.view number))
+
+  cast_between_sound : (place : Place) (number : ℕ) (c : Bool) (a : Operand) (m : ℕ) (own other : Option ℕ) → IsClassOrHost number own
       → SoundOperand M n a → IfOk (cast_between place number c a m own other) (SoundOperand M n)
-  cast_between_sound place number c a m (Some d) (Some own) there sa = no_site M n _ _ _ (there, sa.tree)
-  cast_between_sound place number c a m None None there sa = either_holds (SoundOperand M n) (number == m) _ _ (no_site M n _ _ _ sa.tree) tt
+  cast_between_sound place number c a m (Some d) (Some own) there sa = no_site M n _ _ _ (there.0, sa.tree)
+  cast_between_sound place number c a m None None there sa = either_holds (SoundOperand M n) (number == m) _ _ (no_site M n _ _ _ (there.1 refl, sa.tree)) tt
   cast_between_sound place number c a m (Some d) None there sa = tt
   cast_between_sound place number c a m None (Some own) there sa = tt
 
-  cast_from_sound : (place : Place) (number : ℕ) (c : Bool) (a : Operand) (o : Option (ℕ × Bool)) → IfSome (family_of_type number) (λ d. d < length s.names.families)
+  cast_from_sound : (place : Place) (number : ℕ) (c : Bool) (a : Operand) (o : Option (ℕ × Bool)) → IsClassOrHost number (family_of_type number)
       → SoundOperand M n a → IfOk (cast_from place number c a o) (SoundOperand M n)
   cast_from_sound place number c a None there sa = tt
   cast_from_sound place number c a (Some o) there sa = cast_between_sound place number (c || o.1) a o.0 (family_of_type number) (family_of_type o.0) there sa
 
-  -- what a cast is to, if it is a class or an interface, is there
+  -- what a cast is to is there
   abbrev pub IsCastable : Option (ℕ × Bool) → Type 0
-  IsCastable o = IfSome o (λ w. IfSome (family_of_type w.0) (λ d. d < length s.names.families))
+  IsCastable o = IfSome o (λ w. IsClassOrHost w.0 (family_of_type w.0))
 
   cast_by_sound : (place : Place) (a : Operand) (o : Option (ℕ × Bool)) → IsCastable o → SoundOperand M n a → IfOk (cast_by place a o) (SoundOperand M n)
   cast_by_sound place a None there sa = tt
@@ -120,7 +125,7 @@ module _ (s : BodyContext) (n : ℕ) where
   unfolding cast_typing
   cast_typed word ty a there sa = cast_by_sound word.place a (object_of ty) there sa
 
-  refusal_there : (ps : List LocalVariable) (x : Token) (P : ArgType → Type 0) (m : TypeOrError) → IfOk m P → IfOk (type_or_refusal s ps x m) P
+  pub refusal_there : (ps : List LocalVariable) (x : Token) (P : ArgType → Type 0) (m : TypeOrError) → IfOk m P → IfOk (type_or_refusal s ps x m) P
   refusal_there ps x P (Ok ty) h = h
   refusal_there ps x P (Err why) h = either_holds P (is_unknown_type why) _ _ tt tt
 
@@ -128,7 +133,8 @@ module _ (s : BodyContext) (n : ℕ) where
   unfolding cast_type
   cast_type_there built ps y =
       refusal_there ps y.name (λ ty. IsCastable (object_of ty)) (type_in (space_of s) role.Cast s.text y)
-      (subst (λ k. IfOk (type_in (space_of s) role.Cast s.text y) (λ ty. IfSome (object_of ty) (λ w. IfSome (family_of_type w.0) (λ d. d < k))))
+      (subst (λ k. IfOk (type_in (space_of s) role.Cast s.text y)
+      (λ ty. IfSome (object_of ty) (λ w. IfSome (family_of_type w.0) (λ d. d < k) × (family_of_type w.0 ≡ None → IsSome (entry_at s.view w.0)))))
       (length-map s.names.families (λ (f : Family). f.name)) (cast_there (space_of s) built.few s.text y))
 
   -- ---- objects of declarations

@@ -267,7 +267,7 @@ module _ (V : RegistrationList) (names : Names) (declared : List (List ℕ)) (fs
 
 -- ---- the parts of a build
 
-names_same : (E : Space) (fs : List Declaring) (all : List (ScriptFunction × Bool)) (n : ℕ) (before ds : List Declaring)
+pub names_same : (E : Space) (fs : List Declaring) (all : List (ScriptFunction × Bool)) (n : ℕ) (before ds : List Declaring)
     → map (λ (f : Family). f.name) (each_after (families_after E fs all n) before ds) ≡ map family_name ds
 names_same E fs all n before [] = refl
 names_same E fs all n before (d ∷ ds) = ap (λ xs. family_name d ∷ xs) (names_same E fs all n (before ++ d ∷ []) ds)

@@ -8,6 +8,8 @@ use Rattle.ang_tree.specs.declared.type_name.TypeName.{TypeName}
 use Rattle.ang_tree.specs.Tree.{Tree, Trees}
 use Rattle.ang_tree.specs.Stmt.{Init, absent, value, constructor, Var, Vars, Start, with_variables, with_expression, Stmt, Body, Stmts, block, variables, expression, break, continue, return, when, either, while, do_while, for, body, end, Every}
 use Rattle.ang_tree.specs.Stmt as written
+use Rattle.ang_names_listed.specs.declared.role.TypePosition.TheVariants as role
+use Rattle.ang_names_listed.specs.Types.{type_in}
 use Rattle.ang_typed.specs.Typed as t
 use Rattle.ang_types.specs.Ranks.{Ancestors}
 use Rattle.ang_check_operators.specs.Refusals.{Typing}
@@ -15,17 +17,18 @@ use Rattle.ang_check_operators.specs.Operands.{Operand, fit}
 use Rattle.ang_check_context.specs.declared.scope.LocalVariable.{LocalVariable}
 use Rattle.ang_check_context.specs.declared.scope.Within.{Within}
 use Rattle.ang_check_typing.specs.Calls.{default_typing, made_typing}
-use Rattle.ang_check_context.specs.Scope.{BodyContext}
+use Rattle.ang_check_context.specs.Scope.{BodyContext, space_of}
 use Rattle.ang_check_typing.specs.Typing.{typing_of, typing_of_args, typing_of_all}
 use Rattle.ang_check_stmt.specs.declared.frame.Returns.{Returns}
 use Rattle.ang_check_stmt.specs.declared.frame.Returns.TheVariants as returns
 use Rattle.ang_check_stmt.specs.Typing.{FunctionContext, with_same, optional_typing, expression_typing, condition_typing, optional_condition, trees_of, steps_typing, local_type, local_name, fitted, absent_typing, value_typing, arguments_typing, initializer_typing, made, local_with, local_typing, each_local, locals_typing, declaration_typing, value_returned, nothing_returned, return_nothing, return_value, result_typing, return_typing, jump, start_typing, head_typing, block_of, alone, tested_of, either_of, while_of, do_while_of, for_of, stmt_typing, block_typing, stmts_typing}
-use Rattle.ang_source.specs.Sound.{Module, Sound, SoundOption, SoundEach, SoundLocals, SoundStatement, SoundStatements, declared}
+use Rattle.ang_source.specs.Sound.{Module, IsSeenType, Sound, SoundOption, SoundEach, SoundLocals, SoundStatement, SoundStatements, declared}
 use Rattle.ang_check_sound.specs.Built.{IsBuiltContext, HasThis}
 use Rattle.ang_check_sound.proofs.Judged.{holds, any}
 use Rattle.ang_check_sound.proofs.Operators.{SoundOperand, fit_sound, truth_sound}
 use Rattle.ang_check_sound.proofs.Uses.{Here}
-use Rattle.ang_check_sound.proofs.Objects.{default_typed, made_typed}
+use Rattle.ang_check_sound.proofs.Objects.{refusal_there, default_typed, made_typed}
+use Rattle.ang_check_sound.proofs.Types.{type_in_seen}
 use Rattle.ang_check_sound.proofs.Expressions.{typed, args_typed, all_typed}
 
 -- ---- expressions that are written or not
@@ -139,34 +142,41 @@ module _ (f : FunctionContext) (built : IsBuiltContext f.context) (can : CanRetu
   one_alive : (ps : List LocalVariable) (p : LocalVariable) → Alive ps → Alive (ps ++ (p ∷ []))
   one_alive ps p alive = still f.context.within (length ps) (length (ps ++ (p ∷ []))) (omega (arith, length-append ps (p ∷ []))) alive
 
+  -- the type that is written for some
+  local_type_seen : (ps : List LocalVariable) (y : TypeName) → IfOk (local_type f.context ps y) (IsSeenType f.context.view)
+  unfolding local_type
+  local_type_seen ps y =
+      refusal_there f.context (length ps) ps y.name (IsSeenType f.context.view) (type_in (space_of f.context) role.Variable f.context.text y)
+      (type_in_seen (space_of f.context) built.few role.Variable f.context.text y)
+
   abbrev LeavesLocal : ℕ → List LocalVariable × t.Local → Type 0
-  LeavesLocal n r = SoundOption M n r.1.initializer × (length r.0 ≡ suc n) × Alive r.0
+  LeavesLocal n r = IsSeenType f.context.view r.1.ty × SoundOption M n r.1.initializer × (length r.0 ≡ suc n) × Alive r.0
 
   one_longer : (ps : List LocalVariable) (p : LocalVariable) → length (ps ++ (p ∷ [])) ≡ suc (length ps)
   one_longer ps p = omega (arith, length-append ps (p ∷ []))
 
-  local_sound : (start : ℕ) (ps : List LocalVariable) (y : TypeName) (ty : ArgType) (v : Var) → Alive ps
+  local_sound : (start : ℕ) (ps : List LocalVariable) (y : TypeName) (ty : ArgType) (v : Var) → IsSeenType f.context.view ty → Alive ps
       → IfOk (local_typing f start ps y ty v) (LeavesLocal (length ps))
   unfolding local_typing
-  local_sound start ps y ty v alive =
+  local_sound start ps y ty v seen alive =
       holds (λ (name : List ℕ). Unit {0}) (LeavesLocal (length ps)) (local_name f start ps v.name) _ (any (local_name f start ps v.name))
       (λ name h. holds (SoundOption M (length ps)) (LeavesLocal (length ps)) (initializer_typing f.context ps y ty v.initializer) _
       (initializer_sound f.context built ps alive y ty v.initializer)
-      (λ x sx. (sx, one_longer ps (local_with name ty y), one_alive ps (local_with name ty y) alive)))
+      (λ x sx. (seen, sx, one_longer ps (local_with name ty y), one_alive ps (local_with name ty y) alive)))
 
   abbrev LeavesLocals : ℕ → List LocalVariable × List t.Local → Type 0
   LeavesLocals n r = SoundLocals M n r.1 × (length r.0 ≡ length r.1 + n) × Alive r.0
 
-  each_local_sound : (start : ℕ) (ps : List LocalVariable) (y : TypeName) (ty : ArgType) (vs : List Var) → Alive ps
+  each_local_sound : (start : ℕ) (ps : List LocalVariable) (y : TypeName) (ty : ArgType) (vs : List Var) → IsSeenType f.context.view ty → Alive ps
       → IfOk (each_local f start ps y ty vs) (LeavesLocals (length ps))
-  each_local_sound start ps y ty [] alive = (tt, let e : length ps ≡ 0 + length ps = omega arith in e, alive)
-  each_local_sound start ps y ty (v ∷ vs) alive =
-      holds (LeavesLocal (length ps)) (LeavesLocals (length ps)) (local_typing f start ps y ty v) _ (local_sound start ps y ty v alive)
+  each_local_sound start ps y ty [] seen alive = (tt, let e : length ps ≡ 0 + length ps = omega arith in e, alive)
+  each_local_sound start ps y ty (v ∷ vs) seen alive =
+      holds (LeavesLocal (length ps)) (LeavesLocals (length ps)) (local_typing f start ps y ty v) _ (local_sound start ps y ty v seen alive)
       (λ l sl. holds (LeavesLocals (length l.0)) (LeavesLocals (length ps)) (each_local f start l.0 y ty vs) _
-      (each_local_sound start l.0 y ty vs sl.2)
+      (each_local_sound start l.0 y ty vs seen sl.3)
       (λ ls sls. (
-        (sl.0, subst (λ k. SoundLocals M k ls.1) sl.1 sls.0),
-        let here : length l.0 ≡ suc (length ps) = sl.1 in
+        (sl.0, sl.1, subst (λ k. SoundLocals M k ls.1) sl.2 sls.0),
+        let here : length l.0 ≡ suc (length ps) = sl.2 in
             let there : length ls.0 ≡ length ls.1 + length l.0 = sls.1 in
             let e : length ls.0 ≡ suc (length ls.1) + length ps = omega arith in e,
         sls.2,
@@ -175,8 +185,8 @@ module _ (f : FunctionContext) (built : IsBuiltContext f.context) (can : CanRetu
   locals_sound : (start : ℕ) (ps : List LocalVariable) (vs : Vars) → Alive ps → IfOk (locals_typing f start ps vs) (LeavesLocals (length ps))
   unfolding locals_typing
   locals_sound start ps vs alive =
-      holds (λ (ty : ArgType). Unit {0}) (LeavesLocals (length ps)) (local_type f.context ps vs.declared_type) _
-      (any (local_type f.context ps vs.declared_type)) (λ ty h. each_local_sound start ps vs.declared_type ty vs.items alive)
+      holds (IsSeenType f.context.view) (LeavesLocals (length ps)) (local_type f.context ps vs.declared_type) _
+      (local_type_seen ps vs.declared_type) (λ ty seen. each_local_sound start ps vs.declared_type ty vs.items seen alive)
 
   declaration_sound : (loop : Bool) (start : ℕ) (ps : List LocalVariable) (vs : Vars) → Alive ps → IfOk (declaration_typing f start ps vs) (Leaves loop (length ps))
   declaration_sound loop start ps vs alive =

@@ -1,5 +1,5 @@
--- A use of a name means a variable, a property or a function that is there.
-use Rattle.std.specs.Prelude.{◌≡◌, ◌≢◌, ℕ, suc, ◌<◌, Bool, true, false, if◌then◌else◌, length, List, [], ◌∷◌, map, slice_get, option_map, Option, Some, None, IfSome}
+-- A use of a name means a variable, a property or a function that is there, a value or an enumeration that the view has.
+use Rattle.std.specs.Prelude.{◌≡◌, ◌≢◌, ℕ, suc, ◌<◌, Bool, true, false, if◌then◌else◌, length, List, [], ◌∷◌, map, slice_get, option_map, Option, Some, None, IfSome, IsSome, is_some}
 use Rattle.std.proofs.Common.{refl, ap, sym, ◌∙◌}
 use Rattle.std.proofs.lemmas.Option.{slice_get_within, slice_get-map}
 use Rattle.ang_kinds.specs.declared.error.ErrorKind.{ErrorKind}
@@ -14,8 +14,12 @@ use Rattle.ang_types.specs.declared.candidate.Pick.TheVariants as pick
 use Rattle.ang_types.specs.Overloads.{Params, params_in, params_at}
 use Rattle.ang_types.specs.Best.{best_of}
 use Rattle.ang_types.proofs.BestLaws.{best_of-says}
+use Rattle.ang_kinds.specs.declared.mask.EntityNo.{EntityNo}
+use Rattle.ang_view.specs.declared.entry.Entry.{Entry}
+use Rattle.ang_view.specs.declared.entry.EntryKind.{EntryKind}
 use Rattle.ang_view.specs.declared.entry.EntryKind.TheVariants as entry
-use Rattle.ang_view.specs.Named.{values_named}
+use Rattle.ang_view.specs.Named.{members, values_named}
+use Rattle.ang_view.specs.Registration.{RegistrationList, entry_at}
 use Rattle.ang_check_contest.specs.declared.host.SeenFunction.{SeenFunction}
 use Rattle.ang_check_contest.specs.declared.host.SeenProperty.{SeenProperty}
 use Rattle.ang_check_contest.specs.declared.host.Wanted.TheVariants as wanted
@@ -32,15 +36,15 @@ use Rattle.ang_names_known.specs.declared.space.Named.TheVariants as named
 use Rattle.ang_check_contest.specs.Host.{host_where, property_where}
 use Rattle.ang_names_known.specs.Items.{is_empty}
 use Rattle.ang_names_known.specs.Lookup.{functions_named, global_named, parameters_of, takes_nothing, default_of}
-use Rattle.ang_names_known.specs.Spaces.{family_of_type, type_of_name, space_of_names}
-use Rattle.ang_check_context.specs.Scope.{BodyContext, scope_of}
+use Rattle.ang_names_known.specs.Spaces.{family_of_type, type_of_name}
+use Rattle.ang_check_context.specs.Scope.{BodyContext, scope_of, space_of}
 use Rattle.ang_check_uses.specs.declared.uses.Callable.{Callable}
 use Rattle.ang_check_uses.specs.declared.uses.Called.{Called}
 use Rattle.ang_check_uses.specs.declared.uses.Called.TheVariants as calls
 use Rattle.ang_check_uses.specs.declared.uses.EnumerationValue.{EnumerationValue}
 use Rattle.ang_check_uses.specs.declared.uses.Resolution.{Resolution}
 use Rattle.ang_check_uses.specs.declared.uses.Resolution.TheVariants as resolution
-use Rattle.ang_check_uses.specs.Uses.{value_at, one_value, value_among, value_meant, takes_number, host_meant, variable_meant, global_or_host, global_meant, own_function, imported_function, callable_in, callable_at, script_callables, host_callable, maker, factories_of, constructor_of, default_maker, makers_in, makers_for, makers_of, candidates_of, called_at, picked, best_of_those, functions_of, called_by, called_name, property_meant, host_method, host_methods, unmatched, best_method, resolution_of}
+use Rattle.ang_check_uses.specs.Uses.{value_by, value_in, value_at, first_value, value_of, one_value, value_among, value_meant, takes_number, host_meant, variable_meant, global_or_host, global_meant, own_function, imported_function, callable_in, callable_at, script_callables, host_callable, maker, factories_of, constructor_of, default_maker, makers_in, makers_for, makers_of, candidates_of, called_at, picked, best_of_those, functions_of, called_by, called_name, property_meant, host_method, host_methods, unmatched, best_method, resolution_of}
 use Rattle.ang_check.specs.Typing.{typed_parameter, typed_parameters, this_parameter}
 use Rattle.ang_source.specs.Sound as sound
 use Rattle.ang_source.specs.Sound.{Module, IsVariable, IsStored, IsHostCallee}
@@ -51,6 +55,40 @@ use Rattle.ang_check_sound.proofs.Items.{every_joined, every_option, every_mappe
 use Rattle.ang_check_sound.proofs.Families.{IfWritten, default_holds}
 use Rattle.ang_check_sound.proofs.Passings.{TakeAlike, params_alike}
 use Rattle.ang_check_sound.proofs.Hosts.{Values, IsHost, hosts_there, IsHostProperty, property_there}
+use Rattle.ang_check_sound.proofs.Types.{IsNameThere, name_there}
+
+-- ---- values of enumerations
+
+-- the view has the value's entry
+abbrev pub HasValue : RegistrationList → EnumerationValue → Type 0
+HasValue V v = IsSome (entry_at V v.entity.0)
+
+value_by_there : (V : RegistrationList) (n : ℕ) (kind : EntryKind) (owner : Option EntityNo) → IsSome (entry_at V n) → IfSome (value_by n kind owner) (HasValue V)
+value_by_there V n entry.HostType owner h = tt
+value_by_there V n entry.Factory owner h = tt
+value_by_there V n entry.Method owner h = tt
+value_by_there V n entry.Property owner h = tt
+value_by_there V n entry.Function owner h = tt
+value_by_there V n entry.Global owner h = tt
+value_by_there V n entry.Enumeration owner h = tt
+value_by_there V n (entry.EnumValue v) None h = tt
+value_by_there V n (entry.EnumValue v) (Some e) h = h
+
+value_in_there : (V : RegistrationList) (n : ℕ) (o : Option Entry) → entry_at V n ≡ o → IfSome (value_in n o) (HasValue V)
+value_in_there V n None e = tt
+value_in_there V n (Some x) e = value_by_there V n x.kind x.owner (ap is_some e)
+
+value_at_there : (V : RegistrationList) (n : ℕ) → IfSome (value_at V n) (HasValue V)
+value_at_there V n = value_in_there V n (entry_at V n) refl
+
+first_there : (V : RegistrationList) (found : List ℕ) → IfSome (first_value V found) (HasValue V)
+first_there V [] = tt
+first_there V (n ∷ rest) = value_at_there V n
+
+-- of an enumeration, by its name
+pub value_of_there : (V : RegistrationList) (n : ℕ) (name : List ℕ) → IfSome (value_of V n name) (HasValue V)
+unfolding value_of
+value_of_there V n name = first_there V (members V n name)
 
 -- In a body:
 module _ (s : BodyContext) where
@@ -67,17 +105,16 @@ module _ (s : BodyContext) where
   IsMeant n (resolution.Call c) = Unit {0}
   IsMeant n (resolution.Type k) = Unit {0}
   IsMeant n (resolution.Enumeration k) = Unit {0}
-  IsMeant n (resolution.Value v) = Unit {0}
+  IsMeant n (resolution.Value v) = HasValue s.view v
   IsMeant n (resolution.Refused why) = Unit {0}
 
-  -- a value of an enumeration is a number
-  one_value_there : (n : ℕ) (v : Option EnumerationValue) → IsMeant n (one_value v)
-  one_value_there n None = tt
-  one_value_there n (Some v) = tt
+  one_value_there : (n : ℕ) (v : Option EnumerationValue) → IfSome v (HasValue s.view) → IsMeant n (one_value v)
+  one_value_there n None h = tt
+  one_value_there n (Some v) h = h
 
   value_among_there : (n : ℕ) (found : List ℕ) → IsMeant n (value_among s.view found)
   value_among_there n [] = tt
-  value_among_there n (k ∷ []) = one_value_there n (value_at s.view k)
+  value_among_there n (k ∷ []) = one_value_there n (value_at s.view k) (value_at_there s.view k)
   value_among_there n (k ∷ m ∷ rest) = tt
 
   value_there : (n : ℕ) (name : List ℕ) → IsMeant n (value_meant s.view name)
@@ -245,7 +282,7 @@ module _ (s : BodyContext) where
   IsMeantCall args (resolution.Property h) = Unit {0}
   IsMeantCall args (resolution.Call c) = IsCallable c × (length c.candidate.params ≡ length args)
   IsMeantCall args (resolution.Type k) = Unit {0}
-  IsMeantCall args (resolution.Enumeration k) = Unit {0}
+  IsMeantCall args (resolution.Enumeration k) = IsSome (entry_at s.view k)
   IsMeantCall args (resolution.Value v) = Unit {0}
   IsMeantCall args (resolution.Refused why) = Unit {0}
 
@@ -277,20 +314,22 @@ module _ (s : BodyContext) where
   or_unknown args false r h = h
 
   -- an enumeration is no function
-  enumeration_there : (k : ℕ) (args : List ArgType) (b : Bool) → IsMeantCall args (if b then resolution.Enumeration k else resolution.Refused kind.NoMatch)
-  enumeration_there k args true = tt
-  enumeration_there k args false = tt
+  enumeration_there : (k : ℕ) (args : List ArgType) (b : Bool) → IsSome (entry_at s.view k)
+      → IsMeantCall args (if b then resolution.Enumeration k else resolution.Refused kind.NoMatch)
+  enumeration_there k args true h = h
+  enumeration_there k args false h = tt
 
-  by_name : IsBuiltContext s → (name : List ℕ) (args : List ArgType) (d : Named) → IsMeantCall args (called_by (scope_of s) name args d)
-  by_name built name args (named.Object t) = those_there kind.NoMatch (makers_of (scope_of s) t) args (makers_there built t)
-  by_name built name args (named.Enumeration k) = enumeration_there k args (takes_number args)
-  by_name built name args named.Unknown =
+  by_name : (built : IsBuiltContext s) (name : List ℕ) (args : List ArgType) (d : Named) → IsNameThere (space_of s) built.few d
+      → IsMeantCall args (called_by (scope_of s) name args d)
+  by_name built name args (named.Object t) h = those_there kind.NoMatch (makers_of (scope_of s) t) args (makers_there built t)
+  by_name built name args (named.Enumeration k) h = enumeration_there k args (takes_number args) h
+  by_name built name args named.Unknown h =
       let cs = functions_of (scope_of s) name in
       or_unknown args (is_empty cs) _ (those_there kind.NoMatch cs args (functions_there built name))
 
   pub call_there : IsBuiltContext s → (name : List ℕ) (args : List ArgType) → IsMeantCall args (resolution_of (scope_of s) name (asks.Call args))
   unfolding called_name
-  call_there built name args = by_name built name args (type_of_name (space_of_names s.view s.names) name)
+  call_there built name args = by_name built name args (type_of_name (space_of s) name) (name_there (space_of s) built.few name)
 
   -- on a receiver of the type of number t
   pub best_method_there : (cs : List Callable) (t : ℕ) (c : Bool) (args : List ArgType) → Every IsCallable cs

@@ -2,3 +2,4 @@ pub mod Views
 pub mod Checked
 pub mod Parts
 pub mod Built
+pub mod Seen

@@ -19,6 +19,7 @@ ghost use Rattle.ang_check_sound.specs.Views.{Entitled};
 ghost use Rattle.ang_check_sound.specs.Checked.{module_in, HasNames};
 ghost use Rattle.ang_check_sound.specs.Parts.{IsPartOf};
 ghost use Rattle.ang_check_sound.specs.Built.{IsBuiltContext, HasThis};
+ghost use Rattle.ang_check_sound.specs.Seen.{SeesUses};
 
 /// The resolved tree of scripts without errors, with the names that `declare` gives for them, is sound: its
 /// locals are alive, its functions and globals are there, each call has an argument for each parameter, and what
@@ -77,6 +78,16 @@ pub fn each_part_is_judged()
     ensures judged { (V : RegistrationList) (names : Names) (sources : List Source)
         → names ≡ names_of V (declarations_of sources)
         → length (judgements V names sources) ≡ length (parts_of sources) }
+{}
+
+/// No number that it uses is that of a blank: the view has each entry that the tree asks or names, and each type of the
+/// host that its declarations name. So all of these are left where the view is narrowed to them.
+pub fn each_use_is_seen()
+    ensures seen { (V : RegistrationList) (names : Names) (sources : List Source)
+        → TakesValues V
+        → length V ≤ first_family
+        → names ≡ names_of V (declarations_of sources)
+        → body_refusals V names sources ≡ [] → SeesUses V (program_of V names sources) }
 {}
 
 /// What the view of a mask has is registered, and the mask sees it.

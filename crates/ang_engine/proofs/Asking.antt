@@ -13,7 +13,9 @@ use Rattle.ang_host.specs.Meanings.{Meanings}
 use Rattle.ang_host.specs.Events.{DriversFollow}
 use Rattle.ang_host.proofs.Events.{AllFollow-none}
 use Rattle.ang_view.specs.Registration.{RegistrationList}
-use Rattle.ang_engine.specs.Roles.{roles_of}
+use Rattle.ang_view.specs.Groups.{Grouped}
+use Rattle.ang_engine.specs.Roles.{AreRoles, roles_of}
+use Rattle.ang_engine.proofs.Roles.{own_roles}
 use Rattle.ang_meaning.specs.World.{World as RunWorld}
 use Rattle.ang_meaning.specs.Counting.{IsCounted}
 use Rattle.ang_heap.specs.declared.store.Store.{Store}
@@ -64,19 +66,21 @@ module _ {V : Type 0} {P : V → Type 0} (m : Meanings P) where
 
   -- nothing was asked
   pub asked-nothing : (R : RegistrationList) (after : World) (s : Store V P) → IsKept m s → IsCounted [] (world_of m s) → HasAsked m R after [] s s
-  asked-nothing R after s kept counted = record { entitled = All-nil (IsEntitled R after); follow = AllFollow-none _ _ _ (roles_of R) (members s.drivers); within = within_none m s; kept = kept; counted = counted }
+  asked-nothing R after s kept counted = record { entitled = All-nil (IsEntitled R after); follow = λ roles fit. AllFollow-none _ _ _ roles (members s.drivers); within = within_none m s; kept = kept; counted = counted }
 
   module _ (R : RegistrationList) (s t : Store V P) (before after : EventBuffer) (first : listed_in before ≡ []) (ready : IsReady m (record s { events = before }))
       (counted : IsCounted [] (world_of m s)) where
-    asked-by : (ms : List RunModule) (w : World) → HasRunOn m ms (record s { events = before }) (record t { events = after }) → AgreesWith (roles_of R) ms
+    asked-by : (ms : List RunModule) (w : World) → HasRunOn m ms (record s { events = before }) (record t { events = after }) → ((roles : List Role) → AreRoles roles R → AgreesWith roles ms)
         → (AllByRecursion (IsAskedIn ms) (listed_in after) → All (IsEntitled R w) (listed_in after)) → HasAsked m R w (listed_in after) s t
     asked-by ms w h agrees entitled =
-        let p = (h.moves (roles_of R) agrees).parts in
-        let more : listed_in after ≡ p.more = p.events ∙ ap (λ es. es ++ p.more) first in
+        let own = h.moves (roles_of R) (agrees (roles_of R) (own_roles R)) in
         record {
           entitled = entitled (h.asked (subst (λ es. AllByRecursion (IsAskedIn ms) es) (sym first) tt));
-          follow = subst (λ es. DriversFollow m (roles_of R) (members s.drivers) es (members t.drivers)) (sym more) p.follow;
-          within = within_moves m (roles_of R) s t before after first ready (h.moves (roles_of R) agrees);
+          follow = λ roles fit.
+              let p = (h.moves roles (agrees roles fit)).parts in
+              let more : listed_in after ≡ p.more = p.events ∙ ap (λ es. es ++ p.more) first in
+              subst (λ es. DriversFollow m roles (members s.drivers) es (members t.drivers)) (sym more) p.follow;
+          within = within_moves m (roles_of R) s t before after first ready own;
           kept = kept-same t after (h.ready ready).kept;
           counted = h.counted counted;
         }
@@ -86,18 +90,18 @@ module _ {V : Type 0} {P : V → Type 0} (m : Meanings P) where
         → HasRunOn m (modules_of ls) (record s { events = before }) (record t { events = after })
         → HasAsked m R (left_to (record { places = places_of xs ks; order = order }) r) (listed_in after) s t
     asked-run xs ls ks order r zip apart h =
-        asked-by (modules_of ls) (left_to (record { places = places_of xs ks; order = order }) r) h (roles_agree R xs ls zip)
+        asked-by (modules_of ls) (left_to (record { places = places_of xs ks; order = order }) r) h (λ roles fit. roles_agree roles R xs ls fit zip)
         (λ es. all_entitled R xs ls ks order r zip apart (listed_in after) es)
 
     pub heard-run : (xs : List (Option Module)) (ls : List (Option LoadedModule)) → AllZip (IsSoundPlace R) xs ls → HasRunOn m (modules_of ls) (record s { events = before }) (record t { events = after })
         → is_heard after ≡ is_heard before
-    heard-run xs ls zip h = (h.moves (roles_of R) (roles_agree R xs ls zip)).heard
+    heard-run xs ls zip h = (h.moves (roles_of R) (roles_agree (roles_of R) R xs ls (own_roles R) zip)).heard
 
     -- none has run
     pub asked-ends : (w : World) → HasRunOn m [] (record s { events = before }) (record t { events = after }) → HasAsked m R w (listed_in after) s t
-    asked-ends w h = asked-by [] w h (agrees_none (roles_of R)) (λ es. ends_entitled R w (listed_in after) es)
+    asked-ends w h = asked-by [] w h (λ roles fit. agrees_none roles) (λ es. ends_entitled R w (listed_in after) es)
 
-  pub applied-asked : (R : RegistrationList) (w v : World) (c : Command) (reply : Reply) (s t : Store V P)
-      → Takes R w c reply v → HasAsked m R v reply.events s t → IfRefusedAtOnce reply.outcome (members t.drivers ≡ members s.drivers)
+  pub applied-asked : (R : Grouped) (w v : World) (c : Command) (reply : Reply) (s t : Store V P)
+      → Takes R w c reply v → HasAsked m R.entries v reply.events s t → IfRefusedAtOnce reply.outcome (members t.drivers ≡ members s.drivers)
       → Applied m R w (members s.drivers) c reply v (members t.drivers)
   applied-asked R w v c reply s t takes asked refused = record { takes = takes; entitled = asked.entitled; follow = asked.follow; refused = refused }

@@ -1,14 +1,16 @@
 -- An engine that begins: nothing lives, and nothing is held.
-use Rattle.std.proofs.Common.{false, ◌≡◌, ◌+◌, ℕ, refl, sym, ap, ◌∙◌, subst, List, [], length, arith, Some}
+use Rattle.std.proofs.Common.{Bool, true, false, ◌≡◌, ◌+◌, ℕ, refl, sym, ap, ◌∙◌, subst, List, [], length, arith, Some}
 use Rattle.std.specs.FinMap as map
 use Rattle.std.specs.FinMap.{get-empty}
 use Rattle.std.specs.Ordering.{nat_cmp}
-use Rattle.std.specs.Prelude.{slice_get, slice_index_or}
+use Rattle.std.specs.Prelude.{if◌then◌else◌, slice_get, slice_index_or}
 use Rattle.std.specs.List.{AllZip}
 use Rattle.ang_host.specs.declared.event.HostEvent.{HostEvent}
 use Rattle.ang_host.specs.State.{State, count_of}
 use Rattle.ang_host.specs.Members.{AreFresh}
 use Rattle.ang_view.specs.Registration.{RegistrationList}
+use Rattle.ang_registry.specs.Groups.{all_ended, with_ended}
+use Rattle.ang_registry.specs.Registrations.{Registrations}
 use Rattle.ang_meaning.specs.declared.slot.Slot.{Slot}
 use Rattle.ang_meaning.specs.World.{World as RunWorld, Bounds, ScriptObjects}
 use Rattle.ang_meaning.specs.Counting.{IsCounted, counts_by}
@@ -21,6 +23,15 @@ use Rattle.ang_engine_modules.specs.States.{places_of, states_in}
 use Rattle.ang_engine_modules.specs.Sound.{HaveGlobals}
 use Rattle.ang_engine.specs.Sound.{IsSoundPlace, AreSoundModules}
 use Rattle.ang_engine.proofs.States.{counts_fresh, ready_fresh}
+
+-- ---- a registry of which no group is open
+
+pub ended_entries : (r : Registrations) → (all_ended r).entries ≡ r.entries
+ended_entries r = by r.is_open
+  where
+    by : (b : Bool) → (if b then with_ended r else r).entries ≡ r.entries
+    by true = refl
+    by false = refl
 
 -- ---- a machine on fresh drivers, without script objects and globals
 

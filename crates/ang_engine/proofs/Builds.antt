@@ -25,6 +25,7 @@ use Rattle.ang_engine_modules.specs.declared.reply.Refusal.TheVariants.{BuildMem
 use Rattle.ang_engine_modules.specs.World.{Program, ModuleState, ModuleStates, World, placed, all_unbound_from, built_in, running, left_to, globals_ended}
 use Rattle.ang_engine.specs.Engines.{resolved_in}
 use Rattle.ang_engine_modules.specs.States.{program_in}
+use Rattle.ang_engine_build.specs.Narrowed.{narrowed}
 use Rattle.ang_engine.specs.Step.{Leads, after_errors, errors_reply, emptied, with_program, program_over, globals_begun, started, initialized, after_build, build, fault_told}
 use Rattle.ang_engine_modules.specs.Commands.{after_run, reply_of}
 use Rattle.ang_engine.specs.Outcomes.{IsCompiled, HasStarted, refused_by, reply_to_build}
@@ -104,7 +105,7 @@ module _ (R : RegistrationList) (w : World) (i : ℕ) (m : ModuleState) (budget 
       subst (λ rows. Leads (build R w i m budget) (errors_reply u.events es rows) (left_to (placed others i (emptied m)) u)) (sym d) (build-errors es c)
   build-refused U no.Memory c d = build-memory
 
-  module _ (l : LoadedModule) (view : l.view ≡ seen R m.mask) (unbound : l.links ≡ map (λ h. None) l.tree.imports) (c : IsCompiled (Ok l) (build_of (seen R m.mask) m.sections)) where
+  module _ (l : LoadedModule) (view : l.view ≡ narrowed (seen R m.mask) (view_typed l.tree)) (unbound : l.links ≡ map (λ h. None) l.tree.imports) (c : IsCompiled (Ok l) (build_of (seen R m.mask) m.sections)) where
     loaded-over : program_over (seen R m.mask) (resolved_in l) ≡ program_in l
     loaded-over =
         ap (λ V. record { view = V; names = l.names; tree = view_typed l.tree; links = map (λ h. None) l.tree.imports }) (sym view)

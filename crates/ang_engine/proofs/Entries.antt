@@ -13,9 +13,10 @@ use Rattle.ang_host.specs.Events.{role_at}
 use Rattle.ang_view.specs.declared.entry.Entry.{Entry}
 use Rattle.ang_view.specs.declared.entry.EntryKind.{EntryKind}
 use Rattle.ang_view.specs.declared.entry.EntryKind.TheVariants.{HostType, Factory, Method, Property, Function, Global, Enumeration, EnumValue}
+use Rattle.ang_view.specs.Only.{IsWithin}
 use Rattle.ang_view.specs.Registration.{RegistrationList, entry_at, is_seen, seen_entry, seen}
-use Rattle.ang_engine.specs.Roles.{roles_of, role_by}
-use Rattle.ang_engine.proofs.Roles.{role_at-entry}
+use Rattle.ang_host.specs.declared.event.Role.{Role}
+use Rattle.ang_engine.specs.Roles.{AreRoles, role_by}
 use Rattle.ang_view.proofs.Seen.{entry_at-seen}
 use Rattle.ang_meaning.specs.declared.host.HostUse.{HostUse}
 use Rattle.ang_meaning.specs.World.{World as RunWorld}
@@ -27,7 +28,8 @@ use Rattle.ang_engine_modules.specs.declared.module.Module.{Module}
 use Rattle.ang_engine_modules.specs.World.{ModuleState, World, has_name, module_in, left_to}
 use Rattle.ang_engine_modules.specs.States.{state_of, place_of, places_of}
 use Rattle.ang_engine.specs.Step.{IsEntitled}
-use Rattle.ang_engine.specs.Sound.{IsSoundPlace, HaveDrivers, has_driver}
+use Rattle.ang_registry.specs.Drivers.{has_driver}
+use Rattle.ang_engine.specs.Sound.{IsSoundPlace, HaveDrivers}
 
 -- ---- what a mask shows
 
@@ -54,19 +56,19 @@ role_same Global f e = refl
 role_same Enumeration f e = cc
 role_same (EnumValue v) f e = cc
 
-asked_by : (b : Bool) (R : RegistrationList) (n : ℕ) (x : Entry) (u : HostUse) → entry_at R n ≡ Some x → is_asked x.kind ≡ b → (if b then Some (use_of x) else None) ≡ Some u
-    → role_at (roles_of R) n ≡ u.role
-asked_by false R n x u at t e = cc
-asked_by true R n x u at t e =
+asked_by : (b : Bool) (roles : List Role) (R : RegistrationList) (n : ℕ) (x : Entry) (u : HostUse) → AreRoles roles R → entry_at R n ≡ Some x → is_asked x.kind ≡ b
+    → (if b then Some (use_of x) else None) ≡ Some u → role_at roles n ≡ u.role
+asked_by false roles R n x u fit at t e = cc
+asked_by true roles R n x u fit at t e =
     let same : use_of x ≡ u = cc in
-    role_at-entry R n x at ∙ role_same x.kind x.f t ∙ ap (λ y. y.role) same
+    fit n x at t ∙ role_same x.kind x.f t ∙ ap (λ y. y.role) same
 
-asked_role : (R : RegistrationList) (mask n : ℕ) (o : Option Entry) (u : HostUse) → entry_at (seen R mask) n ≡ o → asked_as o ≡ Some u → role_at (roles_of R) n ≡ u.role
-asked_role R mask n None u at e = cc
-asked_role R mask n (Some x) u at e = asked_by (is_asked x.kind) R n x u (registered R mask n x at) refl e
+asked_role : (roles : List Role) (R : RegistrationList) (mask n : ℕ) (o : Option Entry) (u : HostUse) → AreRoles roles R → entry_at (seen R mask) n ≡ o → asked_as o ≡ Some u → role_at roles n ≡ u.role
+asked_role roles R mask n None u fit at e = cc
+asked_role roles R mask n (Some x) u fit at e = asked_by (is_asked x.kind) roles R n x u fit (registered R mask n x at) refl e
 
-pub role_seen : (R : RegistrationList) (mask n : ℕ) (u : HostUse) → use_in (seen R mask) n ≡ Some u → role_at (roles_of R) n ≡ u.role
-role_seen R mask n u e = asked_role R mask n (entry_at (seen R mask) n) u refl e
+pub role_seen : (roles : List Role) (R : RegistrationList) (mask n : ℕ) (u : HostUse) → AreRoles roles R → use_in (seen R mask) n ≡ Some u → role_at roles n ≡ u.role
+role_seen roles R mask n u fit e = asked_role roles R mask n (entry_at (seen R mask) n) u fit refl e
 
 -- ---- what the modules see
 
@@ -77,19 +79,31 @@ pub record IsShownAt (R : RegistrationList) (ms : List (Option Module)) (ls : Li
   pub name : (module_at (modules_of ls) m).name ≡ own.name
   pub view : Q (seen R own.built_mask.0)
 
--- What a module that runs sees is what its built mask shows.
-pub shown_at : (R : RegistrationList) (ms : List (Option Module)) (ls : List (Option LoadedModule)) (Q : RegistrationList → Type 0) → (Q [] → ⊥) → AllZip (IsSoundPlace R) ms ls → (m : ℕ)
+-- What a module that runs has of the host its built mask shows.
+pub shown_at : (R : RegistrationList) (ms : List (Option Module)) (ls : List (Option LoadedModule)) (Q : RegistrationList → Type 0) → ((V W : RegistrationList) → IsWithin V W → Q V → Q W) → (Q [] → ⊥)
+    → AllZip (IsSoundPlace R) ms ls → (m : ℕ)
     → Q (module_at (modules_of ls) m).view → IsShownAt R ms ls m Q
-shown_at R [] [] Q none h m q = absurd (none q)
-shown_at R [] (l ∷ ls) Q none h m q = absurd h
-shown_at R (x ∷ ms) [] Q none h m q = absurd h
-shown_at R (None ∷ ms) (None ∷ ls) Q none h zero q = absurd (none q)
-shown_at R (None ∷ ms) (Some l ∷ ls) Q none h zero q = absurd h.0
-shown_at R (Some x ∷ ms) (None ∷ ls) Q none h zero q = absurd (none q)
-shown_at R (Some x ∷ ms) (Some l ∷ ls) Q none h zero q = record { own = x; there = refl; name = h.0.name; view = subst Q h.0.view q }
-shown_at R (x ∷ ms) (l ∷ ls) Q none h (suc m) q =
-    let r = shown_at R ms ls Q none h.1 m q in
+shown_at R [] [] Q up none h m q = absurd (none q)
+shown_at R [] (l ∷ ls) Q up none h m q = absurd h
+shown_at R (x ∷ ms) [] Q up none h m q = absurd h
+shown_at R (None ∷ ms) (None ∷ ls) Q up none h zero q = absurd (none q)
+shown_at R (None ∷ ms) (Some l ∷ ls) Q up none h zero q = absurd h.0
+shown_at R (Some x ∷ ms) (None ∷ ls) Q up none h zero q = absurd (none q)
+shown_at R (Some x ∷ ms) (Some l ∷ ls) Q up none h zero q = record { own = x; there = refl; name = h.0.name; view = up l.view (seen R x.built_mask.0) h.0.stands q }
+shown_at R (x ∷ ms) (l ∷ ls) Q up none h (suc m) q =
+    let r = shown_at R ms ls Q up none h.1 m q in
     record { own = r.own; there = r.there; name = r.name; view = r.view }
+
+use_up : (V W : RegistrationList) (n : ℕ) (u : HostUse) (o : Option Entry) → entry_at V n ≡ o → IsWithin V W → asked_as o ≡ Some u → use_in W n ≡ Some u
+use_up V W n u None at within e = cc
+use_up V W n u (Some x) at within e = ap asked_as (within n x at) ∙ e
+
+some_is : (o : Option Entry) (x : Entry) → o ≡ Some x → IsSome o
+some_is o x e = let y : IsSome o = cc in y
+
+some_up : (V W : RegistrationList) (n : ℕ) (o : Option Entry) → entry_at V n ≡ o → IsWithin V W → IsSome o → IsSome (entry_at W n)
+some_up V W n None at within h = absurd (let y : ⊥ = cc in y)
+some_up V W n (Some x) at within h = some_is (entry_at W n) x (within n x at)
 
 no_use : (n : ℕ) (u : HostUse) → use_in [] n ≡ Some u → ⊥
 no_use n u e = let y : ⊥ = cc in y
@@ -121,15 +135,15 @@ driver_in R mask n count (Some x) u have at e = driver_by (is_asked x.kind) R n 
 pub drivers_there : (R : RegistrationList) (ms : List (Option Module)) (ls : List (Option LoadedModule)) (count : ℕ) → AllZip (IsSoundPlace R) ms ls → HaveDrivers R count
     → AreDriversThere (modules_of ls) count
 drivers_there R ms ls count h have m n u e =
-    let r = shown_at R ms ls (λ V. use_in V n ≡ Some u) (no_use n u) h m e in
+    let r = shown_at R ms ls (λ V. use_in V n ≡ Some u) (λ V W within q. use_up V W n u (entry_at V n) refl within q) (no_use n u) h m e in
     driver_in R r.own.built_mask.0 n count (entry_at (seen R r.own.built_mask.0) n) u have refl r.view
 
 -- and asked by their roles
-pub roles_agree : (R : RegistrationList) (ms : List (Option Module)) (ls : List (Option LoadedModule)) → AllZip (IsSoundPlace R) ms ls → AgreesWith (roles_of R) (modules_of ls)
-roles_agree R ms ls h = record {
+pub roles_agree : (roles : List Role) (R : RegistrationList) (ms : List (Option Module)) (ls : List (Option LoadedModule)) → AreRoles roles R → AllZip (IsSoundPlace R) ms ls → AgreesWith roles (modules_of ls)
+roles_agree roles R ms ls fit h = record {
   each = λ m n u e.
-      let r = shown_at R ms ls (λ V. use_in V n ≡ Some u) (no_use n u) h m e in
-      role_seen R r.own.built_mask.0 n u r.view;
+      let r = shown_at R ms ls (λ V. use_in V n ≡ Some u) (λ V W within q. use_up V W n u (entry_at V n) refl within q) (no_use n u) h m e in
+      role_seen roles R r.own.built_mask.0 n u fit r.view;
 }
 
 -- ---- host calls
@@ -204,7 +218,7 @@ module _ (R : RegistrationList) (ms : List (Option Module)) (ls ks : List (Optio
   -- What one of these modules asks is entitled, whatever is built of them now.
   pub entitled_one : (e : HostEvent) → IsAskedIn (modules_of ls) e → IsEntitled R after e
   entitled_one (Called caller entity driver object args reply) h =
-      let s = shown_at R ms ls (λ V. IsSome (entry_at V entity.0)) (some_none entity.0) zip h.0 h.2 in (
+      let s = shown_at R ms ls (λ V. IsSome (entry_at V entity.0)) (λ V W within q. some_up V W entity.0 (entry_at V entity.0) refl within q) (some_none entity.0) zip h.0 h.2 in (
         h.0,
         ap (λ n. position (has_name n) (places_of ms ks)) (h.1 ∙ s.name) ∙ named_there ms ks apart h.0 s.own s.there,
         subst (λ (o : Option ModuleState). IsSome (entry_at (seen R (module_in o).built_mask) entity.0)) (sym (place_read ms ks h.0 s.own s.there)) s.view,

@@ -122,7 +122,7 @@ linked_each R index link [] [] i h = tt
 linked_each R index link [] (l ∷ ls) i h = absurd h
 linked_each R index link (m ∷ ms) [] i h = absurd h
 linked_each R index link (m ∷ ms) (l ∷ ls) zero h =
-    (place_changed (IsBuiltBy R) (with_link index link) (λ name mask x b. record { name = b.name; view = b.view; sections = b.sections; built = b.built }) m l h.0, h.1)
+    (place_changed (IsBuiltBy R) (with_link index link) (λ name mask x b. record { name = b.name; sight = b.sight; sections = b.sections; built = b.built; view = b.view; stands = b.stands }) m l h.0, h.1)
 linked_each R index link (m ∷ ms) (l ∷ ls) (suc i) h = (h.0, linked_each R index link ms ls i h.1)
 
 -- other code in the same places

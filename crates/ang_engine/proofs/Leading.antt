@@ -3,7 +3,7 @@ use Rattle.std.proofs.Common.{◌≡◌, refl, ap, sym, ◌∙◌, subst, inl, i
 use Rattle.std.specs.Prelude.{Result, Ok, Err, IsSome, is_some, if◌then◌else◌}
 use Rattle.ang_kinds.specs.declared.fault.Fault.{Fault}
 use Rattle.ang_host.specs.declared.event.HostEvent.{HostEvent}
-use Rattle.ang_view.specs.Registration.{RegistrationList}
+use Rattle.ang_view.specs.Groups.{Grouped}
 use Rattle.ang_meaning.specs.declared.slot.Slot.{Slot}
 use Rattle.ang_meaning.specs.World.{Input, Room}
 use Rattle.ang_meaning.specs.Told.{has_room, stopped_by}
@@ -53,11 +53,11 @@ leads-same go to reply v w h e l = record {
 -- ---- a whole command
 
 -- a command that may be refused for want of memory
-step-granted : (R : RegistrationList) (w : World) (c : Command) (is : List Input) → may_want_memory c ≡ true → step R w c is ≡ granted R w c is
+step-granted : (R : Grouped) (w : World) (c : Command) (is : List Input) → may_want_memory c ≡ true → step R w c is ≡ granted R w c is
 step-granted R w c is wants = ap (λ b. if b then (granted R w c is) else (judged R w c is)) wants
 
 -- there was memory, and it was judged
-pub takes-judged : (R : RegistrationList) (w v : World) (c : Command) (reply : Reply) → may_want_memory c ≡ true → Leads (judged R w c) reply v → Takes R w c reply v
+pub takes-judged : (R : Grouped) (w v : World) (c : Command) (reply : Reply) → may_want_memory c ≡ true → Leads (judged R w c) reply v → Takes R w c reply v
 takes-judged R w v c reply wants l = record {
   used = Room true ∷ l.used;
   tells = λ rest. step-granted R w c (Room true ∷ (l.used ++ rest)) wants ∙ l.tells rest;
@@ -66,7 +66,7 @@ takes-judged R w v c reply wants l = record {
 }
 
 -- there was none before anything was changed
-pub takes-memory : (R : RegistrationList) (w v : World) (c : Command) → may_want_memory c ≡ true → v ≡ w → Takes R w c (reply_of (Refused Memory) [] []) v
+pub takes-memory : (R : Grouped) (w v : World) (c : Command) → may_want_memory c ≡ true → v ≡ w → Takes R w c (reply_of (Refused Memory) [] []) v
 takes-memory R w v c wants same = record {
   used = Room false ∷ [];
   tells = λ rest. step-granted R w c (Room false ∷ rest) wants ∙ ap (λ x. Some (record { reply = reply_of (Refused Memory) [] []; world = x; left = rest })) (sym same);
@@ -74,25 +74,25 @@ takes-memory R w v c wants same = record {
   answers = refl;
 }
 
-pub refused-takes : (R : RegistrationList) (w v : World) (c : Command) (why : Refusal) → may_want_memory c ≡ true → IsRefused why (judged R w c) w v → Takes R w c (reply_of (Refused why) [] []) v
+pub refused-takes : (R : Grouped) (w v : World) (c : Command) (why : Refusal) → may_want_memory c ≡ true → IsRefused why (judged R w c) w v → Takes R w c (reply_of (Refused why) [] []) v
 refused-takes R w v c why wants (inl memory, same) = subst (λ x. Takes R w c (reply_of (Refused x) [] []) v) (sym memory) (takes-memory R w v c wants same)
 refused-takes R w v c why wants (inr so, same) =
     subst (λ x. Takes R w c (reply_of (Refused why) [] []) x) (sym same) (takes-judged R w w c _ wants (leads-at_once (judged R w c) (Refused why) w so))
 
 -- it is done or refused
-pub takes-done : {U : Type 0} (R : RegistrationList) (w v : World) (c : Command) (r : Result U Refusal) → may_want_memory c ≡ true → IsDone r (judged R w c) w v
+pub takes-done : {U : Type 0} (R : Grouped) (w v : World) (c : Command) (r : Result U Refusal) → may_want_memory c ≡ true → IsDone r (judged R w c) w v
     → Takes R w c (reply_of (outcome_of r) [] []) v
 takes-done R w v c (Ok u) wants done = takes-judged R w v c _ wants (leads-at_once (judged R w c) (Done None) v done)
 takes-done R w v c (Err why) wants done = refused-takes R w v c why wants done
 
 -- a call was run or refused
-pub takes-called : (R : RegistrationList) (w v : World) (c : Command) (r : Result Outcome Refusal) (es : List HostEvent) → may_want_memory c ≡ true → IsCalled r es (judged R w c) w v
+pub takes-called : (R : Grouped) (w v : World) (c : Command) (r : Result Outcome Refusal) (es : List HostEvent) → may_want_memory c ≡ true → IsCalled r es (judged R w c) w v
     → Takes R w c (reply_to_call r es) v
 takes-called R w v c (Ok outcome) es wants done = takes-judged R w v c _ wants done
 takes-called R w v c (Err why) es wants done = refused-takes R w v c why wants done
 
 -- a module was discarded or it was refused
-pub takes-discarded : {U : Type 0} (R : RegistrationList) (w v : World) (c : Command) (r : Result U Refusal) (es : List HostEvent) → may_want_memory c ≡ true → IsDiscarded r es (judged R w c) w v
+pub takes-discarded : {U : Type 0} (R : Grouped) (w v : World) (c : Command) (r : Result U Refusal) (es : List HostEvent) → may_want_memory c ≡ true → IsDiscarded r es (judged R w c) w v
     → Takes R w c (reply_to_discard r es) v
 takes-discarded R w v c (Ok u) es wants done = takes-judged R w v c _ wants done
 takes-discarded R w v c (Err why) es wants done = refused-takes R w v c why wants done
@@ -100,7 +100,7 @@ takes-discarded R w v c (Err why) es wants done = refused-takes R w v c why want
 -- ---- a command that wants no memory
 
 -- nobody is asked
-pub takes-without : {U : Type 0} (R : RegistrationList) (w v : World) (c : Command) (r : Result U Refusal) → may_want_memory c ≡ false → IsDoneWithoutMemory r (judged R w c) w v
+pub takes-without : {U : Type 0} (R : Grouped) (w v : World) (c : Command) (r : Result U Refusal) → may_want_memory c ≡ false → IsDoneWithoutMemory r (judged R w c) w v
     → Takes R w c (reply_of (outcome_of r) [] []) v
 takes-without R w v c (Ok u) wants done =
     leads-at_once (step R w c) (Done None) v (λ rest. ap (λ b. if b then (granted R w c rest) else (judged R w c rest)) wants ∙ done rest)

@@ -3,6 +3,8 @@ pub mod Between
 pub mod States
 pub mod Beginning
 pub mod Entries
+pub mod Standing
+pub mod Closing
 pub mod Leading
 pub mod Places
 pub mod Linking
@@ -26,3 +28,5 @@ pub mod Limiting
 pub mod Preparing
 pub mod Checks
 pub mod Moved
+pub mod Lists
+pub mod LeavingGroups

@@ -110,11 +110,11 @@ module _ (xs : List (Option LoadedModule)) (m i j n : ℕ) (p q : LoadedModule) 
       ∙ ap (λ l. option_map (λ (h : Heading). passings_of h.parameters) (slice_get l i)) imports
       ∙ ap (option_map (λ (h : Heading). passings_of h.parameters)) (get-map import_heading p.names.imports i import there)
 
-  function_so : (ss : List Source) → HasNames q.view q.names ss (view_typed q.tree) → slice_get (passings_in (module_at (modules_of xs) j).tree) n ≡ Some ways_taken
-  function_so ss has =
+  function_so : (V : RegistrationList) (ss : List Source) → HasNames V q.names ss (view_typed q.tree) → slice_get (passings_in (module_at (modules_of xs) j).tree) n ≡ Some ways_taken
+  function_so V ss has =
       let ps : List TypedParameter = typed_parameters g.function in
       let tree : t.Program = view_typed q.tree in
-      let named : slice_get (module_in q.view q.names).parameters n ≡ Some ps = get-front (map typed_parameters q.names.functions) _ n ps (get-map typed_parameters q.names.functions n g.function g.at) in
+      let named : slice_get (module_in V q.names).parameters n ≡ Some ps = get-front (map typed_parameters q.names.functions) _ n ps (get-map typed_parameters q.names.functions n g.function g.at) in
       let here = map-get (λ (f : t.TypedFunction). f.parameters) tree.functions n ps (ap (λ l. slice_get l n) has.parameters ∙ named) in
       ap (λ x. slice_get (passings_in x.tree) n) (module_loaded xs j ∙ ap module_of exporter)
       ∙ get-front (map (λ (f : t.TypedFunction). passings_of f.parameters) tree.functions) (map (λ c. []) (initializers_from 0 tree.globals)) n (passings_of here.item.parameters)
@@ -124,9 +124,9 @@ module _ (xs : List (Option LoadedModule)) (m i j n : ℕ) (p q : LoadedModule) 
 
   pub link_fits : (R : RegistrationList) (own other : List ℕ) (mask sight : ℕ) → IsBuiltBy R own mask p → IsBuiltBy R other sight q → LinkFits (modules_of xs) m i (routine j n)
   link_fits R own other mask sight a b =
-      let named = program-named q.view b.sections (resolved_in q) b.built in
+      let named = program-named b.sight b.sections (resolved_in q) b.built in
       record {
         params = ways_taken;
-        declared = declared_so (program_imports p.view a.sections (resolved_in p) a.built);
-        function = function_so named.sources named.names;
+        declared = declared_so (program_imports a.sight a.sections (resolved_in p) a.built);
+        function = function_so b.sight named.sources named.names;
       }

@@ -47,7 +47,7 @@ program_there ms ls i o there e =
 
 -- a tree has what the names of a loaded module declare
 abbrev AreNamed : LoadedModule → t.Program → Type 0
-AreNamed l p = (ss : List Source) × HasNames l.view l.names ss p
+AreNamed l p = (V : RegistrationList) × (ss : List Source) × HasNames V l.names ss p
 
 loaded_named : (R : RegistrationList) (m : Option Module) (o : Option LoadedModule) (l : LoadedModule) → IsSoundPlace R m o → Some l ≡ o → AreNamed l (module_of o).tree
 loaded_named R None None l h e = absurd (none-some l (sym e))
@@ -55,8 +55,8 @@ loaded_named R None (Some k) l h e = absurd h
 loaded_named R (Some m) None l h e = absurd (none-some l (sym e))
 loaded_named R (Some m) (Some k) l h e =
     let same : k ≡ l = same_Some k l (sym e) in
-    let named = program-named k.view h.sections (resolved_in k) h.built in
-    subst (λ x. AreNamed x (view_typed k.tree)) same (named.sources, named.names)
+    let named = program-named h.sight h.sections (resolved_in k) h.built in
+    subst (λ x. AreNamed x (view_typed k.tree)) same (h.sight, named.sources, named.names)
 
 there_named : (R : RegistrationList) (ms : List (Option Module)) (ls : List (Option LoadedModule)) (i : ℕ) (l : LoadedModule) → AllZip (IsSoundPlace R) ms ls → Some l ≡ slice_index_or ls i None
     → AreNamed l (run_module_at (modules_of ls) i).tree
@@ -93,7 +93,7 @@ pub few_families : (R : RegistrationList) (ms : List (Option Module)) (ls : List
     → length l.names.families ≤ 256
 few_families R ms ls i l h e =
     let b = (built_there R ms ls i l h e).built in
-    (program-families l.view b.sections (resolved_in l) b.built).few
+    (program-families b.sight b.sections (resolved_in l) b.built).few
 
 -- a function that was chosen takes the arguments that were chosen
 pub takes_chosen : (R : RegistrationList) (ms : List (Option Module)) (ls : List (Option LoadedModule)) (i : ℕ) (l : LoadedModule) (n : ℕ) (vs : List Value) (c : ChosenCall)
@@ -101,7 +101,7 @@ pub takes_chosen : (R : RegistrationList) (ms : List (Option Module)) (ls : List
     → TakesSoMany (modules_of ls) i c.number (length c.args.items)
 takes_chosen R ms ls i l n vs c h e chosen =
     let named = there_named R ms ls i l h e in
-    takes-named l.view l.names named.0 (modules_of ls) i c.number chosen.0 c.args.items named.1 (number-one l.names.functions n vs c.number chosen.0 c.args.items chosen.1)
+    takes-named named.0 l.names named.1 (modules_of ls) i c.number chosen.0 c.args.items named.2 (number-one l.names.functions n vs c.number chosen.0 c.args.items chosen.1)
 
 -- and its value is of the type that the names say
 pub typed_chosen : (R : RegistrationList) (ms : List (Option Module)) (ls : List (Option LoadedModule)) (i : ℕ) (l : LoadedModule) (n : ℕ) (vs : List Value) (c : ChosenCall)
@@ -109,7 +109,7 @@ pub typed_chosen : (R : RegistrationList) (ms : List (Option Module)) (ls : List
     → IsTyped (modules_of ls) l.names i c.number
 typed_chosen R ms ls i l n vs c h e chosen =
     let named = there_named R ms ls i l h e in
-    typed-named l.view l.names named.0 (modules_of ls) i c.number chosen.0 named.1 (number-one l.names.functions n vs c.number chosen.0 c.args.items chosen.1).at
+    typed-named named.0 l.names named.1 (modules_of ls) i c.number chosen.0 named.2 (number-one l.names.functions n vs c.number chosen.0 c.args.items chosen.1).at
 
 -- no function was chosen
 pub chosen_refused : (why : Refusal) (q : Choice) (w : World) (i budget : ℕ) → IsChosen (Err why) q → IsRefused why (call_chosen q w i budget) w w

@@ -30,4 +30,4 @@ places_built R (m ∷ ms) (l ∷ ls) order h =
 pub zip_unbound : (R : RegistrationList) (i : ℕ) (ms : List (Option Module)) (ls : List (Option LoadedModule)) → AllZip (IsSoundPlace R) ms ls → AllZip (IsSoundPlace R) ms (unbound_in i ls)
 zip_unbound R i ms ls h =
     zip_changed (IsSoundPlace R) (option_map (without_links i)) ms ls h
-    (place_changed (IsBuiltBy R) (without_links i) (λ name mask l b. record { name = b.name; view = b.view; sections = b.sections; built = b.built }))
+    (place_changed (IsBuiltBy R) (without_links i) (λ name mask l b. record { name = b.name; sight = b.sight; sections = b.sections; built = b.built; view = b.view; stands = b.stands }))

@@ -5,6 +5,7 @@ use Rattle.ang_kinds.specs.declared.value.Value.{Value}
 use Rattle.ang_host.specs.declared.event.HostEvent.{HostEvent}
 use Rattle.ang_host.specs.Boxes.{members}
 use Rattle.ang_host.specs.Meanings.{Meanings}
+use Rattle.ang_view.specs.Groups.{Grouped}
 use Rattle.ang_view.specs.Registration.{RegistrationList}
 use Rattle.ang_meaning.specs.Counting.{IsCounted}
 use Rattle.ang_heap.specs.declared.store.Store.{Store}
@@ -27,12 +28,12 @@ use Rattle.ang_engine.proofs.Leading.{takes-called, takes-memory}
 not_both : (builds : ℕ → Option ℕ) (p : Prepared) → is_there builds p ≡ true → is_there builds p ≡ false → ⊥
 not_both builds p stays lost = cc
 
-module _ {V : Type 0} {P : V → Type 0} (m : Meanings P) (R : RegistrationList) (builds : ℕ → Option ℕ) (w : World) (p : Prepared) (args : List Value) (budget : ℕ) where
+module _ {V : Type 0} {P : V → Type 0} (m : Meanings P) (R : Grouped) (builds : ℕ → Option ℕ) (w : World) (p : Prepared) (args : List Value) (budget : ℕ) where
   -- memory was refused before anything was changed
   pub prepared-memory : (s : Store V P) (reply : Reply) → is_there builds p ≡ true → reply ≡ reply_of (Refused Memory) [] [] → IsKept m s → IsCounted [] (world_of m s)
       → PreparedApplied m R builds w (members s.drivers) p args budget reply w (members s.drivers)
   prepared-memory s reply stays answered kept counted =
-      let asked = asked-nothing m R w s kept counted in
+      let asked = asked-nothing m R.entries w s kept counted in
       subst (λ x. PreparedApplied m R builds w (members s.drivers) p args budget x w (members s.drivers)) (sym answered)
       (record {
         takes = λ name decl h. takes-memory R w w (Call name decl args budget) refl refl;
@@ -45,7 +46,7 @@ module _ {V : Type 0} {P : V → Type 0} (m : Meanings P) (R : RegistrationList)
   -- it was called, or refused as a call is
   pub prepared-called : (v : World) (s t : Store V P) (reply : Reply) (r : Result Outcome Refusal) (es : List HostEvent) → is_there builds p ≡ true → reply ≡ reply_to_call r es
       → ((name decl : List ℕ) → IsFunctionOf w builds p name decl → IsCalled r es (calling name decl args budget w) w v)
-      → HasAsked m R v (reply_to_call r es).events s t → IfRefusedAtOnce (reply_to_call r es).outcome (members t.drivers ≡ members s.drivers)
+      → HasAsked m R.entries v (reply_to_call r es).events s t → IfRefusedAtOnce (reply_to_call r es).outcome (members t.drivers ≡ members s.drivers)
       → PreparedApplied m R builds w (members s.drivers) p args budget reply v (members t.drivers)
   prepared-called v s t reply r es stays answered done asked refused =
       subst (λ x. PreparedApplied m R builds w (members s.drivers) p args budget x v (members t.drivers)) (sym answered)

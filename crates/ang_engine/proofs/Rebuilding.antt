@@ -12,7 +12,12 @@ use Rattle.ang_host.specs.declared.event.Role.{Role}
 use Rattle.ang_host.specs.Boxes.{members}
 use Rattle.ang_host.specs.Meanings.{Meanings}
 use Rattle.ang_host.proofs.Events.{AllFollow-length}
+use Rattle.ang_view.specs.Only.{IsWithin}
 use Rattle.ang_view.specs.Registration.{RegistrationList, seen}
+use Rattle.ang_view.proofs.Keeping.{only_within}
+use Rattle.ang_typed.specs.View.{view_typed}
+use Rattle.ang_typed.specs.Uses.{uses}
+use Rattle.ang_engine_build.specs.Narrowed.{is_among, narrowed}
 use Rattle.ang_meaning.specs.World.{Input, World as RunWorld, with_inputs}
 use Rattle.ang_meaning.specs.Told.{answers_listed}
 use Rattle.ang_meaning.specs.Counting.{IsCounted}
@@ -34,6 +39,7 @@ use Rattle.ang_engine_modules.specs.Sound.{HasSameName}
 use Rattle.ang_engine_modules.specs.World.{Program, ModuleState, ModuleStates, World, module_named, module_in, module_at, built_in, placed, all_unbound_from, running, left_to, globals_ended}
 use Rattle.ang_engine_modules.specs.States.{program_in, place_of, places_of}
 use Rattle.ang_engine.specs.Roles.{roles_of}
+use Rattle.ang_engine.proofs.Roles.{own_roles}
 use Rattle.ang_engine.specs.Step.{Leads, emptied, with_program, build, build_within, is_budget}
 use Rattle.ang_engine_modules.specs.Commands.{refused}
 use Rattle.ang_engine.specs.Sound.{IsBuiltBy, IsSoundPlace, HaveDrivers}
@@ -55,9 +61,18 @@ use Rattle.ang_engine.proofs.Builds.{build-refused, build-begun, IsPlacedBy}
 
 -- what is built of a module is of its name, and of what its mask shows
 pub waiting-built : (R : RegistrationList) (n : Module) (r : Result LoadedModule NoProgram) (name : List ℕ) (mask : Mask) (sections : List (List ℕ)) → name ≡ n.name → mask ≡ n.built_mask
-    → IsCompiled r (build_of (seen R mask.0) sections) → IfOk r (λ l. l.name ≡ name) → IfOk r (λ l. l.view ≡ seen R mask.0) → IfOk r (λ l. IsBuiltBy R n.name n.built_mask.0 l)
+    → IsCompiled r (build_of (seen R mask.0) sections) → IfOk r (λ l. l.name ≡ name) → IfOk r (λ l. l.view ≡ narrowed (seen R mask.0) (view_typed l.tree)) → IfOk r (λ l. IsBuiltBy R n.name n.built_mask.0 l)
+unfolding narrowed
 waiting-built R n (Ok l) name mask sections same shown c named view =
-    record { name = named ∙ same; view = view ∙ ap (λ k. seen R k.0) shown; sections = sections; built = ap (λ V. build_of V sections) view ∙ c }
+    let here : l.view ≡ narrowed (seen R n.built_mask.0) (view_typed l.tree) = view ∙ ap (λ (k : Mask). narrowed (seen R k.0) (view_typed l.tree)) shown in
+    record {
+      name = named ∙ same;
+      sight = seen R n.built_mask.0;
+      sections = sections;
+      built = ap (λ (k : Mask). build_of (seen R k.0) sections) (sym shown) ∙ c;
+      view = here;
+      stands = subst (λ V. IsWithin V (seen R n.built_mask.0)) (sym here) (only_within (is_among (uses (view_typed l.tree))) (seen R n.built_mask.0));
+    }
 waiting-built R n (Err e) name mask sections same shown c named view = tt
 
 -- ---- the reply
@@ -102,12 +117,6 @@ apart_still ms home n named apart = λ i j p q at bt same.
 pub unbuilt_place : (R : RegistrationList) (n : Option Module) → IsSoundPlace R n None
 unbuilt_place R None = tt
 unbuilt_place R (Some m) = tt
-
--- What is built in a place is over what the mask showed that the module had.
-view_of_place : (R : RegistrationList) (n d : Option Module) (l : LoadedModule) (k : Option LoadedModule) → IsSoundPlace R n (Some l) → place_of n None ≡ Some (emptied (module_in (place_of d k)))
-    → l.view ≡ seen R (module_in (place_of d k)).mask
-view_of_place R None d l k h e = absurd h
-view_of_place R (Some m) d l k h e = h.view ∙ ap (λ p. seen R (module_in p).built_mask) e
 
 -- The place `home` among these, d before and n after: its globals have ended, its code is gone, and no import leads to it.
 module _ {V : Type 0} {P : V → Type 0} (m : Meanings P) (R : RegistrationList) (ms : List (Option Module)) (ls cs : List (Option LoadedModule)) (order : List ℕ) (home budget : ℕ) (n d : Option Module)
@@ -231,7 +240,7 @@ module _ {V : Type 0} {P : V → Type 0} (m : Meanings P) (R : RegistrationList)
 
       -- events are heard as before
       pub begun-heard : (u : Store V P) (gs : EventBuffer) → HasRunOn m (modules_of with_it) (record t { events = fs }) (record u { events = gs }) → is_heard gs ≡ is_heard es
-      begun-heard u gs ran = (ran.moves (roles_of R) (roles_agree R (slice_set ms home n) with_it sound_with)).heard ∙ (moves []).heard
+      begun-heard u gs ran = (ran.moves (roles_of R) (roles_agree (roles_of R) R (slice_set ms home n) with_it (own_roles R) sound_with)).heard ∙ (moves []).heard
 
       pub begun-asked : {U : Type 0} (r : Result U BuildRefused) (ks : List (Option LoadedModule)) (u : Store V P) (gs : EventBuffer) → AreApart (slice_set ms home n)
           → HasStarted (modules_of with_it) home budget (program_in l) now r (world_of m (record u { events = gs }))
@@ -244,29 +253,30 @@ module _ {V : Type 0} {P : V → Type 0} (m : Meanings P) (R : RegistrationList)
           (run-join m (modules_of with_it) (record s { events = es }) (record t { events = fs }) (record u { events = gs })
           (run-ended m (modules_of with_it) home (record s { events = es }) (record t { events = fs }) (ended []) moves) ran))
 
-      view_here : l.view ≡ seen R it.mask
-      view_here =
-          let k = slice_index_or ls home None in
-          view_of_place R n d l k built (empty k) ∙ ap (λ q. seen R (module_in (place_of q k)).mask) (sym at)
-
-      module _ (unbound : l.links ≡ map (λ h. None) l.tree.imports)
-          (c : (k : Option LoadedModule) → IsCompiled (Ok l) (build_of (seen R (module_in (place_of d k)).mask) (module_in (place_of d k)).sections)) where
-        compiled_here : IsCompiled (Ok l) (build_of (seen R it.mask) it.sections)
-        compiled_here =
+      module _ (shown : (k : Option LoadedModule) → l.view ≡ narrowed (seen R (module_in (place_of d k)).mask) (view_typed l.tree)) where
+        view_here : l.view ≡ narrowed (seen R it.mask) (view_typed l.tree)
+        view_here =
             let k = slice_index_or ls home None in
-            subst (λ q. IsCompiled (Ok l) (build_of (seen R (module_in (place_of q k)).mask) (module_in (place_of q k)).sections)) (sym at) (c k)
+            shown k ∙ ap (λ q. narrowed (seen R (module_in (place_of q k)).mask) (view_typed l.tree)) (sym at)
 
-        placed_by : {U : Type 0} (r : Result U BuildRefused) (ks : List (Option LoadedModule)) → OnOk r (ks ≡ with_it) → OnErr r (ks ≡ cs)
-            → IsPlacedBy R old home it budget now has_ended silent l view_here unbound compiled_here r (states_by ks)
-        placed_by (Ok x) ks ok err = ap states_by ok ∙ states_with
-        placed_by (Err e) ks ok err = ap states_by err ∙ left_emptied
+        module _ (unbound : l.links ≡ map (λ h. None) l.tree.imports)
+            (c : (k : Option LoadedModule) → IsCompiled (Ok l) (build_of (seen R (module_in (place_of d k)).mask) (module_in (place_of d k)).sections)) where
+          compiled_here : IsCompiled (Ok l) (build_of (seen R it.mask) it.sections)
+          compiled_here =
+              let k = slice_index_or ls home None in
+              subst (λ q. IsCompiled (Ok l) (build_of (seen R (module_in (place_of q k)).mask) (module_in (place_of q k)).sections)) (sym at) (c k)
 
-        pub begun-leads : {U : Type 0} (r : Result U BuildRefused) (ks : List (Option LoadedModule)) (u : Store V P) (gs : EventBuffer) → OnOk r (ks ≡ with_it)
-            → OnErr r (ks ≡ cs) → HasStarted (modules_of with_it) home budget (program_in l) now r (world_of m (record u { events = gs }))
-            → Leads (build R old home (module_at old home) budget) (reply_to_build r (listed_in gs)) (left_to (states_by ks) (world_of m u))
-        begun-leads r ks u gs ok err started =
-            let y = world_of m (record u { events = gs }) in
-            subst (λ v. Leads (build R old home (module_at old home) budget) (reply_to_build r (listed_in gs)) v) (left_without m (states_by ks) u gs)
-            (subst (λ x. Leads (build R old home x budget) (reply_to_build r (listed_in gs)) (left_to (states_by ks) y)) (sym it_stood)
-            (build-begun R old home it budget now has_ended silent l view_here unbound compiled_here r (modules_of with_it) y built_with started
-            (λ end h. ended_silent home (with_inputs [] end) (with_inputs [] y) (h [])) (states_by ks) (placed_by r ks ok err)))
+          placed_by : {U : Type 0} (r : Result U BuildRefused) (ks : List (Option LoadedModule)) → OnOk r (ks ≡ with_it) → OnErr r (ks ≡ cs)
+              → IsPlacedBy R old home it budget now has_ended silent l view_here unbound compiled_here r (states_by ks)
+          placed_by (Ok x) ks ok err = ap states_by ok ∙ states_with
+          placed_by (Err e) ks ok err = ap states_by err ∙ left_emptied
+
+          pub begun-leads : {U : Type 0} (r : Result U BuildRefused) (ks : List (Option LoadedModule)) (u : Store V P) (gs : EventBuffer) → OnOk r (ks ≡ with_it)
+              → OnErr r (ks ≡ cs) → HasStarted (modules_of with_it) home budget (program_in l) now r (world_of m (record u { events = gs }))
+              → Leads (build R old home (module_at old home) budget) (reply_to_build r (listed_in gs)) (left_to (states_by ks) (world_of m u))
+          begun-leads r ks u gs ok err started =
+              let y = world_of m (record u { events = gs }) in
+              subst (λ v. Leads (build R old home (module_at old home) budget) (reply_to_build r (listed_in gs)) v) (left_without m (states_by ks) u gs)
+              (subst (λ x. Leads (build R old home x budget) (reply_to_build r (listed_in gs)) (left_to (states_by ks) y)) (sym it_stood)
+              (build-begun R old home it budget now has_ended silent l view_here unbound compiled_here r (modules_of with_it) y built_with started
+              (λ end h. ended_silent home (with_inputs [] end) (with_inputs [] y) (h [])) (states_by ks) (placed_by r ks ok err)))

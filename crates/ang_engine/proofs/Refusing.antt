@@ -9,7 +9,7 @@ use Rattle.ang_engine.specs.declared.building.BuildRefused.{BuildRefused}
 use Rattle.ang_engine.specs.declared.building.BuildRefused.TheVariants as why
 use Rattle.ang_engine_modules.specs.declared.reply.Outcome.{Outcome}
 use Rattle.ang_engine_modules.specs.declared.reply.Outcome.TheVariants.{Done, Failed, Refused}
-use Rattle.ang_engine_modules.specs.declared.reply.Refusal.TheVariants.{BadName, ModuleExists, Limit, NoModule, NotBuilt, BadBudget, BuildMemory, BuildErrors, InitFailed, NoFunction, NoImport, SignatureDiffers, NotCallable, BadArguments, Memory}
+use Rattle.ang_engine_modules.specs.declared.reply.Refusal.TheVariants.{BadName, ModuleExists, Limit, NoModule, NotBuilt, BadBudget, BuildMemory, BuildErrors, InitFailed, NoFunction, NoImport, SignatureDiffers, NotCallable, BadArguments, Memory, NoGroup, InUse}
 use Rattle.ang_engine.specs.Outcomes.{IfRefusedAtOnce, IsBegun, outcome_by, reply_to_build}
 
 -- what holds anyway
@@ -28,6 +28,8 @@ refused_anyway (Refused BadBudget) P h = h
 refused_anyway (Refused NoFunction) P h = h
 refused_anyway (Refused NoImport) P h = h
 refused_anyway (Refused SignatureDiffers) P h = h
+refused_anyway (Refused NoGroup) P h = h
+refused_anyway (Refused InUse) P h = h
 refused_anyway (Refused NotCallable) P h = h
 refused_anyway (Refused BadArguments) P h = h
 refused_anyway (Refused Memory) P h = h

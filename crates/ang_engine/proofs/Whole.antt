@@ -36,6 +36,8 @@ use Rattle.ang_engine.specs.Sound.{AreSoundModules}
 use Rattle.ang_engine.specs.Sound.{HaveDrivers, AreNumbered, IsSound}
 use Rattle.ang_engine.specs.Asked.{HasAsked}
 use Rattle.ang_engine.specs.Applied.{Applied}
+use Rattle.ang_view.specs.Groups.{Grouped}
+use Rattle.ang_engine.proofs.Roles.{own_roles}
 use Rattle.ang_engine.proofs.Asking.{asked-nothing, applied-asked}
 use Rattle.ang_engine.proofs.Refusing.{refused_anyway}
 use Rattle.ang_engine.proofs.Leading.{takes-done, takes-without, takes-judged, takes-memory, takes-called, takes-discarded}
@@ -53,13 +55,13 @@ sound-asked m e f v es sound same modules globals asked numbered = record {
   globals = globals;
   in_list = subst (λ R. HaveDrivers R (length (drivers_in f))) (sym same)
       (subst (λ n. HaveDrivers (registrations e) n)
-      (sym (follow_count (λ b. state_in m b) (λ b. b.vtable) (λ x. (m x).meaning.fits) (roles_of (registrations e)) (drivers_in e) es (drivers_in f) asked.follow)) sound.in_list);
+      (sym (follow_count (λ b. state_in m b) (λ b. b.vtable) (λ x. (m x).meaning.fits) (roles_of (registrations e)) (drivers_in e) es (drivers_in f) (asked.follow (roles_of (registrations e)) (own_roles (registrations e))))) sound.in_list);
   kept = asked.kept;
   counted = asked.counted;
   numbered = numbered;
 }
 
-module _ {V : Type 0} {P : V → Type 0} (m : Meanings P) (R : RegistrationList) where
+module _ {V : Type 0} {P : V → Type 0} (m : Meanings P) (R : Grouped) where
   -- one that asks nothing
   pub applied-done : {U : Type 0} (w v : World) (s t : Store V P) (c : Command) (reply : Reply) (r : Result U Refusal) (o : Outcome)
       → may_want_memory c ≡ true → o ≡ outcome_of r → reply ≡ reply_of o [] [] → IsDone r (judged R w c) w v → IsKept m t → IsCounted [] (world_of m t) → members s.drivers ≡ members t.drivers
@@ -67,7 +69,7 @@ module _ {V : Type 0} {P : V → Type 0} (m : Meanings P) (R : RegistrationList)
   applied-done w v s t c reply r o wants ended answered done kept counted same =
       subst (λ xs. Applied m R w xs c reply v (members t.drivers)) (sym same)
       (subst (λ x. Applied m R w (members t.drivers) c x v (members t.drivers)) (sym (answered ∙ ap (λ y. reply_of y [] []) ended))
-      (applied-asked m R w v c (reply_of (outcome_of r) [] []) t t (takes-done R w v c r wants done) (asked-nothing m R v t kept counted) (refused_anyway (outcome_of r) _ refl)))
+      (applied-asked m R w v c (reply_of (outcome_of r) [] []) t t (takes-done R w v c r wants done) (asked-nothing m R.entries v t kept counted) (refused_anyway (outcome_of r) _ refl)))
 
   -- one that asks nothing and wants no memory
   pub applied-without : {U : Type 0} (w v : World) (s t : Store V P) (c : Command) (reply : Reply) (r : Result U Refusal) (o : Outcome)
@@ -76,14 +78,14 @@ module _ {V : Type 0} {P : V → Type 0} (m : Meanings P) (R : RegistrationList)
   applied-without w v s t c reply r o wants ended answered done kept counted same =
       subst (λ xs. Applied m R w xs c reply v (members t.drivers)) (sym same)
       (subst (λ x. Applied m R w (members t.drivers) c x v (members t.drivers)) (sym (answered ∙ ap (λ y. reply_of y [] []) ended))
-      (applied-asked m R w v c (reply_of (outcome_of r) [] []) t t (takes-without R w v c r wants done) (asked-nothing m R v t kept counted) (refused_anyway (outcome_of r) _ refl)))
+      (applied-asked m R w v c (reply_of (outcome_of r) [] []) t t (takes-without R w v c r wants done) (asked-nothing m R.entries v t kept counted) (refused_anyway (outcome_of r) _ refl)))
 
   -- one that is refused for want of memory
   pub applied-memory : (w : World) (s : Store V P) (c : Command) (reply : Reply) → may_want_memory c ≡ true → reply ≡ reply_of (Refused Memory) [] [] → IsKept m s → IsCounted [] (world_of m s)
       → Applied m R w (members s.drivers) c reply w (members s.drivers)
   applied-memory w s c reply wants answered kept counted =
       subst (λ x. Applied m R w (members s.drivers) c x w (members s.drivers)) (sym answered)
-      (applied-asked m R w w c (reply_of (Refused Memory) [] []) s s (takes-memory R w w c wants refl) (asked-nothing m R w s kept counted) refl)
+      (applied-asked m R w w c (reply_of (Refused Memory) [] []) s s (takes-memory R w w c wants refl) (asked-nothing m R.entries w s kept counted) refl)
 
   -- an import that is bound, and one that is unbound
   pub applied-bind : {U : Type 0} (w v : World) (s t : Store V P) (n name : List ℕ) (index : ℕ) (f from d decl : List ℕ) (reply : Reply) (r : Result U Refusal) (o : Outcome)
@@ -103,17 +105,17 @@ module _ {V : Type 0} {P : V → Type 0} (m : Meanings P) (R : RegistrationList)
 
   -- a build
   pub applied-build : {U : Type 0} (w v : World) (s t : Store V P) (n name : List ℕ) (budget : ℕ) (reply : Reply) (r : Result U BuildRefused) (es : List HostEvent)
-      → n ≡ name → reply ≡ reply_to_build r es → Leads (building R n budget w) (reply_to_build r es) v → HasAsked m R v (reply_to_build r es).events s t
+      → n ≡ name → reply ≡ reply_to_build r es → Leads (building R.entries n budget w) (reply_to_build r es) v → HasAsked m R.entries v (reply_to_build r es).events s t
       → IfRefusedAtOnce (reply_to_build r es).outcome (members t.drivers ≡ members s.drivers)
       → Applied m R w (members s.drivers) (Build name budget) reply v (members t.drivers)
   applied-build w v s t n name budget reply r es en replied done asked refused =
       subst (λ x. Applied m R w (members s.drivers) (Build name budget) x v (members t.drivers)) (sym replied)
       (applied-asked m R w v (Build name budget) (reply_to_build r es) s t
-      (takes-judged R w v (Build name budget) (reply_to_build r es) refl (subst (λ x. Leads (building R x budget w) (reply_to_build r es) v) en done)) asked refused)
+      (takes-judged R w v (Build name budget) (reply_to_build r es) refl (subst (λ x. Leads (building R.entries x budget w) (reply_to_build r es) v) en done)) asked refused)
 
   -- a call
   pub applied-call : (w v : World) (s t : Store V P) (n name d decl : List ℕ) (vs args : List Value) (budget : ℕ) (reply : Reply) (r : Result Outcome Refusal) (es : List HostEvent)
-      → n ≡ name → d ≡ decl → vs ≡ args → reply ≡ reply_to_call r es → IsCalled r es (calling n d vs budget w) w v → HasAsked m R v (reply_to_call r es).events s t
+      → n ≡ name → d ≡ decl → vs ≡ args → reply ≡ reply_to_call r es → IsCalled r es (calling n d vs budget w) w v → HasAsked m R.entries v (reply_to_call r es).events s t
       → IfRefusedAtOnce (reply_to_call r es).outcome (members t.drivers ≡ members s.drivers)
       → Applied m R w (members s.drivers) (Call name decl args budget) reply v (members t.drivers)
   applied-call w v s t n name d decl vs args budget reply r es en ed ea replied done asked refused =
@@ -125,7 +127,7 @@ module _ {V : Type 0} {P : V → Type 0} (m : Meanings P) (R : RegistrationList)
 
   -- a discard
   pub applied-discard : {U : Type 0} (w v : World) (s t : Store V P) (n name : List ℕ) (reply : Reply) (r : Result U Refusal) (es : List HostEvent)
-      → n ≡ name → reply ≡ reply_to_discard r es → IsDiscarded r es (discarding n w) w v → HasAsked m R v (reply_to_discard r es).events s t
+      → n ≡ name → reply ≡ reply_to_discard r es → IsDiscarded r es (discarding n w) w v → HasAsked m R.entries v (reply_to_discard r es).events s t
       → IfRefusedAtOnce (reply_to_discard r es).outcome (members t.drivers ≡ members s.drivers)
       → Applied m R w (members s.drivers) (Discard name) reply v (members t.drivers)
   applied-discard w v s t n name reply r es en replied done asked refused =

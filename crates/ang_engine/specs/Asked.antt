@@ -8,7 +8,7 @@ use Rattle.ang_host.specs.Boxes.{members}
 use Rattle.ang_host.specs.Meanings.{Meanings}
 use Rattle.ang_host.specs.Events.{DriversFollow}
 use Rattle.ang_view.specs.Registration.{RegistrationList}
-use Rattle.ang_engine.specs.Roles.{roles_of}
+use Rattle.ang_engine.specs.Roles.{AreRoles}
 use Rattle.ang_meaning.specs.Counting.{IsCounted}
 use Rattle.ang_heap.specs.declared.store.Store.{Store}
 use Rattle.ang_heap.specs.Stores.{world_of, IsKept, IsReady, StoreMoves}
@@ -32,7 +32,8 @@ pub record HasRunOn {V : Type 0} {P : V → Type 0} (m : Meanings P) (ms : List 
 pub record HasAsked {V : Type 0} {P : V → Type 0} (m : Meanings P) (R : RegistrationList)
     (after : World) (events : List HostEvent) (s t : Store V P) : Type 0 where
   pub entitled : All (IsEntitled R after) events
-  pub follow : DriversFollow m (roles_of R) (members s.drivers) events (members t.drivers)
+  pub follow : (roles : List Role) → AreRoles roles R
+      → DriversFollow m roles (members s.drivers) events (members t.drivers)
   pub within : StaysWithin m s events t
   pub kept : IsKept m t
   pub counted : IsCounted [] (world_of m t)

@@ -4,7 +4,9 @@ use Rattle.std.specs.declared.alloc.Global.{Global}
 use Rattle.std.specs.declared.dyn_box.DynBox.{DynBox}
 use Rattle.ang_host.specs.Boxes.{members}
 use Rattle.ang_host.specs.Meanings.{Meanings}
+use Rattle.ang_view.specs.Groups.{Grouped}
 use Rattle.ang_view.specs.Registration.{RegistrationList}
+use Rattle.ang_registry.specs.Registrations.{grouped}
 use Rattle.ang_typed.specs.View.{view_typed}
 use Rattle.ang_heap.specs.declared.limits.Limits.{Limits}
 use Rattle.ang_heap.specs.declared.limits.Held.{Held}
@@ -22,7 +24,11 @@ use Rattle.ang_engine.specs.Limited.{held_of}
 abbrev pub resolved_in : LoadedModule → Resolved
 resolved_in l = record { names = l.names; tree = view_typed l.tree }
 
--- its registration list, which no command changes
+-- its registration list with the groups that were ended, which `RemoveGroup` alone changes
+abbrev pub list_in : {V : Type 0} {P : V → Type 0} → Engine V P → Grouped
+list_in e = grouped e.registry
+
+-- the entries of that list
 abbrev pub registrations : {V : Type 0} {P : V → Type 0} → Engine V P → RegistrationList
 registrations e = e.registry.entries
 

@@ -1,4 +1,5 @@
 pub mod Roles
+pub mod Groups
 pub mod Step
 pub mod Outcomes
 pub mod Limited

@@ -27,7 +27,7 @@ use Rattle.ang_engine_modules.specs.declared.reply.Outcome.{Outcome}
 use Rattle.ang_engine_modules.specs.declared.reply.Outcome.TheVariants.{Done, Failed, Refused}
 use Rattle.ang_engine_modules.specs.declared.reply.Reply.{Reply}
 use Rattle.ang_engine_modules.specs.declared.reply.Refusal.{Refusal}
-use Rattle.ang_engine_modules.specs.declared.reply.Refusal.TheVariants.{BadName, ModuleExists, Limit, NoModule, NotBuilt, BadBudget, BuildMemory, BuildErrors, InitFailed, NoFunction, NoImport, SignatureDiffers, NotCallable, BadArguments, Memory}
+use Rattle.ang_engine_modules.specs.declared.reply.Refusal.TheVariants.{BadName, ModuleExists, Limit, NoModule, NotBuilt, BadBudget, BuildMemory, BuildErrors, InitFailed, NoFunction, NoImport, SignatureDiffers, NotCallable, BadArguments, Memory, NoGroup, InUse}
 use Rattle.ang_engine_modules.specs.World.{Program, World, module_named, globals_ended}
 use Rattle.ang_engine.specs.Engines.{resolved_in}
 use Rattle.ang_engine_modules.specs.Commands.{Stepped, reply_of, on_module, on_both, discard}
@@ -52,6 +52,8 @@ IfRefusedAtOnce (Refused BadBudget) P = P
 IfRefusedAtOnce (Refused NoFunction) P = P
 IfRefusedAtOnce (Refused NoImport) P = P
 IfRefusedAtOnce (Refused SignatureDiffers) P = P
+IfRefusedAtOnce (Refused NoGroup) P = P
+IfRefusedAtOnce (Refused InUse) P = P
 IfRefusedAtOnce (Refused NotCallable) P = P
 IfRefusedAtOnce (Refused BadArguments) P = P
 IfRefusedAtOnce (Refused Memory) P = P

@@ -6,24 +6,25 @@ use Rattle.std.specs.declared.dyn_box.DynBox.{DynBox}
 use Rattle.ang_kinds.specs.declared.value.Value.{Value}
 use Rattle.ang_host.specs.Meanings.{Meanings}
 use Rattle.ang_host.specs.Events.{DriversFollow}
-use Rattle.ang_view.specs.Registration.{RegistrationList}
+use Rattle.ang_host.specs.declared.event.Role.{Role}
+use Rattle.ang_view.specs.Groups.{Grouped}
 use Rattle.ang_names_known.specs.declared.names.ScriptFunction.{ScriptFunction}
 use Rattle.ang_meaning.specs.World.{Input}
 use Rattle.ang_engine_call.specs.Named.{function_named_by}
 use Rattle.ang_engine_call.specs.Calls.{is_callable}
 use Rattle.ang_engine_modules.specs.declared.command.Command.{Command}
-use Rattle.ang_engine_modules.specs.declared.command.Command.TheVariants.{NewModule, SetMask, AddSection, Build, Bind, Unbind, Call, Discard}
+use Rattle.ang_engine_modules.specs.declared.command.Command.TheVariants.{NewModule, SetMask, AddSection, Build, Bind, Unbind, Call, Discard, RemoveGroup}
 use Rattle.ang_engine_modules.specs.declared.reply.Reply.{Reply}
 use Rattle.ang_engine_modules.specs.declared.reply.Outcome.{Outcome}
 use Rattle.ang_engine_modules.specs.declared.reply.Outcome.TheVariants.{Done, Failed, Refused}
 use Rattle.ang_engine_modules.specs.declared.reply.Refusal.{Refusal}
-use Rattle.ang_engine_modules.specs.declared.reply.Refusal.TheVariants.{BadName, ModuleExists, Limit, NoModule, NotBuilt, BadBudget, BuildMemory, BuildErrors, InitFailed, NoFunction, NoImport, SignatureDiffers, NotCallable, BadArguments, Memory}
+use Rattle.ang_engine_modules.specs.declared.reply.Refusal.TheVariants.{BadName, ModuleExists, Limit, NoModule, NotBuilt, BadBudget, BuildMemory, BuildErrors, InitFailed, NoFunction, NoImport, SignatureDiffers, NotCallable, BadArguments, Memory, NoGroup, InUse}
 use Rattle.ang_engine_modules.specs.World.{Program, World, module_named, module_at}
 use Rattle.ang_engine_modules.specs.Commands.{Stepped, refused, reply_of}
 use Rattle.ang_engine.specs.declared.engine.Engine.{Engine}
 use Rattle.ang_engine.specs.declared.prepared.Prepared.{Prepared}
-use Rattle.ang_engine.specs.Roles.{roles_of}
-use Rattle.ang_engine.specs.Engines.{registrations, world_in, drivers_in, builds_in, last_build}
+use Rattle.ang_engine.specs.Roles.{AreRoles}
+use Rattle.ang_engine.specs.Engines.{list_in, world_in, drivers_in, builds_in, last_build}
 use Rattle.ang_engine.specs.Step.{Takes, IsEntitled, of_function, call_chosen}
 use Rattle.ang_engine.specs.Outcomes.{IfRefusedAtOnce}
 
@@ -101,6 +102,8 @@ has_begun (Refused BadBudget) = false
 has_begun (Refused NoFunction) = false
 has_begun (Refused NoImport) = false
 has_begun (Refused SignatureDiffers) = false
+has_begun (Refused NoGroup) = false
+has_begun (Refused InUse) = false
 has_begun (Refused NotCallable) = false
 has_begun (Refused BadArguments) = false
 has_begun (Refused Memory) = false
@@ -109,6 +112,7 @@ has_begun (Refused Memory) = false
 abbrev pub replaced : Command → Outcome → World → Option ℕ
 replaced (Build name budget) outcome w = if has_begun outcome then module_named name w else None
 replaced (Discard name) outcome w = if has_begun outcome then module_named name w else None
+replaced (RemoveGroup name) outcome w = None
 replaced (NewModule name mask) outcome w = None
 replaced (SetMask name mask) outcome w = None
 replaced (AddSection name text) outcome w = None
@@ -135,21 +139,22 @@ HasMovedPrepared m e c outcome f =
 
 -- Told the values and the budget, it takes the modules from w to v as a call does by each text that names
 -- the function. Where its module was built anew since, or is gone, it is refused and changes nothing.
-pub record PreparedApplied {V : Type 0} {P : V → Type 0} (m : Meanings P) (R : RegistrationList)
+pub record PreparedApplied {V : Type 0} {P : V → Type 0} (m : Meanings P) (R : Grouped)
     (builds : ℕ → Option ℕ) (w : World) (xs : List (DynBox V Global P)) (p : Prepared) (args : List Value)
     (budget : ℕ) (reply : Reply) (v : World) (ys : List (DynBox V Global P)) : Type 0 where
   pub takes : (name decl : List ℕ) → IsFunctionOf w builds p name decl
       → Takes R w (Call name decl args budget) reply v
   pub gone : is_there builds p ≡ false → (reply ≡ reply_of (Refused NoFunction) [] []) × (v ≡ w)
-  pub entitled : All (IsEntitled R v) reply.events
-  pub follow : DriversFollow m (roles_of R) xs reply.events ys
+  pub entitled : All (IsEntitled R.entries v) reply.events
+  pub follow : (roles : List Role) → AreRoles roles R.entries
+      → DriversFollow m roles xs reply.events ys
   pub refused : IfRefusedAtOnce reply.outcome (ys ≡ xs)
 
 -- it takes one engine to the other
 abbrev pub HasAppliedPrepared : {V : Type 0} {P : V → Type 0} → Meanings P → Engine V P → Prepared
     → List Value → ℕ → Reply → Engine V P → Type 0
 HasAppliedPrepared m e p args budget reply f =
-    PreparedApplied m (registrations e) (builds_in e) (world_in m e) (drivers_in e) p args budget
+    PreparedApplied m (list_in e) (builds_in e) (world_in m e) (drivers_in e) p args budget
     reply (world_in m f) (drivers_in f)
 
 -- ---- the second half of a call

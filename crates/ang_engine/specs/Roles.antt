@@ -1,11 +1,13 @@
 -- What asking each entry means to its driver (docs/HOST.md, "Drivers").
-use Rattle.std.specs.Prelude.{ℕ, ◌^◌, List, map, Option, Some, None}
+use Rattle.std.specs.Prelude.{ℕ, ◌≡◌, ◌^◌, true, List, map, Option, Some, None}
 use Rattle.ang_host.specs.declared.event.Role.{Role}
 use Rattle.ang_host.specs.declared.event.Role.TheVariants.{Making, Calling, Property as Reading}
 use Rattle.ang_view.specs.declared.entry.Entry.{Entry}
 use Rattle.ang_view.specs.declared.entry.EntryKind.{EntryKind}
 use Rattle.ang_view.specs.declared.entry.EntryKind.TheVariants.{HostType, Factory, Method, Property, Function, Global, Enumeration, EnumValue}
-use Rattle.ang_view.specs.Registration.{RegistrationList}
+use Rattle.ang_host.specs.Events.{role_at}
+use Rattle.ang_source.specs.Hosts.{is_asked}
+use Rattle.ang_view.specs.Registration.{RegistrationList, entry_at}
 
 -- the role of what can't be asked: no driver has a function of this number
 abbrev pub no_role : Role
@@ -29,3 +31,10 @@ role_of (Some x) = role_by x.kind x.f
 -- the roles of all entries, by their numbers
 unfoldable pub roles_of : RegistrationList → List Role
 roles_of list = map role_of list
+
+-- These are the roles of the entries of a list, and may be those of more: where entries go, the roles
+-- that a list had go on to fit.
+abbrev pub AreRoles : List Role → RegistrationList → Type 0
+AreRoles roles R =
+    (n : ℕ) (x : Entry) → entry_at R n ≡ Some x → is_asked x.kind ≡ true
+    → role_at roles n ≡ role_by x.kind x.f

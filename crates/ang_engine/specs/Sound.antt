@@ -1,10 +1,11 @@
 -- What an engine keeps between commands.
-use Rattle.std.specs.Prelude.{ℕ, ◌≡◌, ◌<◌, ◌≤◌, Bool, true, false, List, [], length, Option, Some}
+use Rattle.std.specs.Prelude.{ℕ, ◌≡◌, ◌≤◌, List, [], length, Option, Some}
 use Rattle.ang_host.specs.Meanings.{Meanings}
-use Rattle.ang_view.specs.declared.entry.Entry.{Entry}
-use Rattle.ang_view.specs.declared.entry.EntryKind.{EntryKind}
-use Rattle.ang_view.specs.declared.entry.EntryKind.TheVariants.{HostType, Factory, Method, Property, Function, Global, Enumeration, EnumValue}
-use Rattle.ang_view.specs.Registration.{RegistrationList, entry_at, seen}
+use Rattle.ang_view.specs.Only.{IsWithin}
+use Rattle.ang_view.specs.Registration.{RegistrationList, seen}
+use Rattle.ang_registry.specs.Drivers as drivers
+use Rattle.ang_typed.specs.View.{view_typed}
+use Rattle.ang_engine_build.specs.Narrowed.{narrowed}
 use Rattle.ang_meaning.specs.Counting.{IsCounted}
 use Rattle.ang_heap.specs.Globals.{values_in}
 use Rattle.ang_heap.specs.Stores.{world_of, IsKept}
@@ -17,13 +18,15 @@ use Rattle.ang_engine_modules.specs.States.{build_at}
 use Rattle.ang_engine.specs.declared.engine.Engine.{Engine}
 use Rattle.ang_engine.specs.Engines.{resolved_in, registrations, drivers_in}
 
--- What a module was built to, under its name and its built mask: some sections' program over what
--- the mask sees.
+-- What a module was built to, under its name and its built mask: some sections' program over what it
+-- saw then, of which it keeps what it uses; and all of that stands, and the mask sees it.
 pub record IsBuiltBy (R : RegistrationList) (own : List ℕ) (mask : ℕ) (l : LoadedModule) : Type 0 where
   pub name : l.name ≡ own
-  pub view : l.view ≡ seen R mask
+  pub sight : RegistrationList
   pub sections : List (List ℕ)
-  pub built : build_of l.view sections ≡ Compiled (resolved_in l)
+  pub built : build_of sight sections ≡ Compiled (resolved_in l)
+  pub view : l.view ≡ narrowed sight (view_typed l.tree)
+  pub stands : IsWithin l.view (seen R mask)
 
 abbrev pub IsSoundPlace : RegistrationList → Option Module → Option LoadedModule → Type 0
 IsSoundPlace R = IsPlaceOf (IsBuiltBy R)
@@ -32,20 +35,9 @@ IsSoundPlace R = IsPlaceOf (IsBuiltBy R)
 abbrev pub AreSoundModules : RegistrationList → ModuleList → Type 0
 AreSoundModules R x = AreModules (IsBuiltBy R) x
 
--- whether entries of this kind are a driver's: an enumeration and a value of one are no driver's
-abbrev pub has_driver : EntryKind → Bool
-has_driver HostType = true
-has_driver Factory = true
-has_driver Method = true
-has_driver Property = true
-has_driver Function = true
-has_driver Global = true
-has_driver Enumeration = false
-has_driver (EnumValue v) = false
-
 -- each entry's driver is one of the list
 abbrev pub HaveDrivers : RegistrationList → ℕ → Type 0
-HaveDrivers R n = (number : ℕ) (x : Entry) → entry_at R number ≡ Some x → has_driver x.kind ≡ true → x.driver < n
+HaveDrivers R count = drivers.HaveDrivers R count
 
 -- each module's last build was begun: none has the number of a build that comes
 pub record AreNumbered (x : ModuleList) : Type 0 where

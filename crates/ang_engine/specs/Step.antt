@@ -7,6 +7,7 @@ use Rattle.ang_kinds.specs.declared.fault.Fault.TheVariants.{Memory as MemoryFau
 use Rattle.ang_kinds.specs.declared.value.Value.{Value}
 use Rattle.ang_host.specs.declared.event.HostEvent.{HostEvent}
 use Rattle.ang_host.specs.declared.event.HostEvent.TheVariants.{Called, Ended as ObjectEnded}
+use Rattle.ang_view.specs.Groups.{Grouped}
 use Rattle.ang_view.specs.Registration.{RegistrationList, seen, entry_at}
 use Rattle.ang_names_known.specs.declared.names.ScriptFunction.{ScriptFunction}
 use Rattle.ang_names_known.specs.Lookup.{same_call}
@@ -15,19 +16,21 @@ use Rattle.ang_meaning.specs.declared.slot.Slot.{Slot}
 use Rattle.ang_meaning.specs.World.{Input, Room, World as RunWorld}
 use Rattle.ang_meaning.specs.Told.{has_room, stopped_by, answers_told, answers_listed}
 use Rattle.ang_source.specs.Meaning.{routine}
+use Rattle.ang_engine_build.specs.Narrowed.{narrowed}
 use Rattle.ang_engine_build.specs.Build.{Resolved, Built, Errors, Compiled, build_of, denials_in}
 use Rattle.ang_engine_call.specs.Named.{function_named_by}
 use Rattle.ang_engine_call.specs.Calls.{is_callable, arguments_of, result_of}
 use Rattle.ang_engine_modules.specs.Executed.{first_globals, call_of, initialization_of}
 use Rattle.ang_engine_modules.specs.Ends.{Ended, end_of}
 use Rattle.ang_engine_modules.specs.declared.command.Command.{Command}
-use Rattle.ang_engine_modules.specs.declared.command.Command.TheVariants.{NewModule, SetMask, AddSection, Build, Bind, Unbind, Call, Discard}
+use Rattle.ang_engine_modules.specs.declared.command.Command.TheVariants.{NewModule, SetMask, AddSection, Build, Bind, Unbind, Call, Discard, RemoveGroup}
 use Rattle.ang_engine_modules.specs.declared.reply.Reply.{Reply}
 use Rattle.ang_engine_modules.specs.declared.reply.Outcome.{Outcome}
 use Rattle.ang_engine_modules.specs.declared.reply.Outcome.TheVariants.{Done, Failed, Refused}
 use Rattle.ang_engine_modules.specs.declared.reply.Refusal.{Refusal}
-use Rattle.ang_engine_modules.specs.declared.reply.Refusal.TheVariants.{BadName, ModuleExists, Limit, NoModule, NotBuilt, BadBudget, BuildMemory, BuildErrors, InitFailed, NoFunction, NoImport, SignatureDiffers, NotCallable, BadArguments, Memory}
+use Rattle.ang_engine_modules.specs.declared.reply.Refusal.TheVariants.{BadName, ModuleExists, Limit, NoModule, NotBuilt, BadBudget, BuildMemory, BuildErrors, InitFailed, NoFunction, NoImport, SignatureDiffers, NotCallable, BadArguments, Memory, NoGroup, InUse}
 use Rattle.ang_engine_modules.specs.World.{Program, ModuleState, ModuleStates, World, module_named, module_at, placed, all_unbound_from, built_in, running, left_to, globals_ended}
+use Rattle.ang_engine.specs.Groups.{removal, removing, list_of}
 use Rattle.ang_engine_modules.specs.Commands.{Stepped, answered, refused, after_run, linked, added_module, set_mask, add_section, unbind, discard, on_module, on_both}
 
 -- a budget is a number of ticks from 1 to 2,147,483,647
@@ -46,10 +49,11 @@ errors_reply events errors denials =
 abbrev pub emptied : ModuleState → ModuleState
 emptied m = record m { built_mask = m.mask; sections = []; program = None }
 
--- what scripts are resolved to, over what their module sees, with no import bound yet
+-- what scripts are resolved to, with what they use of what their module sees, and with no import bound
+-- yet
 abbrev pub program_over : RegistrationList → Resolved → Program
 program_over V r = record {
-  view = V;
+  view = narrowed V r.tree;
   names = r.names;
   tree = r.tree;
   links = list_map (λ h. None) r.tree.imports;
@@ -216,14 +220,14 @@ call decl args budget w i m inputs = call_program m.program decl args budget w i
 -- ---- a command
 
 -- a command, judged and done, where memory was there to begin
-abbrev pub judged : RegistrationList → World → Command → List Input → Option Stepped
+abbrev pub judged : Grouped → World → Command → List Input → Option Stepped
 judged R w (NewModule name mask) inputs = added_module name mask.0 w inputs
 judged R w (SetMask name mask) inputs =
     on_module (module_named name w) w inputs (set_mask mask.0 w)
 judged R w (AddSection name text) inputs =
     on_module (module_named name w) w inputs (add_section text w)
 judged R w (Build name budget) inputs =
-    on_module (module_named name w) w inputs (build_within budget R w)
+    on_module (module_named name w) w inputs (build_within budget R.entries w)
 judged R w (Bind name index exporter decl) inputs =
     on_both (module_named name w) (module_named exporter w) w inputs (bind index decl w)
 judged R w (Unbind name index) inputs =
@@ -231,6 +235,7 @@ judged R w (Unbind name index) inputs =
 judged R w (Call name decl args budget) inputs =
     on_module (module_named name w) w inputs (call decl args budget w)
 judged R w (Discard name) inputs = on_module (module_named name w) w inputs (discard w)
+judged R w (RemoveGroup name) inputs = removing (removal name R w.modules) w inputs
 
 -- whether a command may be refused for want of memory before it changes anything
 abbrev pub may_want_memory : Command → Bool
@@ -242,17 +247,31 @@ may_want_memory (Bind name index exporter decl) = true
 may_want_memory (Unbind name index) = false
 may_want_memory (Call name decl args budget) = true
 may_want_memory (Discard name) = true
+may_want_memory (RemoveGroup name) = false
 
 -- such a command: the first input says whether there is memory to begin
-abbrev pub granted : RegistrationList → World → Command → List Input → Option Stepped
+abbrev pub granted : Grouped → World → Command → List Input → Option Stepped
 granted R w c (Room true ∷ inputs) = judged R w c inputs
 granted R w c (Room false ∷ inputs) = refused Memory w inputs
 granted R w c _ = None
 
--- One command over a registration list. There is no step with other inputs than those that are
--- asked for.
-abbrev pub step : RegistrationList → World → Command → List Input → Option Stepped
+-- One command over a registration list with its groups. There is no step with other inputs than those
+-- that are asked for.
+abbrev pub step : Grouped → World → Command → List Input → Option Stepped
 step R w c inputs = if may_want_memory c then granted R w c inputs else judged R w c inputs
+
+-- The list after a command: `RemoveGroup` alone changes it, and that only where it is done. What a
+-- list was before, no command gives back.
+abbrev pub list_after : Grouped → World → Command → Grouped
+list_after R w (NewModule name mask) = R
+list_after R w (SetMask name mask) = R
+list_after R w (AddSection name text) = R
+list_after R w (Build name budget) = R
+list_after R w (Bind name index exporter decl) = R
+list_after R w (Unbind name index) = R
+list_after R w (Call name decl args budget) = R
+list_after R w (Discard name) = R
+list_after R w (RemoveGroup name) = list_of R (removal name R w.modules)
 
 -- ---- what an outcome tells
 
@@ -270,6 +289,8 @@ fault_of_refusal (InitFailed f) = Some f
 fault_of_refusal NoFunction = None
 fault_of_refusal NoImport = None
 fault_of_refusal SignatureDiffers = None
+fault_of_refusal NoGroup = None
+fault_of_refusal InUse = None
 fault_of_refusal NotCallable = None
 fault_of_refusal BadArguments = None
 fault_of_refusal Memory = Some MemoryFault
@@ -299,15 +320,16 @@ pub record Leads (go : List Input → Option Stepped) (reply : Reply) (after : W
 
 -- The command takes the world from `before` to `after` with this reply, told what it asked for and
 -- nothing else.
-abbrev pub Takes : RegistrationList → World → Command → Reply → World → Type 0
+abbrev pub Takes : Grouped → World → Command → Reply → World → Type 0
 Takes R before c reply after = Leads (step R before c) reply after
 
--- a list of commands in turn, with the reply to each
-abbrev pub Runs : RegistrationList → World → List Command → List Reply → World → Type 0
+-- a list of commands in turn, with the reply to each, over the list that those before it have left
+abbrev pub Runs : Grouped → World → List Command → List Reply → World → Type 0
 Runs R w [] [] after = w ≡ after
 Runs R w [] (r ∷ rs) after = ⊥
 Runs R w (c ∷ cs) [] after = ⊥
-Runs R w (c ∷ cs) (r ∷ rs) after = (m : World) × Takes R w c r m × Runs R m cs rs after
+Runs R w (c ∷ cs) (r ∷ rs) after =
+    (m : World) × Takes R w c r m × Runs (list_after R w c) m cs rs after
 
 -- The entity of a host call is one that its caller saw when it was built.
 abbrev pub IsEntitled : RegistrationList → World → HostEvent → Type 0

@@ -6,7 +6,7 @@ use Rattle.ang_engine_modules.specs.declared.modules.LoadedModule.{LoadedModule}
 use Rattle.ang_engine_modules.specs.Loaded.{loaded_at}
 use Rattle.ang_engine_modules.specs.Traced.{frames_of}
 use Rattle.ang_engine_modules.specs.declared.command.Command.{Command}
-use Rattle.ang_engine_modules.specs.declared.command.Command.TheVariants.{NewModule, SetMask, AddSection, Build, Bind, Unbind, Call, Discard}
+use Rattle.ang_engine_modules.specs.declared.command.Command.TheVariants.{NewModule, SetMask, AddSection, Build, Bind, Unbind, Call, Discard, RemoveGroup}
 use Rattle.ang_engine.specs.declared.engine.Engine.{Engine}
 
 -- those of the machine's last run, which `HasStood` of ang_vm says where they stood
@@ -31,3 +31,4 @@ budget_of (Bind name index exporter decl) = 0
 budget_of (Unbind name index) = 0
 budget_of (Call name decl args budget) = budget
 budget_of (Discard name) = 0
+budget_of (RemoveGroup name) = 0

@@ -4,6 +4,7 @@ ghost use Rattle.ang_host.specs.Logs.{listed_in, is_heard};
 ghost use Rattle.ang_host.specs.Boxes.{members};
 ghost use Rattle.ang_view.specs.Registration.{seen};
 ghost use Rattle.ang_source.specs.Sound.{SoundProgram};
+ghost use Rattle.ang_engine_build.specs.Narrowed.{narrowed};
 ghost use Rattle.ang_typed.specs.View.{view_typed};
 ghost use Rattle.ang_meaning.specs.Counting.{IsCounted};
 ghost use Rattle.ang_heap.specs.Globals.{values_in};
@@ -17,8 +18,7 @@ ghost use Rattle.ang_engine_modules.specs.Modules.{module_at as built_module_at,
 ghost use Rattle.ang_engine_modules.specs.declared.modules.LoadedModule.{LoadedModule};
 ghost use Rattle.ang_engine.specs.Asked.{HasRunOn, HasAsked};
 ghost use Rattle.ang_engine_modules.specs.States.{states_in, state_of, place_of, program_in, build_in, build_at};
-ghost use Rattle.ang_engine.specs.Engines.{resolved_in};
-ghost use Rattle.ang_engine.specs.Engines.{world_during};
+ghost use Rattle.ang_engine.specs.Engines.{resolved_in, world_during};
 ghost use Rattle.ang_engine.specs.Outcomes.{IfRefusedAtOnce, IsBegun, IsCompiled, HasStarted, refused_by, building, reply_to_build};
 ghost use Rattle.ang_engine_modules.specs.Sound.{HasSameName, HaveGlobals};
 ghost use Rattle.ang_engine.specs.Prepared.{HaveMoved, replaced};
@@ -29,15 +29,14 @@ ghost use Rattle.ang_engine_modules.specs.World.{module_at, module_in, left_to};
 
 use crate::budget::may_run;
 use crate::ending::end_globals;
-use ang_engine_build::{NoProgram, Program, build_sections};
+use ang_engine_build::{NoProgram, Program, build_sections, narrow};
 use ang_engine_modules::{
-    KeptTree, LoadedModule, Module, ModuleList, Modules, Refusal, WholeModule, find, put_globals,
+    LoadedModule, Module, ModuleList, Modules, Refusal, WholeModule, find, put_globals,
 };
 use ang_host::{Driver, EventBuffer};
 use ang_kinds::{Denial, Error, Fault, List, Mask};
-use ang_meaning::{Routine, Slot};
+use ang_meaning::Slot;
 use ang_registry::Registry;
-use ang_typed::{Heading, Typed};
 use ang_view::View;
 use ang_vm::Machine;
 use std::alloc::{AllocError, Global};
@@ -82,76 +81,37 @@ fn take_sections(alloc: Global, from: &mut Module, number: u64) -> Vec<List<u8>>
     mem::replace(&mut from.sections, Vec::new(alloc))
 }
 
-/// Imports that are bound to nothing, a link for each.
-fn unbound_links(alloc: Global, imports: &[Heading]) -> Result<Vec<Option<Routine>>, AllocError>
-    ensures exact { IfOk result (λ links. links.items ≡ list_map (λ h. None) imports.now) }
-{
-    imports.iter().map(|_| None).collect(alloc)
-}
-
-/// What a built module has beside its program and its view.
-#[derive(Drop)]
-struct Beside {
-    name: List<u8>,
-    tree: KeptTree,
-    links: List<Option<Routine>>,
-}
-
-/// What stands beside a program of this tree, under this name.
-fn make_beside(alloc: Global, name: &[u8], tree: &Typed) -> Result<Beside, AllocError>
-    ensures name { IfOk result (λ b. b.name ≡ name.now) }
-    ensures tree { IfOk result (λ b. b.tree ≡ tree.now) }
-    ensures links { IfOk result (λ b. b.links ≡ list_map (λ h. None) tree.now.imports) }
-{
-    let name = List::from_vec(Vec::from_slice(alloc, name)?);
-    let links = List::from_vec(unbound_links(alloc, tree.imports.as_slice())?);
-    let tree = KeptTree::of(alloc, tree)?;
-    Ok(Beside { name, tree, links })
-}
-
-/// A program with its view and what stands beside it.
-fn assembled(view: View, program: Program, parts: Beside) -> WholeModule
-    requires tree { parts.tree ≡ program.tree }
-    requires links { parts.links ≡ list_map (λ h. None) program.tree.imports }
-    ensures name { result.name ≡ parts.name }
-    ensures view { result.view ≡ view }
-    ensures program { resolved_in result ≡ resolved_of program }
-    ensures unbound { result.links ≡ list_map (λ h. None) result.tree.imports }
-{
-    let Program { names, tree } = program;
-    let loaded = LoadedModule {
-        name: parts.name,
-        names,
-        view,
-        tree: parts.tree,
-        links: parts.links,
-    };
-    WholeModule::new(loaded, tree)
-}
-
-/// A program with its name and its view.
-fn with_view(
+/// The module of a program, which keeps of this view what the program uses.
+///
+/// # Errors
+/// Want of memory.
+fn with_uses(
     alloc: Global,
     name: &[u8],
     view: View,
     program: Program,
 ) -> Result<WholeModule, AllocError>
     ensures name { IfOk result (λ l. l.name ≡ name.now) }
-    ensures view { IfOk result (λ l. l.view ≡ view) }
+    ensures view { IfOk result (λ l. l.view ≡ narrowed view (view_typed l.tree)) }
     ensures program { IfOk result (λ l. resolved_in l ≡ resolved_of program) }
     ensures unbound { IfOk result (λ l. l.links ≡ list_map (λ h. None) l.tree.imports) }
 {
-    match make_beside(alloc, name, &program.tree) {
-        Ok(parts) => Ok(assembled(view, program, parts)),
+    let Program { names, tree } = program;
+    match narrow(alloc, &view, &tree) {
+        Ok(kept) => {
+            drop(view);
+            WholeModule::unbound(alloc, name, kept, names, tree)
+        }
         Err(error) => {
-            drop(program);
+            drop(tree);
+            drop(names);
             drop(view);
             Err(error)
         }
     }
 }
 
-/// What the sections build to over what the mask sees.
+/// What the sections build to over what the mask sees. The module keeps of that what its program uses.
 pub fn compile(
     alloc: Global,
     registry: &Registry,
@@ -164,23 +124,23 @@ pub fn compile(
         (build_of (seen registry.now.entries mask.0) sections.now) }
     ensures denials { HasDenials result (denials_in registry.now.entries mask.0 sections.now) }
     ensures name { IfOk result (λ l. l.name ≡ name.now) }
-    ensures view { IfOk result (λ l. l.view ≡ seen registry.now.entries mask.0) }
+    ensures view { IfOk result
+        (λ l. l.view ≡ narrowed (seen registry.now.entries mask.0) (view_typed l.tree)) }
     ensures unbound { IfOk result (λ l. l.links ≡ list_map (λ h. None) l.tree.imports) }
     ensures sound { IfOk result (λ l. SoundProgram l.view (view_typed l.tree)) }
 {
     let Ok(view) = registry.seen(alloc, mask) else {
         return Err(NoProgram::Memory);
     };
-    let program = match build_sections(alloc, registry, mask, &view, sections) {
-        Ok(program) => program,
+    match build_sections(alloc, registry, mask, &view, sections) {
+        Ok(program) => match with_uses(alloc, name, view, program) {
+            Ok(loaded) => Ok(loaded),
+            Err(_) => Err(NoProgram::Memory),
+        },
         Err(why) => {
             drop(view);
-            return Err(why);
+            Err(why)
         }
-    };
-    match with_view(alloc, name, view, program) {
-        Ok(loaded) => Ok(loaded),
-        Err(_) => Err(NoProgram::Memory),
     }
 }
 
@@ -198,6 +158,8 @@ fn compile_waiting(
         (denials_in registry.now.entries from.old.mask.0 from.old.sections.items) }
     ensures built { IfOk result
         (λ l. IsBuiltBy registry.now.entries from.new.name from.new.built_mask.0 l) }
+    ensures shown { IfOk result
+        (λ l. l.view ≡ narrowed (seen registry.now.entries from.old.mask.0) (view_typed l.tree)) }
     ensures unbound { IfOk result (λ l. l.links ≡ list_map (λ h. None) l.tree.imports) }
     ensures sound { IfOk result (λ l. SoundProgram l.view (view_typed l.tree)) }
     ensures emptied { (l : Option LoadedModule)
@@ -310,6 +272,9 @@ fn compile_place(
         (module_in (place_of place.old l)).sections) }
     ensures built { IfOk result
         (λ loaded. IsSoundPlace registry.now.entries place.new (Some loaded)) }
+    ensures shown { IfOk result (λ loaded. (k : Option LoadedModule) → loaded.view
+        ≡ narrowed (seen registry.now.entries (module_in (place_of place.old k)).mask)
+        (view_typed loaded.tree)) }
     ensures unbound { IfOk result (λ l. l.links ≡ list_map (λ h. None) l.tree.imports) }
     ensures sound { IfOk result (λ l. SoundProgram l.view (view_typed l.tree)) }
     ensures emptied { (l : Option LoadedModule)

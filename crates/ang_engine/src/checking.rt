@@ -15,9 +15,9 @@ ghost use Rattle.ang_engine.specs.Sound.{IsSound};
 
 use crate::building::{BuildRefused, compile, refused_by};
 use crate::engine::Engine;
-use crate::replies::{build_reply, heard_reply, no_events};
+use crate::replies::{build_reply, heard_reply};
 use ang_engine_build::NoProgram;
-use ang_engine_modules::{Module, ModuleList, Refusal, Reply, find};
+use ang_engine_modules::{Module, ModuleList, Refusal, Reply, find, no_events};
 use ang_host::Driver;
 use ang_kinds::{List, Mask};
 use ang_registry::Registry;
@@ -166,7 +166,7 @@ impl Engine {
         ensures trace { trace_in self.new ≡ trace_in self.old }
         ensures ticks { ticks_in self.new ≡ ticks_in self.old }
         ensures sound { IsSound ⟦<dyn Driver as Driver>⟧ self.new }
-        ensures registrations { registrations self.new ≡ registrations self.old }
+        ensures registry { self.new.registry ≡ self.old.registry }
     {
         let alloc = self.alloc;
         let done = check_named(alloc, &self.registry, &mut self.modules, name);

@@ -6,38 +6,39 @@ ghost use Rattle.ang_host.specs.Boxes.{members};
 ghost use Rattle.ang_host.specs.Members.{states_of, AreFresh};
 ghost use Rattle.ang_host.specs.Counts.{IsBalanced};
 ghost use Rattle.ang_host.specs.Events.{DriversFollow};
-ghost use Rattle.ang_engine.specs.Roles.{roles_of};
+ghost use Rattle.ang_engine.specs.Roles.{AreRoles};
+ghost use Rattle.ang_registry.specs.Groups.{all_ended};
+ghost use Rattle.ang_registry.specs.Registrations.{grouped};
 ghost use Rattle.ang_meaning.specs.Counting.{IsCounted};
 ghost use Rattle.ang_heap.specs.Globals.{values_in};
 ghost use Rattle.ang_heap.specs.Parts.{SomeRanOut};
 ghost use Rattle.ang_heap.specs.Stores.{world_of, bounds_of, IsKept, IsReady};
 ghost use Rattle.ang_vm.specs.Machines.{lent};
-ghost use Rattle.ang_engine_modules.specs.declared.command.Command.TheVariants.{NewModule, SetMask, AddSection, Build, Bind, Unbind, Call, Discard};
+ghost use Rattle.ang_engine_modules.specs.declared.command.Command.TheVariants.{NewModule, SetMask, AddSection, Build, Bind, Unbind, Call, Discard, RemoveGroup};
 ghost use Rattle.ang_engine_modules.specs.World.{bounded_by, no_modules, running, engine_ended};
 ghost use Rattle.ang_engine.specs.Limited.{StaysWithin, no_limits};
-ghost use Rattle.ang_engine.specs.Step.{Takes, IsEntitled};
-ghost use Rattle.ang_engine.specs.Sound.{IsSound, HaveDrivers, has_driver};
+ghost use Rattle.ang_engine.specs.Step.{Takes, IsEntitled, list_after};
+ghost use Rattle.ang_engine.specs.Sound.{IsSound, HaveDrivers};
 
 use crate::binding::bind;
 use crate::budget::may_run;
 use crate::building::build;
 use crate::calling::number_of;
 use crate::ending::{end_all, end_globals};
+use crate::groups::remove_group;
 use crate::refused::{NewError, NewRefused};
 use crate::replies::{
-    Finished, Unheard, answer, build_reply, call_reply, discard_reply, ended, heard_reply,
-    no_events, unheard_reply,
+    Finished, Unheard, answer, build_reply, call_reply, discard_reply, heard_reply, unheard_reply,
 };
 use crate::trace::budget_of;
 use ang_engine_modules::{
     Command, MOST_MODULES, ModuleList, Modules, Outcome, Refusal, Reply, add_module, add_section,
-    end_last, find, remove_module, set_mask, unbind,
+    end_last, ended, find, no_events, remove_module, set_mask, unbind,
 };
 use ang_heap::{Globals, Heap, Held, Limits, Store, begin_command, held, set_limits};
 use ang_host::{Driver, Drivers, EventBuffer};
-use ang_kinds::{EntityNo, List, Mask, Value};
-use ang_registry::Registry;
-use ang_view::EntryKind;
+use ang_kinds::{List, Mask, Value};
+use ang_registry::{Registry, have_drivers};
 use ang_vm::{LastRun, Machine};
 use std::alloc::{AllocError, Global};
 
@@ -53,35 +54,6 @@ pub struct Engine {
     pub(crate) modules: ModuleList,
     /// The ticks that the last command used.
     pub(crate) ticks: u64,
-}
-
-/// Whether entries of this kind are a driver's: an enumeration and a value of one are no driver's.
-fn has_driver(kind: EntryKind) -> bool
-    ensures exact { result ≡ has_driver kind }
-{
-    match kind {
-        EntryKind::HostType
-        | EntryKind::Factory
-        | EntryKind::Method
-        | EntryKind::Property
-        | EntryKind::Function
-        | EntryKind::Global => true,
-        EntryKind::Enumeration | EntryKind::EnumValue(_) => false,
-    }
-}
-
-/// Whether each entry's driver is in a list of `count`.
-fn have_drivers(registry: &Registry, count: usize) -> bool
-    ensures exact { IsTrue result ↔ HaveDrivers registry.now.entries count }
-{
-    for number in 0..registry.len() as u32 {
-        if let Some(entry) = registry.get(EntityNo(number)) {
-            if has_driver(entry.kind) && entry.driver as usize >= count {
-                return false;
-            }
-        }
-    }
-    true
 }
 
 /// A machine without script objects, globals and limits. It takes no memory.
@@ -138,14 +110,14 @@ impl Engine {
     ghost use Rattle.ang_engine.specs.Applied.{HasApplied};
     ghost use Rattle.ang_engine.specs.Asked.{HasAsked};
     ghost use Rattle.ang_engine.specs.Outcomes.{IfRefusedAtOnce, IsCalled, IsDiscarded, calling, discarding, reply_to_call, reply_to_discard};
-    ghost use Rattle.ang_engine.specs.Engines.{registrations, world_in, drivers_in, limits_in, held_in, builds_in, last_build};
+    ghost use Rattle.ang_engine.specs.Engines.{list_in, registrations, world_in, drivers_in, limits_in, held_in, builds_in, last_build};
     ghost use Rattle.ang_engine.specs.Replies.{reply_in, WasUnheard};
     ghost use Rattle.ang_engine_modules.specs.Ended.{is_fault, may_have_run};
     ghost use Rattle.ang_engine.specs.Trace.{trace_in, ticks_in, budget_of};
     ghost use Rattle.ang_engine.specs.Prepared.{HaveMoved, HasMovedPrepared, replaced};
 
     /// An engine without modules, and without limits. Each driver has to be idle, as those of
-    /// `Drivers::new` are.
+    /// `Drivers::new` are. A group that is open in the registry is ended.
     ///
     /// # Errors
     /// Gives back the registry and the drivers as they were, with `NoDriver` where an entry names a
@@ -153,6 +125,7 @@ impl Engine {
     pub fn new(alloc: Global, registry: Registry, drivers: Drivers) -> Result<Engine, NewRefused>
         requires fresh { AreFresh (states_of ⟦<dyn Driver as Driver>⟧ (members drivers)) }
         ensures registrations { IfOk result (λ e. registrations e ≡ registry.entries) }
+        ensures groups { IfOk result (λ e. list_in e ≡ grouped (all_ended registry)) }
         ensures world { IfOk result (λ e. world_in ⟦<dyn Driver as Driver>⟧ e ≡ no_modules) }
         ensures drivers { IfOk result (λ e. drivers_in e ≡ members drivers) }
         ensures limits { IfOk result (λ e. limits_in e ≡ no_limits) }
@@ -172,7 +145,7 @@ impl Engine {
         match Vec::with_capacity(alloc, MOST_MODULES) {
             Ok(order) => Ok(Engine {
                 alloc,
-                registry,
+                registry: registry.closed(),
                 machine: machine_of(alloc, drivers),
                 modules: ModuleList {
                     places: Vec::new(alloc),
@@ -212,13 +185,14 @@ impl Engine {
     /// nothing; `ticks_used` says what the command took of its budget.
     pub fn apply(&mut self, command: Command) -> Reply
         requires sound { IsSound ⟦<dyn Driver as Driver>⟧ self.old }
-        ensures takes { Takes (registrations self.old) (world_in ⟦<dyn Driver as Driver>⟧ self.old)
+        ensures takes { Takes (list_in self.old) (world_in ⟦<dyn Driver as Driver>⟧ self.old)
             command result (world_in ⟦<dyn Driver as Driver>⟧ self.new) }
         ensures entitled { All
-            (IsEntitled (registrations self.new) (world_in ⟦<dyn Driver as Driver>⟧ self.new))
+            (IsEntitled (registrations self.old) (world_in ⟦<dyn Driver as Driver>⟧ self.new))
             result.events }
-        ensures follow { DriversFollow ⟦<dyn Driver as Driver>⟧ (roles_of (registrations self.old))
-            (drivers_in self.old) result.events (drivers_in self.new) }
+        ensures follow { (roles : List Role) → AreRoles roles (registrations self.old)
+            → DriversFollow ⟦<dyn Driver as Driver>⟧ roles (drivers_in self.old) result.events
+            (drivers_in self.new) }
         ensures refused { IfRefusedAtOnce result.outcome
             (drivers_in self.new ≡ drivers_in self.old) }
         ensures few_events { length result.events
@@ -231,7 +205,8 @@ impl Engine {
         ensures due { (world_in ⟦<dyn Driver as Driver>⟧ self.new).spent ≡ true
             → SomeRanOut (states_of ⟦<dyn Driver as Driver>⟧ (drivers_in self.new)) }
         ensures sound { IsSound ⟦<dyn Driver as Driver>⟧ self.new }
-        ensures registrations { registrations self.new ≡ registrations self.old }
+        ensures list { list_in self.new ≡ list_after (list_in self.old)
+            (world_in ⟦<dyn Driver as Driver>⟧ self.old) command }
         ensures prepared { HasMovedPrepared ⟦<dyn Driver as Driver>⟧ self.old command result.outcome
             self.new }
         ensures no_trace { is_fault result.outcome ≡ false → trace_in self.new ≡ [] }
@@ -260,7 +235,8 @@ impl Engine {
         ensures due { (world_in ⟦<dyn Driver as Driver>⟧ self.new).spent ≡ true
             → SomeRanOut (states_of ⟦<dyn Driver as Driver>⟧ (drivers_in self.new)) }
         ensures sound { IsSound ⟦<dyn Driver as Driver>⟧ self.new }
-        ensures registrations { registrations self.new ≡ registrations self.old }
+        ensures list { list_in self.new ≡ list_after (list_in self.old)
+            (world_in ⟦<dyn Driver as Driver>⟧ self.old) command }
         ensures prepared { HasMovedPrepared ⟦<dyn Driver as Driver>⟧ self.old command result.outcome
             self.new }
         ensures no_trace { is_fault result.outcome ≡ false → trace_in self.new ≡ [] }
@@ -293,7 +269,7 @@ impl Engine {
         ensures builds { builds_in self.new ≡ builds_in self.old }
         ensures last { last_build self.new ≡ last_build self.old }
         ensures sound { IsSound ⟦<dyn Driver as Driver>⟧ self.new }
-        ensures registrations { registrations self.new ≡ registrations self.old }
+        ensures registry { self.new.registry ≡ self.old.registry }
     {
         set_limits(&mut self.machine.store, limits);
     }
@@ -323,7 +299,8 @@ impl Engine {
         ensures within { StaysWithin ⟦<dyn Driver as Driver>⟧ self.old.machine.store
             (reply_in result).events self.new.machine.store }
         ensures sound { IsSound ⟦<dyn Driver as Driver>⟧ self.new }
-        ensures registrations { registrations self.new ≡ registrations self.old }
+        ensures list { list_in self.new ≡ list_after (list_in self.old)
+            (world_in ⟦<dyn Driver as Driver>⟧ self.old) command }
         ensures prepared { HasMovedPrepared ⟦<dyn Driver as Driver>⟧ self.old command result.outcome
             self.new }
         ensures no_trace { is_fault result.outcome ≡ false → trace_in self.new ≡ [] }
@@ -349,7 +326,8 @@ impl Engine {
         ensures within { StaysWithin ⟦<dyn Driver as Driver>⟧ self.old.machine.store
             (reply_in result).events self.new.machine.store }
         ensures sound { IsSound ⟦<dyn Driver as Driver>⟧ self.new }
-        ensures registrations { registrations self.new ≡ registrations self.old }
+        ensures list { list_in self.new ≡ list_after (list_in self.old)
+            (world_in ⟦<dyn Driver as Driver>⟧ self.old) command }
         ensures prepared { HasMovedPrepared ⟦<dyn Driver as Driver>⟧ self.old command result.outcome
             self.new }
     {
@@ -372,6 +350,7 @@ impl Engine {
                 budget,
             } => self.call(heard, name, decl, args, budget),
             Command::Discard { name } => self.discard_module(heard, name),
+            Command::RemoveGroup { name } => self.remove_group(heard, name),
         }
     }
 
@@ -383,7 +362,7 @@ impl Engine {
         ensures within { StaysWithin ⟦<dyn Driver as Driver>⟧ self.old.machine.store
             (reply_in result).events self.new.machine.store }
         ensures sound { IsSound ⟦<dyn Driver as Driver>⟧ self.new }
-        ensures registrations { registrations self.new ≡ registrations self.old }
+        ensures registry { self.new.registry ≡ self.old.registry }
         ensures prepared { HasMovedPrepared ⟦<dyn Driver as Driver>⟧ self.old
             (NewModule name mask) result.outcome self.new }
     {
@@ -401,7 +380,7 @@ impl Engine {
         ensures within { StaysWithin ⟦<dyn Driver as Driver>⟧ self.old.machine.store
             (reply_in result).events self.new.machine.store }
         ensures sound { IsSound ⟦<dyn Driver as Driver>⟧ self.new }
-        ensures registrations { registrations self.new ≡ registrations self.old }
+        ensures registry { self.new.registry ≡ self.old.registry }
         ensures prepared { HasMovedPrepared ⟦<dyn Driver as Driver>⟧ self.old
             (SetMask name mask) result.outcome self.new }
     {
@@ -417,7 +396,7 @@ impl Engine {
         ensures within { StaysWithin ⟦<dyn Driver as Driver>⟧ self.old.machine.store
             (reply_in result).events self.new.machine.store }
         ensures sound { IsSound ⟦<dyn Driver as Driver>⟧ self.new }
-        ensures registrations { registrations self.new ≡ registrations self.old }
+        ensures registry { self.new.registry ≡ self.old.registry }
         ensures prepared { HasMovedPrepared ⟦<dyn Driver as Driver>⟧ self.old
             (AddSection name text) result.outcome self.new }
     {
@@ -435,7 +414,7 @@ impl Engine {
         ensures within { StaysWithin ⟦<dyn Driver as Driver>⟧ self.old.machine.store
             (reply_in result).events self.new.machine.store }
         ensures sound { IsSound ⟦<dyn Driver as Driver>⟧ self.new }
-        ensures registrations { registrations self.new ≡ registrations self.old }
+        ensures registry { self.new.registry ≡ self.old.registry }
         ensures prepared { HasMovedPrepared ⟦<dyn Driver as Driver>⟧ self.old
             (Build name budget) result.outcome self.new }
     {
@@ -456,7 +435,7 @@ impl Engine {
         ensures within { StaysWithin ⟦<dyn Driver as Driver>⟧ self.old.machine.store
             (reply_in result).events self.new.machine.store }
         ensures sound { IsSound ⟦<dyn Driver as Driver>⟧ self.new }
-        ensures registrations { registrations self.new ≡ registrations self.old }
+        ensures registry { self.new.registry ≡ self.old.registry }
         ensures prepared { HasMovedPrepared ⟦<dyn Driver as Driver>⟧ self.old
             (Build name budget) result.outcome self.new }
     {
@@ -490,7 +469,7 @@ impl Engine {
         ensures within { StaysWithin ⟦<dyn Driver as Driver>⟧ self.old.machine.store
             (reply_in result).events self.new.machine.store }
         ensures sound { IsSound ⟦<dyn Driver as Driver>⟧ self.new }
-        ensures registrations { registrations self.new ≡ registrations self.old }
+        ensures registry { self.new.registry ≡ self.old.registry }
         ensures prepared { HasMovedPrepared ⟦<dyn Driver as Driver>⟧ self.old
             (Bind name index exporter decl) result.outcome self.new }
     {
@@ -513,7 +492,7 @@ impl Engine {
         ensures within { StaysWithin ⟦<dyn Driver as Driver>⟧ self.old.machine.store
             (reply_in result).events self.new.machine.store }
         ensures sound { IsSound ⟦<dyn Driver as Driver>⟧ self.new }
-        ensures registrations { registrations self.new ≡ registrations self.old }
+        ensures registry { self.new.registry ≡ self.old.registry }
         ensures prepared { HasMovedPrepared ⟦<dyn Driver as Driver>⟧ self.old
             (Unbind name index) result.outcome self.new }
     {
@@ -547,7 +526,7 @@ impl Engine {
         ensures modules { self.new.modules ≡ self.old.modules }
         ensures globals { list_map length (values_in self.new.machine.store.globals)
             ≡ list_map length (values_in self.old.machine.store.globals) }
-        ensures registrations { registrations self.new ≡ registrations self.old }
+        ensures registry { self.new.registry ≡ self.old.registry }
     {
         let Some(home) = find(&self.modules.places, name) else {
             return Err(Refusal::NoModule);
@@ -579,7 +558,7 @@ impl Engine {
         ensures within { StaysWithin ⟦<dyn Driver as Driver>⟧ self.old.machine.store
             (reply_in result).events self.new.machine.store }
         ensures sound { IsSound ⟦<dyn Driver as Driver>⟧ self.new }
-        ensures registrations { registrations self.new ≡ registrations self.old }
+        ensures registry { self.new.registry ≡ self.old.registry }
         ensures prepared { HasMovedPrepared ⟦<dyn Driver as Driver>⟧ self.old
             (Call name decl args budget) result.outcome self.new }
     {
@@ -614,7 +593,7 @@ impl Engine {
             (drivers_in self.new ≡ drivers_in self.old) }
         ensures heard { is_heard events.new ≡ is_heard events.old }
         ensures sound { IsSound ⟦<dyn Driver as Driver>⟧ self.new }
-        ensures registrations { registrations self.new ≡ registrations self.old }
+        ensures registry { self.new.registry ≡ self.old.registry }
         ensures prepared { HaveMoved (replaced (Discard name.now)
             (reply_to_discard result (listed_in events.new)).outcome
             (world_in ⟦<dyn Driver as Driver>⟧ self.old))
@@ -636,7 +615,7 @@ impl Engine {
         ensures within { StaysWithin ⟦<dyn Driver as Driver>⟧ self.old.machine.store
             (reply_in result).events self.new.machine.store }
         ensures sound { IsSound ⟦<dyn Driver as Driver>⟧ self.new }
-        ensures registrations { registrations self.new ≡ registrations self.old }
+        ensures registry { self.new.registry ≡ self.old.registry }
         ensures prepared { HasMovedPrepared ⟦<dyn Driver as Driver>⟧ self.old
             (Discard name) result.outcome self.new }
     {
@@ -645,6 +624,23 @@ impl Engine {
         };
         let done = self.discard_named(&mut events, name.as_slice());
         discard_reply(self.alloc, heard, done, events)
+    }
+
+    fn remove_group(&mut self, heard: bool, name: List<u8>) -> Finished
+        requires sound { IsSound ⟦<dyn Driver as Driver>⟧ self.old }
+        ensures applied { HasApplied ⟦<dyn Driver as Driver>⟧ self.old (RemoveGroup name)
+            (reply_in result) self.new }
+        ensures heard { is_heard result.events ≡ heard }
+        ensures within { StaysWithin ⟦<dyn Driver as Driver>⟧ self.old.machine.store
+            (reply_in result).events self.new.machine.store }
+        ensures sound { IsSound ⟦<dyn Driver as Driver>⟧ self.new }
+        ensures list { list_in self.new ≡ list_after (list_in self.old)
+            (world_in ⟦<dyn Driver as Driver>⟧ self.old) (RemoveGroup name) }
+        ensures prepared { HasMovedPrepared ⟦<dyn Driver as Driver>⟧ self.old
+            (RemoveGroup name) result.outcome self.new }
+    {
+        let done = remove_group(&mut self.registry, &self.modules, name);
+        answer(self.alloc, heard, ended(done))
     }
 
     /// Ends the engine, and gives its drivers back in their order, with no object of theirs alive:

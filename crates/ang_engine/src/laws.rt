@@ -1,7 +1,25 @@
 //! Laws of the definitions that the contracts of `Engine` speak of, each the contract of a function that does
 //! nothing. They state a theorem for readers, and no program calls them.
+ghost use Rattle.std.specs.Prelude.{◌≡◌, ℕ, List, false};
+ghost use Rattle.std.specs.List.{AllZip, list_any};
+ghost use Rattle.ang_view.specs.declared.group.Group.{Group};
+ghost use Rattle.ang_view.specs.Groups.{Grouped, is_named_outside, left_outside};
+ghost use Rattle.ang_view.specs.Only.{IsWithin, only};
+ghost use Rattle.ang_view.specs.Registration.{RegistrationList};
+ghost use Rattle.ang_host.specs.declared.event.HostEvent.{HostEvent};
+ghost use Rattle.ang_meaning.specs.World.{Input, World as RunWorld};
+ghost use Rattle.ang_engine_modules.specs.Loaded.{modules_of};
+ghost use Rattle.ang_engine_modules.specs.Modules.{IsAskedIn};
+ghost use Rattle.ang_engine_modules.specs.declared.command.Command.{Command};
+ghost use Rattle.ang_engine_modules.specs.declared.module.ModuleList.{ModuleList};
+ghost use Rattle.ang_engine_modules.specs.States.{states_in};
+ghost use Rattle.ang_engine_modules.specs.World.{ModuleStates, World, left_to};
 ghost use Rattle.ang_engine.specs.Ending.{GivingListsEnds, EndingListsEnds};
 ghost use Rattle.ang_engine.specs.Limited.{LimitsHold};
+ghost use Rattle.ang_engine_modules.specs.Keeping.{keeps_group, place_keeps};
+ghost use Rattle.ang_engine.specs.Groups.{AllStand, Removed, StepStands, removal, uses_group};
+ghost use Rattle.ang_engine.specs.Sound.{AreSoundModules, HaveDrivers, IsSoundPlace};
+ghost use Rattle.ang_engine.specs.Step.{IsEntitled, step};
 
 /// Where a value is given up, the ends of host objects are listed and nothing else: no host call is made. The
 /// same holds of all that is listed where an engine ends, which is what the drivers follow in
@@ -18,4 +36,30 @@ pub fn ends_alone()
 /// (`few_events`, `few_slots`, `few_objects`, `limits`).
 pub fn limits_hold()
     ensures bounded { LimitsHold }
+{}
+
+/// All that built modules use stands in the registration list, and their masks see it: through each command, and where a
+/// group is removed. So it is of an engine's own modules, and its drivers are still those of all entries. What such modules
+/// ask is entitled by the list of that moment.
+pub fn used_entries_stand()
+    ensures commands { (R : Grouped) (w : World) (c : Command) (is : List Input)
+        → AllStand R.entries w.modules.places → StepStands R.entries (step R w c is) }
+    ensures removal { (name : List ℕ) (r s : Grouped) (ms : ModuleStates) → AllStand r.entries ms.places
+        → removal name r ms ≡ Removed s → AllStand s.entries ms.places }
+    ensures modules { (R : RegistrationList) (g : Group) (x : ModuleList)
+        → list_any (place_keeps R g) x.code ≡ false
+        → AllZip (IsSoundPlace R) x.places.items x.code
+        → AllZip (IsSoundPlace (only (left_outside g) R)) x.places.items x.code }
+    ensures drivers { (R : RegistrationList) (g : Group) (count : ℕ) → HaveDrivers R count
+        → HaveDrivers (only (left_outside g) R) count }
+    ensures entitled { (R : RegistrationList) (x : ModuleList) (r : RunWorld) (e : HostEvent)
+        → AreSoundModules R x → IsAskedIn (modules_of x.code) e
+        → IsEntitled R (left_to (states_in x) r) e }
+{}
+
+/// Where nothing outside a group names a type of it, a module that uses an entry which names one of the group keeps one of
+/// the group itself: so the code asks only which entries modules keep.
+pub fn closing_adds_nothing()
+    ensures same { (R V : RegistrationList) (g : Group) → is_named_outside R g ≡ false → IsWithin V R
+        → uses_group R g V ≡ keeps_group R g V }
 {}

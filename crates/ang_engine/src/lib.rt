@@ -9,6 +9,7 @@ mod checking;
 mod declarations;
 mod ending;
 mod engine;
+mod groups;
 pub mod laws;
 mod prepared;
 mod refused;

@@ -2,8 +2,9 @@
 ghost use Rattle.std.specs.Prelude.{true, ◌≡◌, ◌≢◌, ◌+◌, ◌≤◌, ◌<◌, [], false, List as ListOf, ℕ, Ok, Err, Some, All, IfOk, IfErr, length, max, map as list_map};
 ghost use Rattle.ang_host.specs.Logs.{listed_in, is_heard};
 ghost use Rattle.ang_host.specs.Events.{DriversFollow};
+ghost use Rattle.ang_host.specs.declared.event.Role.{Role};
 ghost use Rattle.ang_host.specs.Members.{states_of};
-ghost use Rattle.ang_engine.specs.Roles.{roles_of};
+ghost use Rattle.ang_engine.specs.Roles.{AreRoles};
 ghost use Rattle.ang_heap.specs.Globals.{values_in};
 ghost use Rattle.ang_heap.specs.Parts.{SomeRanOut};
 ghost use Rattle.ang_heap.specs.Stores.{IsReady};
@@ -40,7 +41,7 @@ pub struct Prepared {
 impl Engine {
     ghost use Rattle.ang_engine.specs.Asked.{HasAsked};
     ghost use Rattle.ang_engine.specs.Outcomes.{IfRefusedAtOnce, IsCalled, calling, reply_to_call};
-    ghost use Rattle.ang_engine.specs.Engines.{registrations, world_in, drivers_in, limits_in, held_in, builds_in, last_build};
+    ghost use Rattle.ang_engine.specs.Engines.{list_in, registrations, world_in, drivers_in, limits_in, held_in, builds_in, last_build};
     ghost use Rattle.ang_engine.specs.Replies.{reply_in, WasUnheard};
     ghost use Rattle.ang_engine_modules.specs.Ended.{is_fault, may_have_run};
     ghost use Rattle.ang_engine.specs.Trace.{trace_in, ticks_in};
@@ -98,7 +99,7 @@ impl Engine {
         ensures takes { (name decl : ListOf ℕ)
             → IsFunctionOf (world_in ⟦<dyn Driver as Driver>⟧ self.old) (builds_in self.old)
             prepared name decl
-            → Takes (registrations self.old) (world_in ⟦<dyn Driver as Driver>⟧ self.old)
+            → Takes (list_in self.old) (world_in ⟦<dyn Driver as Driver>⟧ self.old)
             (Call name decl args.now budget) result (world_in ⟦<dyn Driver as Driver>⟧ self.new) }
         ensures gone { is_there (builds_in self.old) prepared ≡ false
             → result ≡ reply_of (Refused NoFunction) [] [] }
@@ -106,10 +107,11 @@ impl Engine {
             → world_in ⟦<dyn Driver as Driver>⟧ self.new
             ≡ world_in ⟦<dyn Driver as Driver>⟧ self.old }
         ensures entitled { All
-            (IsEntitled (registrations self.new) (world_in ⟦<dyn Driver as Driver>⟧ self.new))
+            (IsEntitled (registrations self.old) (world_in ⟦<dyn Driver as Driver>⟧ self.new))
             result.events }
-        ensures follow { DriversFollow ⟦<dyn Driver as Driver>⟧ (roles_of (registrations self.old))
-            (drivers_in self.old) result.events (drivers_in self.new) }
+        ensures follow { (roles : ListOf Role) → AreRoles roles (registrations self.old)
+            → DriversFollow ⟦<dyn Driver as Driver>⟧ roles (drivers_in self.old) result.events
+            (drivers_in self.new) }
         ensures refused { IfRefusedAtOnce result.outcome
             (drivers_in self.new ≡ drivers_in self.old) }
         ensures few_events { length result.events
@@ -122,7 +124,7 @@ impl Engine {
         ensures due { (world_in ⟦<dyn Driver as Driver>⟧ self.new).spent ≡ true
             → SomeRanOut (states_of ⟦<dyn Driver as Driver>⟧ (drivers_in self.new)) }
         ensures sound { IsSound ⟦<dyn Driver as Driver>⟧ self.new }
-        ensures registrations { registrations self.new ≡ registrations self.old }
+        ensures registry { self.new.registry ≡ self.old.registry }
         ensures builds { builds_in self.new ≡ builds_in self.old }
         ensures last { last_build self.new ≡ last_build self.old }
         ensures no_trace { is_fault result.outcome ≡ false → trace_in self.new ≡ [] }
@@ -153,7 +155,7 @@ impl Engine {
         ensures due { (world_in ⟦<dyn Driver as Driver>⟧ self.new).spent ≡ true
             → SomeRanOut (states_of ⟦<dyn Driver as Driver>⟧ (drivers_in self.new)) }
         ensures sound { IsSound ⟦<dyn Driver as Driver>⟧ self.new }
-        ensures registrations { registrations self.new ≡ registrations self.old }
+        ensures registry { self.new.registry ≡ self.old.registry }
         ensures builds { builds_in self.new ≡ builds_in self.old }
         ensures last { last_build self.new ≡ last_build self.old }
         ensures no_trace { is_fault result.outcome ≡ false → trace_in self.new ≡ [] }
@@ -178,7 +180,7 @@ impl Engine {
         ensures within { StaysWithin ⟦<dyn Driver as Driver>⟧ self.old.machine.store
             (reply_in result).events self.new.machine.store }
         ensures sound { IsSound ⟦<dyn Driver as Driver>⟧ self.new }
-        ensures registrations { registrations self.new ≡ registrations self.old }
+        ensures registry { self.new.registry ≡ self.old.registry }
         ensures builds { builds_in self.new ≡ builds_in self.old }
         ensures last { last_build self.new ≡ last_build self.old }
         ensures no_trace { is_fault result.outcome ≡ false → trace_in self.new ≡ [] }
@@ -208,7 +210,7 @@ impl Engine {
         ensures within { StaysWithin ⟦<dyn Driver as Driver>⟧ self.old.machine.store
             (reply_in result).events self.new.machine.store }
         ensures sound { IsSound ⟦<dyn Driver as Driver>⟧ self.new }
-        ensures registrations { registrations self.new ≡ registrations self.old }
+        ensures registry { self.new.registry ≡ self.old.registry }
         ensures builds { builds_in self.new ≡ builds_in self.old }
         ensures last { last_build self.new ≡ last_build self.old }
     {
@@ -235,7 +237,7 @@ impl Engine {
         ensures within { StaysWithin ⟦<dyn Driver as Driver>⟧ self.old.machine.store
             (reply_in result).events self.new.machine.store }
         ensures sound { IsSound ⟦<dyn Driver as Driver>⟧ self.new }
-        ensures registrations { registrations self.new ≡ registrations self.old }
+        ensures registry { self.new.registry ≡ self.old.registry }
         ensures builds { builds_in self.new ≡ builds_in self.old }
         ensures last { last_build self.new ≡ last_build self.old }
     {
@@ -284,7 +286,7 @@ impl Engine {
         ensures modules { self.new.modules ≡ self.old.modules }
         ensures globals { list_map length (values_in self.new.machine.store.globals)
             ≡ list_map length (values_in self.old.machine.store.globals) }
-        ensures registrations { registrations self.new ≡ registrations self.old }
+        ensures registry { self.new.registry ≡ self.old.registry }
     {
         if !may_run(budget) {
             return Err(Refusal::BadBudget);
@@ -320,7 +322,7 @@ impl Engine {
         ensures modules { self.new.modules ≡ self.old.modules }
         ensures globals { list_map length (values_in self.new.machine.store.globals)
             ≡ list_map length (values_in self.old.machine.store.globals) }
-        ensures registrations { registrations self.new ≡ registrations self.old }
+        ensures registry { self.new.registry ≡ self.old.registry }
     {
         let Some(loaded) = self.modules.code.loaded(home) else {
             return Err(Refusal::NotBuilt);

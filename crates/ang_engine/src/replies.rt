@@ -2,14 +2,13 @@
 ghost use Rattle.std.specs.Prelude.{◌≡◌, ◌+◌, [], true};
 ghost use Rattle.ang_engine_modules.specs.Commands.{reply_of};
 ghost use Rattle.ang_engine.specs.Step.{errors_reply};
-ghost use Rattle.ang_engine_modules.specs.Outcomes.{outcome_of};
 ghost use Rattle.ang_host.specs.Logs.{listed_in, log_len, is_heard};
 ghost use Rattle.ang_host.specs.Events.{ends_listed};
 ghost use Rattle.ang_engine.specs.Outcomes.{reply_to_build, reply_to_call, reply_to_discard};
 ghost use Rattle.ang_engine.specs.Replies.{reply_in, reply_with};
 
 use crate::building::BuildRefused;
-use ang_engine_modules::{Outcome, Refusal, Reply};
+use ang_engine_modules::{Outcome, Refusal, Reply, no_events};
 use ang_host::{EventBuffer, EventLog};
 use ang_kinds::{Denial, Error, List};
 use std::alloc::Global;
@@ -68,18 +67,6 @@ pub fn unheard_reply(finished: Finished) -> Unheard
     }
 }
 
-/// No events yet, which can be read afterwards or are counted alone.
-pub fn no_events(alloc: Global, heard: bool) -> EventBuffer
-    ensures empty { listed_in result ≡ [] }
-    ensures heard { is_heard result ≡ heard }
-{
-    if heard {
-        EventBuffer::new(alloc)
-    } else {
-        EventBuffer::unheard(alloc)
-    }
-}
-
 /// An end without errors and denials.
 fn with_events(alloc: Global, outcome: Outcome, events: EventBuffer) -> Finished
     ensures exact { reply_in result ≡ reply_of outcome (listed_in events) [] }
@@ -112,16 +99,6 @@ pub fn answer(alloc: Global, heard: bool, outcome: Outcome) -> Finished
     ensures heard { is_heard result.events ≡ heard }
 {
     with_events(alloc, outcome, no_events(alloc, heard))
-}
-
-/// How a command without an answer ended.
-pub fn ended(done: Result<(), Refusal>) -> Outcome
-    ensures exact { result ≡ outcome_of done }
-{
-    match done {
-        Ok(()) => Outcome::Done(None),
-        Err(refusal) => Outcome::Refused(refusal),
-    }
 }
 
 /// The end of a build, with what it has listed.

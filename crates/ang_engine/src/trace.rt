@@ -22,6 +22,7 @@ pub fn budget_of(command: &Command) -> u64
         Command::Unbind { .. } => 0,
         Command::Call { budget, .. } => *budget,
         Command::Discard { .. } => 0,
+        Command::RemoveGroup { .. } => 0,
     }
 }
 

@@ -1,3 +1,7 @@
 pub mod SoFar
 pub mod Scripts
 pub mod Programs
+pub mod Narrowing
+pub mod Lookups
+pub mod Declaring
+pub mod Declared

@@ -28,10 +28,10 @@ use Rattle.ang_engine_build.specs.Named.{HasNamesOf}
 -- ---- what a built program is
 
 -- These scripts are resolved to it, and each declaration, body and initializer is accepted.
-record IsResolution (V : RegistrationList) (ss : List Source) (r : Resolved) : Type 0 where
-  declared : refusals_of V ss ≡ []
-  accepted : body_refusals V (names_of V (declarations_of ss)) ss ≡ []
-  is : resolution_of V ss ≡ r
+pub record IsResolution (V : RegistrationList) (ss : List Source) (r : Resolved) : Type 0 where
+  pub declared : refusals_of V ss ≡ []
+  pub accepted : body_refusals V (names_of V (declarations_of ss)) ss ≡ []
+  pub is : resolution_of V ss ≡ r
 
 none_of_both : (first later : List Refused) → list_or first later ≡ [] → (first ≡ []) × (later ≡ [])
 none_of_both [] later h = (refl, h)
@@ -45,7 +45,7 @@ passed : (es : List Error) (r s : Resolved) → unless_refused es r ≡ Compiled
 passed [] r s is = (refl, cc)
 passed (e ∷ es) r s is = cc
 
-scripts_resolve : (V : RegistrationList) (ss : List Source) (r : Resolved) → build_of_scripts V ss ≡ Compiled r → IsResolution V ss r
+pub scripts_resolve : (V : RegistrationList) (ss : List Source) (r : Resolved) → build_of_scripts V ss ≡ Compiled r → IsResolution V ss r
 unfolding script_refusals
 scripts_resolve V ss r is =
     let p = passed (script_errors V ss) (resolution_of V ss) r is in

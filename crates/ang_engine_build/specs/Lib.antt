@@ -3,3 +3,5 @@ pub mod Reading
 pub mod Build
 pub mod Answer
 pub mod Named
+pub mod Narrowed
+pub mod Declares

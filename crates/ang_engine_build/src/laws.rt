@@ -3,11 +3,14 @@ ghost use Rattle.std.specs.Prelude.{◌≡◌, ℕ, ◌≤◌, ◌<◌, true, Li
 ghost use Rattle.ang_view.specs.Registration.{RegistrationList};
 ghost use Rattle.ang_view.specs.Values.{TakesValues};
 ghost use Rattle.ang_source.specs.Sound.{SoundProgram};
+ghost use Rattle.ang_typed.specs.Typed as t;
+ghost use Rattle.ang_engine_build.specs.Narrowed.{narrowed};
 ghost use Rattle.ang_names_known.specs.declared.names.Family.{Family};
 ghost use Rattle.ang_names_known.specs.Spaces.{AreFamilies};
 ghost use Rattle.ang_names_listed.specs.Sources.{Source};
 ghost use Rattle.ang_names.specs.Ranks.{can_hold};
 ghost use Rattle.ang_engine_build.specs.Build.{Resolved, Compiled, build_of};
+ghost use Rattle.ang_engine_build.specs.Declares.{DeclareSame};
 ghost use Rattle.ang_engine_build.specs.Named.{HasNamesOf};
 ghost use Rattle.ang_engine_build.specs.Script.{sources_of};
 
@@ -51,4 +54,20 @@ pub fn programs_have_falling_ranks()
         → slice_get r.names.families j ≡ Some g
         → can_hold V ss i j ≡ true
         → g.rank < f.rank }
+{}
+
+/// A tree that is sound over a view is sound over what it uses of the view.
+pub fn narrowed_is_sound()
+    ensures sound { (V : RegistrationList) (p : t.Program) → SoundProgram V p
+        → SoundProgram (narrowed V p) p }
+{}
+
+/// Over what its tree uses of the view a built module declares the same as over all of it: each function, global and import
+/// has the same text, and a text declares the same function and import. So what callers name and read of a module
+/// does not change by what its view leaves out. A registration list has at most 1,024 entries.
+pub fn narrowing_declares_the_same()
+    ensures same { (V : RegistrationList) (sections : List (List ℕ)) (r : Resolved)
+        → length V ≤ 1024
+        → build_of V sections ≡ Compiled r
+        → DeclareSame V (narrowed V r.tree) r.names }
 {}

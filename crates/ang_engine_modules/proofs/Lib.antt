@@ -19,6 +19,7 @@ pub mod PlaceLists
 pub mod Worlds
 pub mod Finding
 pub mod Keeping
+mod Ranges
 pub mod Adding
 pub mod Numbering
 pub mod Unbinding

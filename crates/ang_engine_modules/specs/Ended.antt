@@ -3,7 +3,7 @@ use Rattle.std.specs.Prelude.{Bool, true, false}
 use Rattle.ang_engine_modules.specs.declared.reply.Outcome.{Outcome}
 use Rattle.ang_engine_modules.specs.declared.reply.Outcome.TheVariants.{Done, Failed, Refused}
 use Rattle.ang_engine_modules.specs.declared.reply.Refusal.{Refusal}
-use Rattle.ang_engine_modules.specs.declared.reply.Refusal.TheVariants.{BadName, ModuleExists, Limit, NoModule, NotBuilt, BadBudget, BuildMemory, BuildErrors, InitFailed, NoFunction, NoImport, SignatureDiffers, NotCallable, BadArguments, Memory}
+use Rattle.ang_engine_modules.specs.declared.reply.Refusal.TheVariants.{BadName, ModuleExists, Limit, NoModule, NotBuilt, BadBudget, BuildMemory, BuildErrors, InitFailed, NoFunction, NoImport, SignatureDiffers, NotCallable, BadArguments, Memory, NoGroup, InUse}
 
 -- whether an initializer has faulted
 abbrev pub is_failed_start : Refusal → Bool
@@ -19,6 +19,8 @@ is_failed_start BadBudget = false
 is_failed_start NoFunction = false
 is_failed_start NoImport = false
 is_failed_start SignatureDiffers = false
+is_failed_start NoGroup = false
+is_failed_start InUse = false
 is_failed_start NotCallable = false
 is_failed_start BadArguments = false
 is_failed_start Memory = false

@@ -15,3 +15,4 @@ pub mod Outcomes
 pub mod Ended
 pub mod Sound
 pub mod Taken
+pub mod Keeping

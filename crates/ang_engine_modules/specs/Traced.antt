@@ -18,6 +18,7 @@ use Rattle.ang_vm_stack.specs.declared.table.ModuleCode.{ModuleCode}
 use Rattle.ang_engine_modules.specs.declared.failed.FailedModule.{FailedModule}
 use Rattle.ang_engine_modules.specs.declared.modules.LoadedModule.{LoadedModule}
 use Rattle.ang_engine_modules.specs.declared.traced.TraceFrame.{TraceFrame}
+use Rattle.ang_engine_modules.specs.Numbers.{initialized_from}
 
 -- a body: the name of its module; the class of a method or a constructor, else nothing; the name of the function, or
 -- of the global whose initializer it is; and the place of that name
@@ -94,17 +95,18 @@ member_frame own n fs =
 
 -- ---- any body
 
--- that of a global, of whose initializers the first has this number
-abbrev pub initializer_frame : List ℕ → ℕ → ℕ → List ScriptGlobal → Option Frame
-initializer_frame own first n gs =
-    if nat_le first n then option_map (global_frame own) (slice_get gs (n - first)) else None
+-- that of a global, of whose initializers the first has this number: those without one have no body
+abbrev pub initializer_frame : List ℕ → ℕ → List ℕ → ℕ → List ScriptGlobal → Option Frame
+initializer_frame own first numbers n gs =
+    if nat_le first n then option_and_then (λ i. option_map (global_frame own) (slice_get gs i)) (slice_get numbers (n - first))
+    else None
 
 -- the body of number n of a module
 abbrev pub frame_in : LoadedModule → ℕ → Option Frame
 frame_in l n =
     option_or (option_map (function_frame l.name []) (slice_get l.names.functions n))
     (option_or (member_frame l.name n l.names.families)
-    (initializer_frame l.name (length l.tree.functions) n l.names.globals))
+    (initializer_frame l.name (length l.tree.functions) (initialized_from 0 l.tree.globals) n l.names.globals))
 
 -- ---- where a body stands
 

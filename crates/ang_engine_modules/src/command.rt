@@ -80,4 +80,11 @@ pub enum Command {
         /// The module.
         name: List<u8>,
     },
+    /// Removes a group of entries from the registration list: they are blanks from then on, for builds to come. It is
+    /// refused where an entry outside the group names a type or an enumeration of it, and where a built module uses an entry
+    /// of it. It takes no memory.
+    RemoveGroup {
+        /// The group's name.
+        name: List<u8>,
+    },
 }

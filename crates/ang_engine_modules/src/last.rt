@@ -6,7 +6,7 @@ ghost use Rattle.ang_engine_modules.specs.Loaded.{loaded_at};
 ghost use Rattle.ang_engine_modules.specs.Traced.{frame_of, frame_in, frames_of};
 ghost use Rattle.ang_engine_modules.specs.Ended.{is_fault, may_have_run};
 
-use crate::ended::{is_fault, may_have_run};
+use crate::faults::{is_fault, may_have_run};
 use crate::modules::Modules;
 use crate::reply::Outcome;
 use crate::traced::TraceFrame;

@@ -1,6 +1,7 @@
 //! The modules of an engine.
 ghost use Rattle.std.specs.Prelude.{◌≡◌, ◌<◌, ◌++◌, ◌∷◌, List as ListOf, [], None, Some, IfOk, IfSome, OnOk, OnErr, option_map, length, reverse, slice_set, map as list_map};
-ghost use Rattle.std.specs.List.{AllByRecursion};
+ghost use Rattle.std.specs.List.{AllByRecursion, list_any};
+ghost use Rattle.ang_engine_modules.specs.Keeping.{place_keeps_some};
 ghost use Rattle.std.specs.Option.{option_copied};
 ghost use Rattle.ang_host.specs.Logs.{listed_in};
 ghost use Rattle.ang_host.specs.Boxes.{members};
@@ -20,6 +21,7 @@ ghost use Rattle.ang_engine_modules.specs.Modules.{module_at, result_at, LinkFit
 
 use crate::failed::{FailedModule, failed_frame, failed_module, marks_at, put_failed};
 use crate::globals::defaults;
+use crate::groups::some_keep;
 use crate::kept::KeptTree;
 use crate::links::{bind_import, unbind_codes, unbind_places};
 use crate::runs::{body_count, run_initializers};
@@ -31,7 +33,7 @@ use ang_host::{Driver, EventBuffer};
 use ang_kinds::{Fault, List, Value};
 use ang_meaning::{Routine, Slot};
 use ang_names_known::Names;
-use ang_view::View;
+use ang_view::{Group, View};
 use ang_vm::{Machine, Table, run};
 use ang_vm_stack::table::ModuleCode;
 use std::alloc::{AllocError, Global};
@@ -268,6 +270,14 @@ impl Modules {
         ensures exact { option_copied result ≡ loaded_at self.now home }
     {
         self.loaded.get(home as usize)?.as_ref()
+    }
+
+    /// Whether a built module keeps an entry of the group. It takes no memory, and at most as many steps as the group has
+    /// entries for each module.
+    pub fn keep(&self, group: &Group) -> bool
+        ensures exact { result ≡ list_any (place_keeps_some group.now) self.now }
+    {
+        some_keep(self.loaded.as_slice(), group)
     }
 
     /// What a body is declared as whose module is built, or has failed and is kept; with the place of the

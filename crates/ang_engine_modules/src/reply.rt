@@ -1,4 +1,7 @@
 //! What the engine answers.
+ghost use Rattle.std.specs.Prelude.{◌≡◌};
+ghost use Rattle.ang_engine_modules.specs.Outcomes.{outcome_of};
+
 use ang_host::EventLog;
 use ang_kinds::{Denial, Error, Fault, List, Value};
 
@@ -31,8 +34,8 @@ pub enum Outcome {
 }
 
 /// Why a command was refused. docs/HOST.md, "Commands", has the order in which each command
-/// looks for the causes. `Memory` may come in the place of any other, but never from `SetMask` and
-/// `Unbind`.
+/// looks for the causes. `Memory` may come in the place of any other, but never from `SetMask`,
+/// `Unbind` and `RemoveGroup`.
 #[derive(Clone, Copy)]
 pub enum Refusal {
     /// The name of a new module is no identifier.
@@ -67,6 +70,20 @@ pub enum Refusal {
     /// Another number of values than there are parameters, or one that is not of its parameter's
     /// type and range. Nothing is converted.
     BadArguments,
+    /// The registration list has no group of that name.
+    NoGroup,
+    /// The group is in use: an entry outside it names a type or an enumeration of it, or a built module uses an entry of it.
+    InUse,
     /// A growth of memory was refused before anything was changed.
     Memory,
+}
+
+/// How a command without an answer ended.
+pub fn ended(done: Result<(), Refusal>) -> Outcome
+    ensures exact { result ≡ outcome_of done }
+{
+    match done {
+        Ok(()) => Outcome::Done(None),
+        Err(refusal) => Outcome::Refused(refusal),
+    }
 }

@@ -1,5 +1,5 @@
 //! What a body that was running is declared as, and the statement in which it stood.
-ghost use Rattle.std.specs.Prelude.{◌≡◌, IfSome, option_map, position};
+ghost use Rattle.std.specs.Prelude.{◌≡◌, IfSome, option_map, position, slice_get};
 ghost use Rattle.ang_engine_modules.specs.Traced.{frame_of, function_frame, global_frame, has_method_body, has_constructor_body, method_of, constructor_of, member_of, has_member, family_frame, member_frame, initializer_frame, frame_in, place_in, begins_before, count_before, mark_before, statement_place};
 
 use crate::modules::LoadedModule;
@@ -156,21 +156,38 @@ fn member_frame<'a>(own: &'a [u8], families: &'a [Family], number: usize) -> Opt
     }
 }
 
-/// The global of a module whose initializer is the body of that number.
+/// The global of that number.
+fn numbered_frame<'a>(
+    own: &'a [u8],
+    globals: &'a [ScriptGlobal],
+    number: usize,
+) -> Option<TraceFrame<'a>>
+    ensures exact { option_map frame_of result
+        ≡ option_map (global_frame own.now) (slice_get globals.now number) }
+{
+    match globals.get(number) {
+        Some(global) => Some(global_frame(own, global)),
+        None => None,
+    }
+}
+
+/// The global of a module whose initializer is the body of that number. The first initializer has the number `first`, and
+/// these are the numbers of the globals that have one.
 fn initializer_frame<'a>(
     own: &'a [u8],
     globals: &'a [ScriptGlobal],
     first: usize,
+    numbers: &[usize],
     number: usize,
 ) -> Option<TraceFrame<'a>>
     ensures exact { option_map frame_of result
-        ≡ initializer_frame own.now first number globals.now }
+        ≡ initializer_frame own.now first numbers.now number globals.now }
 {
     if number < first {
         return None;
     }
-    match globals.get(number - first) {
-        Some(global) => Some(global_frame(own, global)),
+    match numbers.get(number - first) {
+        Some(global) => numbered_frame(own, globals, *global),
         None => None,
     }
 }
@@ -188,7 +205,8 @@ fn declared_frame(loaded: &LoadedModule, number: usize) -> Option<TraceFrame<'_>
         return Some(frame);
     }
     let first = loaded.tree.function_count();
-    initializer_frame(own, loaded.names.globals(), first, number)
+    let numbers = loaded.tree.initialized();
+    initializer_frame(own, loaded.names.globals(), first, numbers, number)
 }
 
 // ---- where it stood

@@ -5,7 +5,7 @@ use Rattle.std.specs.Map.{lookup, set_value}
 use Rattle.std.proofs.lemmas.Slice.Eq.{bytes_eq-Decides}
 use Rattle.indexmap.specs.IndexMap.{insert_entry}
 use Rattle.ang_index.specs.declared.key.Key.{Key}
-use Rattle.ang_index.specs.Rows.{is_under, items_at, Puts, rows_of, is_asked, lookup_asked}
+use Rattle.ang_index.specs.Rows.{is_under, items_at, Changes, Puts, rows_of, is_asked, lookup_asked}
 
 -- ---- an answer that may be an error
 
@@ -176,6 +176,41 @@ module _ {T : Type 0} where
 
   pub absent_none : (s : ℕ) (name : List ℕ) (es : List (Key × List T)) → lookup_asked s name es ≡ None → items_at s name (rows_of es) ≡ []
   absent_none s name es h = sym (none_there s name es h)
+
+  -- ---- a row that is there, and changes
+
+  step_by : (d c : Bool) (v r more : List T) (f : List T → List T) → (d ≡ true → c ≡ true → ⊥) → more ≡ cond c (f r) r → cond d v more ≡ cond c (f (cond d v r)) (cond d v r)
+  step_by true true v r more f never e = absurd (never refl refl)
+  step_by true false v r more f never e = refl
+  step_by false c v r more f never e = e
+
+  in_row_by : (d c : Bool) (row v r : List T) (f : List T → List T) → d ≡ c → v ≡ row → cond d (f row) r ≡ cond c (f (cond d v r)) (cond d v r)
+  in_row_by true true row v r f e at = ap f (sym at)
+  in_row_by true false row v r f e at = absurd (true≢false e)
+  in_row_by false true row v r f e at = absurd (true≢false (sym e))
+  in_row_by false false row v r f e at = refl
+
+  present_by : (s : ℕ) (name : List ℕ) (f : List T → List T) (es : List (Key × List T)) (row : List T) → lookup_asked s name es ≡ Some row
+      → Changes (rows_of es) (rows_of (set_value (is_asked s name) es (f row))) s name f
+  present_by s name f [] row h t other = cc
+  present_by s name f (e ∷ es) row h t other = by (is_asked s name e.0) refl (λ g. present_by s name f es row g t other) h
+    where
+      by : (b : Bool) → is_asked s name e.0 ≡ b
+          → (lookup_asked s name es ≡ Some row → items_at t other (rows_of (set_value (is_asked s name) es (f row)))
+          ≡ cond (is_under t other (s, name)) (f (items_at t other (rows_of es))) (items_at t other (rows_of es)))
+          → cond b (Some e.1) (lookup_asked s name es) ≡ Some row
+          → items_at t other (rows_of (cond b ((e.0, f row) ∷ es) (e ∷ set_value (is_asked s name) es (f row))))
+          ≡ cond (is_under t other (s, name)) (f (items_at t other (rows_of (e ∷ es)))) (items_at t other (rows_of (e ∷ es)))
+      by true is later h =
+          let r = two_are s e.0.scope name e.0.name.items is in
+          in_row_by _ _ row e.1 (items_at t other (rows_of es)) f (λ i. is_under t other (sym r.0 i, sym r.1 i)) (some_same e.1 row h)
+      by false is later h = step_by _ _ e.1 (items_at t other (rows_of es)) _ f (apart s t name other e.0 is) (later h)
+
+  pub present_changes : (s : ℕ) (name : List ℕ) (es new : List (Key × List T)) (row changed : List T) (f : List T → List T)
+      → lookup_asked s name es ≡ Some row → changed ≡ f row → new ≡ set_value (is_asked s name) es changed
+      → Changes (rows_of es) (rows_of new) s name f
+  present_changes s name es new row changed f h e is t other =
+      ap (λ l. items_at t other (rows_of l)) (is ∙ ap (set_value (is_asked s name) es) e) ∙ present_by s name f es row h t other
 
   -- ---- the first item of a name
 

@@ -21,6 +21,11 @@ abbrev pub Puts : {T : Type 0} → Rows T → Rows T → ℕ → List ℕ → T 
 Puts old new scope name x = (t : ℕ) (other : List ℕ) →
     items_at t other new ≡ (if is_under t other (scope, name) then items_at t other old ++ x ∷ [] else items_at t other old)
 
+-- what stands under a scope's number and a name is changed by f, and under all others nothing changes
+abbrev pub Changes : {T : Type 0} → Rows T → Rows T → ℕ → List ℕ → (List T → List T) → Type 0
+Changes old new scope name f = (t : ℕ) (other : List ℕ) →
+    items_at t other new ≡ (if is_under t other (scope, name) then f (items_at t other old) else items_at t other old)
+
 -- ---- as the table has them
 
 abbrev pub rows_of : {T : Type 0} → List (Key × List T) → Rows T

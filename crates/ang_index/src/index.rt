@@ -1,5 +1,6 @@
 //! Items by name, one more at a time.
-ghost use Rattle.std.specs.Prelude.{◌≡◌, ◌++◌, ◌∷◌, [], None, IfNone, IfOk, IfSome, OnErr, OnOk};
+ghost use Rattle.std.specs.Prelude.{◌≡◌, ◌<◌, ◌++◌, ◌∷◌, [], length, None, IfNone, IfOk, IfSome, OnErr, OnOk};
+ghost use Rattle.std.specs.List.{remove};
 ghost use Rattle.ang_index.specs.Rows as spec;
 
 use crate::key::{Asked, Key, key_of};
@@ -34,6 +35,13 @@ impl<T: Drop> Row<T> {
     {
         self.items.push(item)?;
         Ok(())
+    }
+
+    fn remove(&mut self, place: usize)
+        requires within { place < length self.old }
+        ensures removed { self.new ≡ remove self.old place }
+    {
+        self.items.remove(place);
     }
 
     fn pop(&mut self) -> Option<T>
@@ -121,9 +129,23 @@ fn take<T: Drop>(rows: &mut IndexMap<Key, Row<T>>, scope: u64, name: &[u8]) -> O
     None
 }
 
+/// Takes the item of a place out of the row of its name.
+fn take_at<T: Drop>(rows: &mut IndexMap<Key, Row<T>>, scope: u64, name: &[u8], place: usize)
+    requires there { place
+        < length (spec.items_at scope name.now (spec.rows_of rows.old.entries)) }
+    ensures removed { spec.Changes (spec.rows_of rows.old.entries)
+        (spec.rows_of rows.new.entries) scope name.now (λ row. remove row place) }
+{
+    let Some(row) = rows.get_mut(Asked { scope, name }) else {
+        unreachable!();
+    };
+    row.remove(place);
+}
+
 impl<T: Drop> Index<T> {
-    ghost use Rattle.std.specs.Prelude.{◌≡◌, [], IfNone, IfSome, OnErr, OnOk};
-    ghost use Rattle.ang_index.specs.Rows.{Puts, items_at};
+    ghost use Rattle.std.specs.Prelude.{◌≡◌, ◌<◌, [], length, IfNone, IfSome, OnErr, OnOk};
+    ghost use Rattle.std.specs.List.{remove};
+    ghost use Rattle.ang_index.specs.Rows.{Changes, Puts, items_at};
 
     /// Nothing is put in yet. It takes no memory.
     pub fn new(alloc: Global) -> Index<T>
@@ -158,6 +180,15 @@ impl<T: Drop> Index<T> {
         ensures unchanged { IfNone result (self.new ≡ self.old) }
     {
         take(&mut self.rows, scope, name)
+    }
+
+    /// Takes the item of a place out of those under a scope's number and a name: all others stay, in their order. It takes no
+    /// memory, and its time is that of one look-up and of moving those after it.
+    pub fn remove(&mut self, scope: u64, name: &[u8], place: usize)
+        requires there { place < length (items_at scope name.now self.old) }
+        ensures removed { Changes self.old self.new scope name.now (λ row. remove row place) }
+    {
+        take_at(&mut self.rows, scope, name, place);
     }
 
     /// The items under a scope's number and a name, in the order in which they were put in. It takes no memory.

@@ -325,7 +325,7 @@ module _ (z : Environment) (m : ℕ) (M : Module) (callees : HasCallees z m M) (
     lowered_sound (tree.or a b) n h = (lowered_sound a n h.0, tt, lowered_sound b n h.1)
     lowered_sound (tree.choose a b d) n h = (lowered_sound a n h.0, lowered_sound b n h.1, lowered_sound d n h.2)
     lowered_sound (tree.same a b) n h = binary_sound n Same (low.lowered n a) (low.lowered n b) (refl, refl) (lowered_sound a n h.0) (lowered_sound b n h.1)
-    lowered_sound (tree.naming x e) n h = lowered_sound e n h
+    lowered_sound (tree.naming x e) n h = lowered_sound e n h.1
     lowered_sound (tree.cast family e) n h = unary_sound n (Cast family) (low.lowered n e) (refl, refl) (lowered_sound e n h.1)
     lowered_sound (tree.make family None args) n h = nullary_sound n (Make family) (refl, callees.classes family h.0)
     lowered_sound (tree.make family (Some f) args) n h = (
@@ -403,7 +403,7 @@ module _ (z : Environment) (m : ℕ) (M : Module) (callees : HasCallees z m M) (
   locals_sound loop [] n h = tt
   locals_sound loop (x ∷ xs) n h =
       let e : suc n ≡ 1 + n = omega arith in
-      (begin_sound x.initializer x.ty n h.0, subst (λ i. AreSoundStmts z m loop i (stmt.stmts (lowered_locals (suc n) xs))) e (locals_sound loop xs (suc n) h.1))
+      (begin_sound x.initializer x.ty n h.1, subst (λ i. AreSoundStmts z m loop i (stmt.stmts (lowered_locals (suc n) xs))) e (locals_sound loop xs (suc n) h.2))
 
   simple_sound : (loop : Bool) (e : Option tree.Expr) (n : ℕ) → SoundOption M n e → IsSoundStmt z m loop n (lowered_simple n e)
   simple_sound loop None n h = tt

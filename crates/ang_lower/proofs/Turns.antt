@@ -55,8 +55,8 @@ module _ (z : Environment) (m : ℕ) (M : Module) (k k' : Callees) (callees : Ca
       let v = eval z m k (low.lowered_begin n x.ty x.initializer) ls t w in
       let rest = λ (ls' : List Slot) (t' : ℕ) (w' : World). run_all z m k p (stmt.stmts (lowered_locals (suc n) xs)) ls' t' w' in
       let r = with_value_same n n (length xs + suc n) v (begin_local z m k' x.ty x.initializer ls t w) (λ u ls' t' w'. rest (u ∷ ls') t' w') (λ u ls' t' w'. run_locals z m k' xs (u ∷ ls') t' w')
-      (begin_same z m M k k' callees x.initializer x.ty n ls t w l h.0)
-      (λ u ls' t' w' l'. run_lower n (suc n) (length xs + suc n) _ _ (omega arith) (locals_same xs (suc n) (u ∷ ls') t' w' (ap suc l') h.1)) in
+      (begin_same z m M k k' callees x.initializer x.ty n ls t w l h.1)
+      (λ u ls' t' w' l'. run_lower n (suc n) (length xs + suc n) _ _ (omega arith) (locals_same xs (suc n) (u ∷ ls') t' w' (ap suc l') h.2)) in
       run_at n (length xs + suc n) (length (x ∷ xs) + n) _ _ (omega arith) (record { same = then_value v (λ u ls' t' w'. Went (u ∷ ls') t' w') rest ∙ r.same; keeps = r.keeps })
 
   discarded_same : (e : tree.Expr) (n : ℕ) (ls : List Slot) (t : ℕ) (w : World) → length ls ≡ n → Sound M n e

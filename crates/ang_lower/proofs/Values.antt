@@ -221,7 +221,7 @@ module _ (z : Environment) (m : ℕ) (M : Module) (k k' : Callees) (callees : Ca
     value_same (t.negate ty e) n ls t w l h = folded_same z m k k' n (negated ty) (Negate ty) (negates z m ty) (low.lowered n e) (evaluate z m k' e ls t w) ls t w (value_same e n ls t w l h)
     value_same (t.complement ty e) n ls t w l h = folded_same z m k k' n (complemented ty) (Complement ty) (complements z m ty) (low.lowered n e) (evaluate z m k' e ls t w) ls t w (value_same e n ls t w l h)
     value_same (t.not e) n ls t w l h = folded_same z m k k' n denied Not (denies z m) (low.lowered n e) (evaluate z m k' e ls t w) ls t w (value_same e n ls t w l h)
-    value_same (t.naming x e) n ls t w l h = value_same e n ls t w l h
+    value_same (t.naming x e) n ls t w l h = value_same e n ls t w l h.1
     value_same (t.cast family e) n ls t w l h = unary_same z m k k' n (Cast family) (low.lowered n e) (evaluate z m k' e ls t w) ls t w (value_same e n ls t w l h.1)
     value_same (t.operate op ty a b) n ls t w l h =
         binary_same z m k k' n (Binary op ty) (low.lowered n a) (low.lowered n b) (evaluate z m k' a ls t w) (evaluate z m k' b) ls t w (value_same a n ls t w l h.0)

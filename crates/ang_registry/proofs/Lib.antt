@@ -3,3 +3,4 @@ pub mod Declared
 pub mod Tables
 pub mod Values
 pub mod Among
+pub mod Grouping

@@ -5,3 +5,5 @@ pub mod Types
 pub mod Written
 pub mod Among
 pub mod Refusals
+pub mod Groups
+pub mod Drivers

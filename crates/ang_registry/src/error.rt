@@ -1,6 +1,7 @@
 //! Why a registration is refused.
 ghost use Rattle.std.specs.Prelude.{◌≡◌};
 ghost use Rattle.ang_registry.specs.declared.error.RegError.TheVariants.{Memory};
+ghost use Rattle.ang_registry.specs.declared.error.GroupError.TheVariants as group;
 
 use std::alloc::{AllocError, AllocFailed};
 use thiserror::Error;
@@ -57,5 +58,50 @@ impl<T: Drop> From<AllocFailed<T>> for RegError {
 
     fn from(_error: AllocFailed<T>) -> RegError {
         RegError::Memory
+    }
+}
+
+/// Why a group can't be begun, ended or removed (docs/HOST.md, "Groups").
+///
+/// Where several apply, the first of them in this order is answered. `Memory` comes from `begin_group` alone, where it may
+/// come instead of any other answer.
+#[derive(Clone, Copy, PartialEq, Eq, Debug, Error)]
+pub enum GroupError {
+    /// A group is begun and not ended: groups don't nest.
+    #[error("a group is open")]
+    GroupOpen,
+    /// The name is no identifier.
+    #[error("not an identifier")]
+    BadName,
+    /// There is a group of that name.
+    #[error("the name is taken")]
+    Duplicate,
+    /// 64 groups are there.
+    #[error("too many groups")]
+    Limit,
+    /// No group is open; or none of that name is there and ended.
+    #[error("no such group")]
+    NoGroup,
+    /// An entry outside the group names a type or an enumeration of it.
+    #[error("the group is in use")]
+    InUse,
+    /// The allocator refused memory.
+    #[error("out of memory")]
+    Memory,
+}
+
+impl From<AllocError> for GroupError {
+    ghost from_gives = { λ _ e. e ≡ group.Memory };
+
+    fn from(_error: AllocError) -> GroupError {
+        GroupError::Memory
+    }
+}
+
+impl<T: Drop> From<AllocFailed<T>> for GroupError {
+    ghost from_gives = { λ _ e. e ≡ group.Memory };
+
+    fn from(_error: AllocFailed<T>) -> GroupError {
+        GroupError::Memory
     }
 }

@@ -2,13 +2,16 @@
 #![tactic(auto)]
 
 mod declaration;
+mod drivers;
 mod error;
+mod groups;
 mod lookup;
 mod overload;
 mod refusal;
 mod registry;
 mod settle;
 
-pub use ang_view::{Entry, EntryKind, View};
-pub use error::RegError;
+pub use ang_view::{Entry, EntryKind, Group, View};
+pub use drivers::have_drivers;
+pub use error::{GroupError, RegError};
 pub use registry::Registry;

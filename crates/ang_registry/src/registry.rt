@@ -1,5 +1,5 @@
 //! The registry.
-ghost use Rattle.std.specs.Prelude.{◌≡◌, ◌≢◌, ◌≤◌, ◌<◌, false, [], length, None, Some, IfOk, IfErr, OnOk, OnErr, option_map, IfSome};
+ghost use Rattle.std.specs.Prelude.{◌≡◌, ◌≢◌, ◌≤◌, ◌<◌, false, true, [], length, None, Some, IfOk, IfErr, OnOk, OnErr, option_map, IfSome};
 ghost use Rattle.std.specs.Option.{option_copied};
 ghost use Rattle.ang_view.specs.Registration.{entry_at, seen, function_named, SeesFunction};
 ghost use Rattle.ang_view.specs.Hidden.{hidden};
@@ -19,12 +19,13 @@ use crate::overload::is_duplicate;
 use crate::refusal::{MOST_ENTRIES, check_room, gives_own, is_over_limit};
 use crate::settle::{is_misused, mask_of, settled};
 use ang_kinds::{EntityNo, Mask, Signature};
-use ang_view::{Entry, EntryKind, View, find_type, hidden_of, view_of, whole_of};
+use ang_view::{Entry, EntryKind, Group, View, find_type, hidden_of, view_of, whole_of};
 use std::alloc::{AllocError, Global};
 use std::marker::Model;
 
-/// What a host offers to scripts: a list of entries, numbered from 0 in the order of registration, and
-/// the mask that the next entry gets (docs/HOST.md, "Registration").
+/// What a host offers to scripts: a list of entries, numbered from 0 in the order of registration, the
+/// mask that the next entry gets (docs/HOST.md, "Registration"), and groups of entries that go together
+/// ("Groups").
 ///
 /// It doesn't know which drivers there will be: `Engine::new` refuses an entry whose driver is not in the
 /// list (`NoDriver`).
@@ -34,21 +35,29 @@ use std::marker::Model;
 /// That of a type also goes through all entries, to see whether its driver has a type already.
 #[derive(Drop)]
 pub struct Registry {
-    alloc: Global,
+    pub(crate) alloc: Global,
     default_mask: Mask,
-    list: View,
+    pub(crate) list: View,
+    pub(crate) groups: Vec<Group>,
+    pub(crate) is_open: bool,
 }
 
 impl Model for Registry {
     ghost use Rattle.std.specs.Prelude.{◌≤◌, length};
-    ghost use Rattle.ang_registry.specs.Registrations.{Registrations};
+    ghost use Rattle.ang_registry.specs.Registrations.{Registrations, AreGroups};
     ghost use Rattle.ang_view.specs.Values.{TakesValues};
 
     ghost Value = { Registrations };
 
-    ghost view = { λ r. record { default_mask = r.default_mask; entries = r.list } };
+    ghost view = { λ r. record {
+      default_mask = r.default_mask;
+      entries = r.list;
+      groups = r.groups.items;
+      is_open = r.is_open;
+    } };
 
-    ghost invariant = { λ r. (length r.list ≤ 1024) × TakesValues r.list };
+    ghost invariant = { λ r. (length r.list ≤ 1024) × TakesValues r.list
+        × AreGroups r.list r.groups.items };
 }
 
 impl Registry {
@@ -56,11 +65,15 @@ impl Registry {
     pub fn new(alloc: Global) -> Registry
         ensures empty { result.entries ≡ [] }
         ensures mask { result.default_mask.0 ≡ 1 }
+        ensures no_groups { result.groups ≡ [] }
+        ensures none_open { result.is_open ≡ false }
     {
         Registry {
             alloc,
             default_mask: Mask(1),
             list: View::new(alloc),
+            groups: Vec::new(alloc),
+            is_open: false,
         }
     }
 
@@ -70,6 +83,8 @@ impl Registry {
         ensures before { result ≡ self.old.default_mask }
         ensures set { self.new.default_mask ≡ mask }
         ensures kept { self.new.entries ≡ self.old.entries }
+        ensures groups_kept { self.new.groups ≡ self.old.groups }
+        ensures open_kept { self.new.is_open ≡ self.old.is_open }
     {
         let before = self.default_mask;
         self.default_mask = mask;

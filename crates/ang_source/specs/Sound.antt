@@ -1,15 +1,17 @@
 -- What a checker promises of a resolved tree (docs/CLAIMS.md, "What a script means"): each local is alive, each global, function, class, slot and import is
 -- there, each call has an argument for each parameter, each host call is of an entity that the view has, no property that is declared `const` is written, and
--- `break` and `continue` stand in a loop. It says nothing else of types: operations are total, a field of no object and a
--- slot that a class has not fault.
+-- `break` and `continue` stand in a loop. The view has each entry that is named, and the type of each local, where that is the host's. It says nothing else of
+-- types: operations are total, a field of no object and a slot that a class has not fault.
 use Rattle.std.specs.List.{list_any}
-use Rattle.std.specs.Prelude.{◌≡◌, ◌≢◌, ℕ, suc, ◌+◌, ◌<◌, ◌==◌, Bool, true, false, IsTrue, List, [], ◌∷◌, length, map, Option, Some, None, IfSome, slice_get}
+use Rattle.std.specs.Prelude.{◌≡◌, ◌≢◌, ℕ, suc, ◌+◌, ◌<◌, ◌==◌, Bool, true, false, IsTrue, List, [], ◌∷◌, length, map, Option, Some, None, IfSome, IsSome, slice_get}
 use Rattle.ang_kinds.specs.declared.types.Pass.{Pass}
 use Rattle.ang_kinds.specs.declared.types.Pass.TheVariants.{RefOut}
 use Rattle.ang_view.specs.declared.entry.Entry.{Entry}
 use Rattle.ang_view.specs.declared.entry.EntryKind.{EntryKind}
 use Rattle.ang_view.specs.declared.entry.EntryKind.TheVariants.{HostType, Factory, Method, Property, Function, Global, Enumeration, EnumValue}
 use Rattle.ang_view.specs.Registration.{RegistrationList, entry_at}
+use Rattle.ang_types.specs.declared.arg_type.ArgType.{ArgType}
+use Rattle.ang_types.specs.declared.arg_type.ArgType.TheVariants as type
 use Rattle.ang_typed.specs.declared.expression.HostEntity.{HostEntity}
 use Rattle.ang_typed.specs.declared.expression.TypedCallee.{TypedCallee}
 use Rattle.ang_typed.specs.declared.expression.TypedCallee.TheVariants as callee
@@ -54,6 +56,21 @@ pub record IsHostCallee (V : RegistrationList) (h : HostEntity) (count : ℕ) : 
   pub kind : EntryKind
   pub entity : IsEntity V kind h
   pub params : argument_number kind (length entity.entry.signature.params) ≡ Some count
+
+-- ---- entries that are named
+
+-- no blank of the view has this number; the numbers of classes and interfaces as types are past its end
+abbrev pub IsNoBlank : RegistrationList → ℕ → Type 0
+IsNoBlank V n = n < length V → IsSome (entry_at V n)
+
+-- a type whose entry, if it is the host's, the view has
+abbrev pub IsSeenType : RegistrationList → ArgType → Type 0
+IsSeenType V type.Void = Unit {0}
+IsSeenType V type.Null = Unit {0}
+IsSeenType V (type.Plain p) = Unit {0}
+IsSeenType V (type.Enumeration n) = IsNoBlank V n
+IsSeenType V (type.Object n c) = IsNoBlank V n
+IsSeenType V (type.Handle n c) = IsNoBlank V n
 
 -- ---- what a module has
 
@@ -156,7 +173,7 @@ module _ (M : Module) where
     Sound n (t.choose c l r) = Sound n c × Sound n l × Sound n r
     Sound n (t.same l r) = Sound n l × Sound n r
     Sound n (t.cast c e) = (c < M.classes) × Sound n e
-    Sound n (t.naming x e) = Sound n e
+    Sound n (t.naming x e) = IsSome (entry_at M.view x.0) × Sound n e
     Sound n (t.make c None args) = (c < M.classes) × (args ≡ t.none)
     Sound n (t.make c (Some k) args) =
         (c < M.classes) × ((own : TypedParameter) × (ps : List TypedParameter) × (slice_get M.parameters k ≡ Some (own ∷ ps)) × (own.pass ≢ RefOut) × SoundArguments n ps args)
@@ -202,7 +219,7 @@ module _ (M : Module) where
   -- each local is known after its own initializer
   abbrev pub SoundLocals : ℕ → List t.Local → Type 0
   SoundLocals n [] = Unit {0}
-  SoundLocals n (l ∷ ls) = SoundOption n l.initializer × SoundLocals (suc n) ls
+  SoundLocals n (l ∷ ls) = IsSeenType M.view l.ty × SoundOption n l.initializer × SoundLocals (suc n) ls
 
   abbrev mutual
     pub SoundStatement : Bool → ℕ → t.Stmt → Type 0

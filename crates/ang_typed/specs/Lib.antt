@@ -1,2 +1,4 @@
 pub mod Typed
 pub mod View
+pub mod Uses
+pub mod Marked

@@ -1,4 +1,5 @@
-//! The resolved tree of a module: what the checker gives, and all that running it needs.
+//! The resolved tree of a module: what the checker gives, and all that running it needs; and what a tree uses of the
+//! registration list.
 //!
 //! Every name stands for the number of what it means, every conversion is written out, and every
 //! operator has the type in which it works, so that nothing looks a name or a type up again. A tree of
@@ -15,6 +16,7 @@
 mod expression;
 mod program;
 mod statement;
+mod uses;
 
 pub use expression::{
     HostEntity, StepKind, TypedArgument, TypedCallee, TypedExpression, TypedMember, TypedSite,
@@ -22,3 +24,4 @@ pub use expression::{
 };
 pub use program::{Global, Heading, Typed, TypedClass, TypedFunction, TypedParameter};
 pub use statement::{Local, TypedBlock, TypedChoice, TypedFor, TypedLoop, TypedStatement};
+pub use uses::mark_uses;

@@ -5,3 +5,7 @@ pub mod ViewTypes
 pub mod Named
 pub mod Among
 pub mod SeenTypes
+pub mod Keeping
+pub mod Blanking
+pub mod Grouping
+pub mod Outside

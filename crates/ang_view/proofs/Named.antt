@@ -24,7 +24,7 @@ range_last a (suc n) =
     let up : (a + 1) + n ≡ a + suc n = omega arith in
     ap (λ ks. a ∷ ks) (range_last (a + 1) n ∙ ap (λ k. range_with_len (a + 1) n ++ k ∷ []) up)
 
-range_more : (n : ℕ) → range_with_len 0 (n + 1) ≡ range_with_len 0 n ++ n ∷ []
+pub range_more : (n : ℕ) → range_with_len 0 (n + 1) ≡ range_with_len 0 n ++ n ∷ []
 range_more n =
     let next : n + 1 ≡ suc n = omega arith in
     let first : 0 + n ≡ n = omega arith in

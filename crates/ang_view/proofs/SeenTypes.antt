@@ -20,7 +20,7 @@ use Rattle.ang_view.specs.SeenTypes.{is_spelled_type, meets_if_spelled, meets_ow
 
 -- ---- tests of those numbers that pass another one
 
-and_false : (b : Bool) → (b && false) ≡ false
+pub and_false : (b : Bool) → (b && false) ≡ false
 and_false true = refl
 and_false false = refl
 
@@ -119,12 +119,12 @@ itself n = search arith
 unlike : (i k : ℕ) → ((i + suc k) == i) ≡ false
 unlike i k = elim (eqb_tells (i + suc k) i) [ inl e ↦ absurd (omega (arith, e.1)) | inr e ↦ e.0 ]
 
-and_yes : (b : Bool) → (b && true) ≡ b
+pub and_yes : (b : Bool) → (b && true) ≡ b
 and_yes true = refl
 and_yes false = refl
 
 -- a type's number is one of the list
-inside : (V : RegistrationList) (i k : ℕ) → (is_type_entry (entry_at V k) && list_any (λ n. (i + k) == n) (range_with_len i (length V))) ≡ is_type_entry (entry_at V k)
+pub inside : (V : RegistrationList) (i k : ℕ) → (is_type_entry (entry_at V k) && list_any (λ n. (i + k) == n) (range_with_len i (length V))) ≡ is_type_entry (entry_at V k)
 inside [] i k = refl
 inside (x ∷ xs) i zero =
     let z : i ≡ i + 0 = omega arith in
@@ -147,19 +147,19 @@ owner_met V m (Some e) =
 
 -- ---- types that are spelled in a signature
 
-abbrev is_spelled_any : List Param → Option Entry → Bool
+abbrev pub is_spelled_any : List Param → Option Entry → Bool
 is_spelled_any ps None = false
 is_spelled_any ps (Some t) = is_type t.kind && list_any (λ (p : Param). is_spelled_with t.signature.name p.ty) ps
 
-over_or : (b c d : Bool) → (b && (c || d)) ≡ ((b && c) || (b && d))
+pub over_or : (b c d : Bool) → (b && (c || d)) ≡ ((b && c) || (b && d))
 over_or true c d = refl
 over_or false c d = refl
 
-no_parameter : (o : Option Entry) → is_spelled_any [] o ≡ false
+pub no_parameter : (o : Option Entry) → is_spelled_any [] o ≡ false
 no_parameter None = refl
 no_parameter (Some t) = and_false (is_type t.kind)
 
-one_parameter : (p : Param) (ps : List Param) (o : Option Entry) → is_spelled_any (p ∷ ps) o ≡ (is_spelled_type p.ty o || is_spelled_any ps o)
+pub one_parameter : (p : Param) (ps : List Param) (o : Option Entry) → is_spelled_any (p ∷ ps) o ≡ (is_spelled_type p.ty o || is_spelled_any ps o)
 one_parameter p ps None = refl
 one_parameter p ps (Some t) = over_or (is_type t.kind) (is_spelled_with t.signature.name p.ty) (list_any (λ (p : Param). is_spelled_with t.signature.name p.ty) ps)
 
@@ -173,10 +173,10 @@ parameters_met V m (p ∷ ps) =
 
 -- ---- all types that a declaration names
 
-abbrev by_owner : Option EntityNo → Option Entry → ℕ → Bool
+abbrev pub by_owner : Option EntityNo → Option Entry → ℕ → Bool
 by_owner owner o n = is_type_entry o && is_number n owner
 
-abbrev by_signature : Signature → Option Entry → Bool
+abbrev pub by_signature : Signature → Option Entry → Bool
 by_signature s o = is_spelled_type s.result o || is_spelled_any s.params o
 
 split : (z b o r a : Bool) → z ≡ false → (not z && b && (o || (r || a))) ≡ ((b && o) || ((b && r) || (b && a)))
@@ -184,7 +184,7 @@ split true b o r a e = cc
 split false true o r a e = refl
 split false false o r a e = refl
 
-by_one : (x : Entry) (n : ℕ) (o : Option Entry) → is_type x.kind ≡ false → is_named_by x n o ≡ (by_owner x.owner o n || by_signature x.signature o)
+pub by_one : (x : Entry) (n : ℕ) (o : Option Entry) → is_type x.kind ≡ false → is_named_by x n o ≡ (by_owner x.owner o n || by_signature x.signature o)
 by_one x n None e = refl
 by_one x n (Some t) e =
     split (is_type x.kind) (is_type t.kind) (is_number n x.owner) (is_spelled_with t.signature.name x.signature.result)
@@ -194,7 +194,7 @@ no_names : (z b c : Bool) → z ≡ true → (not z && b && c) ≡ false
 no_names true b c e = refl
 no_names false b c e = cc
 
-names_nothing : (x : Entry) (n : ℕ) (o : Option Entry) → is_type x.kind ≡ true → is_named_by x n o ≡ false
+pub names_nothing : (x : Entry) (n : ℕ) (o : Option Entry) → is_type x.kind ≡ true → is_named_by x n o ≡ false
 names_nothing x n None e = refl
 names_nothing x n (Some t) e = no_names (is_type x.kind) (is_type t.kind) (is_number n x.owner || mentions x.signature t.signature.name) e
 
@@ -262,11 +262,11 @@ found_met V m ty name es found wide =
     ∙ ap (list_all (λ n. meets_if_spelled m ty (entry_at V n))) found
     ∙ all_wide q (λ n. is_spelled_type ty (entry_at V n)) (λ n. has_name name (entry_at V n)) (λ n e. wide (entry_at V n) e) (numbers_of V)
 
-no_void : (o : Option Entry) → is_spelled_type Void o ≡ false
+pub no_void : (o : Option Entry) → is_spelled_type Void o ≡ false
 no_void None = refl
 no_void (Some t) = and_false (is_type t.kind)
 
-no_plain : (p : Primitive) (o : Option Entry) → is_spelled_type (Plain p) o ≡ false
+pub no_plain : (p : Primitive) (o : Option Entry) → is_spelled_type (Plain p) o ≡ false
 no_plain p None = refl
 no_plain p (Some t) = and_false (is_type t.kind)
 

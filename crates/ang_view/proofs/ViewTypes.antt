@@ -21,7 +21,7 @@ seen_from list m None x e = cc
 seen_from list m (Some y) x e = let r = some_of (is_seen list m y) y x e in ap (is_seen list m) (sym r.1) ∙ r.0
 
 -- what stands in a view is seen
-is_seen-in_view : (list : RegistrationList) (m n : ℕ) (x : Entry) → entry_at (seen list m) n ≡ Some x → is_seen list m x ≡ true
+pub is_seen-in_view : (list : RegistrationList) (m n : ℕ) (x : Entry) → entry_at (seen list m) n ≡ Some x → is_seen list m x ≡ true
 is_seen-in_view list m n x e = seen_from list m (entry_at list n) x (sym (entry_at-seen list m n) ∙ e)
 
 inside : (list : RegistrationList) (x : Entry) (k : ℕ) (here : Option Entry) → entry_at list k ≡ here → is_named_by x k here ≡ true → k < length list

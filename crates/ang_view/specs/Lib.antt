@@ -5,3 +5,7 @@ pub mod Values
 pub mod Hidden
 pub mod Named
 pub mod SeenTypes
+pub mod Only
+pub mod Blanks
+pub mod Groups
+pub mod Outside

@@ -1,8 +1,10 @@
 //! The numbers of entries by name, those of members and factories by type, and those of values by their own names.
-ghost use Rattle.std.specs.Prelude.{◌≡◌, ◌≤◌, ◌+◌, ◌*◌, ℕ, length, IfOk, OnErr, OnOk};
+ghost use Rattle.std.specs.Prelude.{◌≡◌, ◌≤◌, ◌+◌, ◌*◌, ◌==◌, ℕ, length, IfOk, OnErr, OnOk};
+ghost use Rattle.std.specs.List.{position};
 ghost use Rattle.ang_index.specs.Rows.{Rows};
 ghost use Rattle.ang_kinds.specs.declared.mask.EntityNo.{EntityNo};
 ghost use Rattle.ang_view.specs.Named as spec;
+ghost use Rattle.ang_view.specs.Blanks as blanks;
 
 use crate::{Entry, EntryKind};
 use ang_index::Index;
@@ -157,6 +159,59 @@ pub(crate) fn push_names(
         return Err(error);
     }
     Ok(())
+}
+
+/// The first place at which a number stands.
+fn place_of(numbers: &[EntityNo], number: EntityNo) -> Option<usize>
+    ensures exact { result ≡ position (λ (e : EntityNo). e.0 == number.0) numbers.now }
+{
+    numbers.iter().position(|other| other.0 == number.0)
+}
+
+/// Takes a number out of those that stand under a scope and a name, where it is one of them.
+#[tactic(auto, using(crate::proofs::Blanking::place_within))]
+fn take_number(index: &mut Index<EntityNo>, scope: u64, name: &[u8], number: EntityNo)
+    ensures taken { blanks.TakesOut index.old index.new scope name.now number.0 }
+{
+    if let Some(place) = place_of(index.find(scope, name), number) {
+        index.remove(scope, name, place);
+    }
+}
+
+/// Takes the number of an entry out, where it stands in a scope.
+#[tactic(auto, using(crate::proofs::Blanking::entry_blanked, crate::proofs::Blanking::nothing_blanked))]
+fn take_indexed(index: &mut Index<EntityNo>, entry: &Option<Entry>, number: EntityNo)
+    ensures taken { blanks.TakesEntry spec.scope_in index.old index.new entry.now number.0 }
+{
+    if let Some(scope) = scope_in(entry) {
+        take_number(index, scope, name_in(entry), number);
+    }
+}
+
+/// Takes the number of a value out; of any other entry nothing.
+#[tactic(auto, using(crate::proofs::Blanking::entry_blanked, crate::proofs::Blanking::nothing_blanked))]
+fn take_value(values: &mut Index<EntityNo>, entry: &Option<Entry>, number: EntityNo)
+    ensures taken { blanks.TakesEntry spec.value_scope_in values.old values.new entry.now
+        number.0 }
+{
+    if let Some(scope) = value_scope_in(entry) {
+        take_number(values, scope, name_in(entry), number);
+    }
+}
+
+/// Takes the number of an entry out of both indexes, as it becomes a blank. It takes no memory.
+pub(crate) fn take_names(
+    index: &mut Index<EntityNo>,
+    values: &mut Index<EntityNo>,
+    entry: &Option<Entry>,
+    number: EntityNo,
+)
+    ensures taken { blanks.TakesEntry spec.scope_in index.old index.new entry.now number.0 }
+    ensures taken_value { blanks.TakesEntry spec.value_scope_in values.old values.new entry.now
+        number.0 }
+{
+    take_indexed(index, entry, number);
+    take_value(values, entry, number);
 }
 
 /// The numbers of all entries.

@@ -87,7 +87,8 @@ pub fn copy_entry(alloc: Global, entry: &Entry) -> Result<Entry, AllocError>
     })
 }
 
-fn copy_of(alloc: Global, entry: &Option<Entry>) -> Result<Option<Entry>, AllocError>
+/// An entry or a blank like this one.
+pub(crate) fn copy_of(alloc: Global, entry: &Option<Entry>) -> Result<Option<Entry>, AllocError>
     ensures exact { IfOk result (λ copy. copy ≡ entry.now) }
 {
     match entry {

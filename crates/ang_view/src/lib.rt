@@ -8,12 +8,14 @@
 mod by_name;
 mod copy;
 mod entry;
+mod group;
 pub mod laws;
 mod lookup;
 mod view;
 
 pub use entry::{Entry, EntryKind};
+pub use group::{Group, is_in, is_named_outside};
 pub use lookup::{FoundType, find_type};
 pub use view::{
-    View, belongs_to, hidden_of, mentions_type, names_entry, spells, view_of, whole_of,
+    View, belongs_to, hidden_of, kept_of, mentions_type, names_entry, spells, view_of, whole_of,
 };

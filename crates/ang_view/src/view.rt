@@ -1,15 +1,18 @@
 //! What a module of a mask sees of a registration list.
-ghost use Rattle.std.specs.Prelude.{◌≡◌, ◌<◌, ◌≤◌, length, map, Some, IfOk, IfSome, IsTrue, option_map};
+ghost use Rattle.std.specs.Prelude.{◌≡◌, ◌<◌, ◌≤◌, false, length, map, slice_index_or, Some, IfOk, IfSome, IsTrue, option_map};
 ghost use Rattle.std.specs.Option.{option_copied};
 ghost use Rattle.std.specs.List.{list_all};
 ghost use Rattle.ang_view.specs.Hidden.{hidden, hidden_entry};
 ghost use Rattle.ang_view.specs.Named as spec;
+ghost use Rattle.ang_view.specs.Only.{kept_entry, only};
 ghost use Rattle.ang_view.specs.SeenTypes as types;
 ghost use Rattle.ang_view.specs.Types.{enumeration_named, is_enumeration_named, is_type_named, type_named};
 ghost use Rattle.ang_view.specs.Registration.{entry_at, is_type, is_function, is_spelled_with, mentions, is_number, is_named_by, named, has_mask_for, is_seen, seen_entry, seen, is_function_named, function_named};
 
-use crate::by_name::{BARE, index_of, maker_scope, member_scope, push_names, values_of};
-use crate::copy::{copy_entries, copy_entry};
+use crate::by_name::{
+    BARE, index_of, maker_scope, member_scope, push_names, take_names, values_of,
+};
+use crate::copy::{copy_entries, copy_entry, copy_of};
 use crate::lookup::{is_enumeration_named, is_type_named};
 use crate::{Entry, EntryKind};
 use ang_index::Index;
@@ -44,7 +47,9 @@ impl Model for View {
 }
 
 impl View {
-    ghost use Rattle.std.specs.Prelude.{◌≡◌, ◌<◌, ◌++◌, ◌∷◌, [], length, map, OnErr, OnOk};
+    ghost use Rattle.std.specs.Prelude.{◌≡◌, ◌<◌, ◌≤◌, ◌++◌, ◌∷◌, [], length, map, OnErr, OnOk};
+    ghost use Rattle.ang_view.specs.Blanks.{blanked, left_outside_range};
+    ghost use Rattle.ang_view.specs.Only.{only};
 
     /// A list without entries. It takes no memory.
     #[tactic(auto, using(crate::proofs::Named::none_indexed))]
@@ -99,7 +104,7 @@ impl View {
     }
 
     /// Whether the entry of this number is a type or enumeration that is seen.
-    fn has_type(&self, ty: EntityNo) -> bool
+    pub(crate) fn has_type(&self, ty: EntityNo) -> bool
         ensures exact { result ≡ spec.is_type_entry (entry_at self.now ty.0) }
     {
         match self.get(ty) {
@@ -181,6 +186,31 @@ impl View {
             ≡ function_named (seen self.now mask.0) name.now }
     {
         first_function(self, mask, name, self.find(name))
+    }
+
+    /// Makes blanks of the entries from one number up to another, which is left out. All others stay, under their numbers.
+    /// It takes no memory.
+    pub fn blank(&mut self, first: usize, after: usize)
+        requires within { after ≤ length self.old }
+        ensures blanked { self.new ≡ only (left_outside_range first after) self.old }
+    {
+        for number in first..after {
+            self.blank_one(number);
+        }
+    }
+
+    /// Makes a blank of the entry of a number.
+    fn blank_one(&mut self, number: usize)
+        requires there { number < length self.old }
+        ensures blanked { self.new ≡ blanked self.old number }
+    {
+        take_names(
+            &mut self.index,
+            &mut self.values,
+            &self.entries[number],
+            EntityNo(number as u32),
+        );
+        self.entries[number] = None;
     }
 
     /// All entries and blanks, in order: at most 1,024.
@@ -351,6 +381,51 @@ fn rest_of(
     Ok(Some(copy_entry(alloc, entry)?))
 }
 
+/// A copy of the entry where it is to be kept, else a blank.
+fn kept_one(
+    alloc: Global,
+    marks: &[bool],
+    number: usize,
+    entry: &Option<Entry>,
+) -> Result<Option<Entry>, AllocError>
+    ensures exact { IfOk result
+        (λ kept. kept ≡ kept_entry (λ n. slice_index_or marks.now n false) number entry.now) }
+{
+    match marks.get(number) {
+        Some(true) => copy_of(alloc, entry),
+        Some(false) | None => Ok(None),
+    }
+}
+
+/// Those entries of a list that are marked: each other one is a blank.
+#[tactic(auto, unfolding(crate::specs::Only::only))]
+fn kept_entries(
+    alloc: Global,
+    entries: &[Option<Entry>],
+    marks: &[bool],
+) -> Result<Vec<Option<Entry>>, AllocError>
+    ensures exact { IfOk result
+        (λ kept. kept.items ≡ only (λ n. slice_index_or marks.now n false) entries.now) }
+{
+    let mut kept = Vec::new(alloc);
+    for (number, entry) in entries.iter().enumerate() {
+        let one = kept_one(alloc, marks, number, entry)?;
+        kept.push(one)?;
+    }
+    Ok(kept)
+}
+
+/// A view of those entries of a list that are marked: each other one is a blank. Numbers stay.
+///
+/// The only error is want of memory.
+pub fn kept_of(alloc: Global, list: &View, marks: &[bool]) -> Result<View, AllocError>
+    ensures exact { IfOk result
+        (λ view. view ≡ only (λ n. slice_index_or marks.now n false) list.now) }
+{
+    let view = kept_entries(alloc, list.entries(), marks)?;
+    view_with(alloc, view)
+}
+
 /// The whole list as a view, whatever the masks. Denials look up in it the types of what is hidden.
 ///
 /// The only error is want of memory.
@@ -408,7 +483,7 @@ fn sees_types(list: &View, mask: Mask, entry: &Entry) -> bool
 }
 
 /// Whether the entry is a type that declarations can name: a type of host objects, or an enumeration.
-fn is_type(entry: &Entry) -> bool
+pub(crate) fn is_type(entry: &Entry) -> bool
     ensures exact { result ≡ is_type entry.now.kind }
 {
     matches!(entry.kind, EntryKind::HostType | EntryKind::Enumeration)

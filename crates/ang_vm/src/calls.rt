@@ -28,11 +28,11 @@ use ang_vm_steps::lookups::{height_at, left_from};
 use ang_vm_steps::objects::objects_there;
 use ang_vm_steps::room::reserve;
 
-/// 524,288: the most instructions that callers may have left when one of them calls, if it is long. Each runs
+/// 450,000: the most instructions that callers may have left when one of them calls, if it is long. Each runs
 /// the rest of its text as it goes on, for which it needs no tick, so this bounds what a run does after its last
 /// one: some 50 milliseconds of the dearest instructions, with what the running body has left and 200 callers that
 /// are not long.
-pub const MOST_WAITING: usize = 524_288;
+pub const MOST_WAITING: usize = 450_000;
 
 /// 1,024: a body of more instructions is long. A call from any other is not looked at.
 const LONG: usize = 1_024;

@@ -1,151 +1,56 @@
 -- A conversation, turn by turn.
-use Rattle.std.proofs.Common.{◌≡◌, ℕ, zero, suc, ◌+◌, ◌-◌, ◌≤◌, ◌<◌, ◌⊎◌, Bool, true, false, cond, if◌then◌else◌, nat_le, unwrap_or, codes, ◌&&◌, List, [], ◌∷◌, ◌++◌, length, take, drop, map, Option, Some, None, Result, Ok, Err, IfOk, OnErr, refl, sym, ap, ◌∙◌, subst, inl, inr, arith, append_assoc, length-append, add-zero}
+use Rattle.std.proofs.Common.{◌≡◌, ℕ, zero, suc, ◌+◌, ◌-◌, ◌≤◌, ◌<◌, ◌⊎◌, Bool, true, false, cond, ◌&&◌, List, [], ◌∷◌, ◌++◌, length, take, drop, map, Option, Some, None, Result, Ok, Err, IfOk, OnErr, refl, sym, ap, ◌∙◌, subst, inl, inr, arith, append_assoc, length-append, add-zero}
 use Rattle.std.specs.Option.{option_and_then}
-use Rattle.std.specs.List.{concat, list_all}
+use Rattle.std.specs.List.{list_all}
 use Rattle.std.specs.Io.KnownBytes.{Appends, Consumes}
 use Rattle.std.specs.declared.alloc.Global.{Global}
 use Rattle.std.specs.declared.dyn_box.DynBox.{DynBox}
-use Rattle.std.proofs.lemmas.Bool.{cases_Bool, leb-true, le-leb}
-use Rattle.std.proofs.lemmas.List.{append-nil, take-append-le, drop_at}
+use Rattle.std.proofs.lemmas.List.{append-nil, drop_at}
 use Rattle.std.proofs.Math.Seq.{take-append_seam, take-append-add}
 use Rattle.ang_host.specs.Events.{DriversFollow}
 use Rattle.ang_host.specs.Meanings.{Meanings, state_in}
 use Rattle.ang_host.specs.declared.event.HostEvent.{HostEvent}
+use Rattle.ang_host.specs.declared.event.Role.{Role}
 use Rattle.ang_host.proofs.Events.{AllFollow-join}
 use Rattle.ang_engine.specs.declared.engine.Engine.{Engine}
 use Rattle.ang_engine.specs.declared.prepared.Prepared.{Prepared}
-use Rattle.ang_engine.specs.Engines.{registrations, world_in, drivers_in, builds_in, last_build}
+use Rattle.ang_engine.specs.Engines.{list_in, registrations, world_in, drivers_in, builds_in, last_build}
 use Rattle.ang_engine_modules.specs.World.{World}
-use Rattle.ang_engine.specs.Roles.{roles_of}
-use Rattle.ang_view.specs.Registration.{RegistrationList}
+use Rattle.ang_engine.specs.Roles.{AreRoles}
+use Rattle.ang_engine.proofs.Lists.{all_within, within_join}
+use Rattle.ang_engine.proofs.Roles.{roles_still}
+use Rattle.ang_view.specs.Groups.{Grouped}
+use Rattle.ang_view.specs.Only.{IsWithin}
 use Rattle.ang_remote.proofs.Streams.{consumes_both, consumes_nothing}
 use Rattle.asrun_lines.specs.Lines.{lines_of, shown_of, is_skipped}
 use Rattle.asrun_lines.specs.SessionLines.{session_line_of, is_header}
-use Rattle.asrun_lines.specs.declared.session_lines.SessionLine.{SessionLine}
-use Rattle.asrun_lines.specs.declared.session_lines.SessionLine.TheVariants as line
 use Rattle.asrun_lines.proofs.Headers.{may_head, no_header}
 use Rattle.asrun_session.specs.Deeds.{bad_line_text}
 use Rattle.asrun_session.specs.Drivers.{ByEvents}
-use Rattle.asrun_session.specs.Session.{Act, act_of, section_act, budget_after}
+use Rattle.asrun_session.specs.Session.{Act, act_of, budget_after}
 use Rattle.asrun_session.specs.Whole.{long_session_text}
 use Rattle.asrun_session.specs.Writing.{HasFront}
-use Rattle.ang_engine_modules.specs.declared.command.Command.TheVariants.{AddSection}
-use Rattle.asrun_session.specs.declared.action.Action.TheVariants as action
 use Rattle.asrun_session.specs.declared.ending.Status.{Status}
 use Rattle.asrun_session.specs.declared.ending.SessionError.{SessionError}
 use Rattle.asrun_session.specs.declared.ending.Status.TheVariants.{AllOk, SomeRefused, BadInput}
 use Rattle.asrun_session.proofs.Appending.{appends_both}
 use Rattle.asrun_session.proofs.Doing.{follow_nothing, front_none}
-use Rattle.asremote.specs.Commands.{section_lines, lines_told, lines_behind, AreLines, IsCommand, ReadsCommand, most_command}
+use Rattle.asrun_session.proofs.Lists.{deed_within, same_within}
+use Rattle.asremote.specs.Commands.{lines_told, lines_behind, AreLines, IsCommand, ReadsCommand, most_command}
 use Rattle.asremote.specs.declared.commands.Next.{Next}
 use Rattle.asremote.specs.declared.commands.Next.TheVariants as next
 use Rattle.asremote.specs.OwnLines.{own_line_of}
 use Rattle.asremote.specs.declared.own_lines.OwnLine.{OwnLine}
 use Rattle.asremote.proofs.OwnLines.{own_is_none}
-use Rattle.asremote.specs.Talk.{Says, Nothing, Does, Owns, Wrong, Talk, talk_from, behind_turn, ticks_after, Turned, Passed, Did, Limited, Told, Traced, Checked, Listed, LookedUp, Called, Missed, Unread, says_of, events_of, events_in, is_right, turn_text, turns_text, done_line, status_of}
-use Rattle.asremote.specs.Standing.{Standing, standing, BuildsNothing, TurnBuilds, KeepsFunctions}
-use Rattle.asremote.specs.Turns.{said_by, IsSaid, IsEnding, IsTaken, HasSameBuilds, Comes, ComesWith, Goes, Ends, GoesHalf, EndsHalf, Stays, TurnsHalf, TakesHalf, TakesOne}
+use Rattle.asremote.specs.Talk.{Says, Nothing, Does, Owns, Wrong, talk_from, behind_turn, ticks_after, Turned, Passed, Did, Limited, Told, Traced, Checked, Listed, LookedUp, Called, Missed, Unread, says_of, events_of, events_in, is_right, turn_text, turns_text, done_line, status_of}
+use Rattle.asremote.specs.Standing.{Standing, standing, BuildsNothing, TurnBuilds, list_turned}
+use Rattle.asremote.specs.Turns.{IsSaid, IsEnding, IsTaken, HasSameBuilds, Comes, ComesWith, Goes, Ends, GoesHalf, EndsHalf, TurnsHalf}
 use Rattle.asremote.specs.declared.turns.At.{At}
-use Rattle.asremote.specs.Conversation.{TookTurn, TookLong, TookHalf, TookHalfLong, Steps, StepsHalf, ModulesLead, TurnLeads, TurnsLead, but_last, IsHeld, IsTold, IsTooLong, Converses, IsCutShort}
+use Rattle.asremote.specs.Conversation.{Steps, StepsHalf, ModulesLead, TurnLeads, TurnsLead, but_last, IsHeld, Converses, IsCutShort}
 use Rattle.asremote.specs.declared.conversation.Step.{Step}
 use Rattle.asremote.specs.declared.conversation.Step.TheVariants as step
 use Rattle.asremote.proofs.Lining.{lines_both, lines_here, no_lines}
-
--- ---- what a command says does not depend on what follows its section
-
-some_inj : {A : Type 0} (x y : A) → Some x ≡ Some y → x ≡ y
-some_inj x y e = ap (λ o. unwrap_or o x) e
-
-none_some : {A : Type 0} (x : A) → None ≡ Some x → ⊥
-none_some x e = cc
-
-abbrev section_of : List ℕ → ℕ → List (List ℕ) → Act
-section_of name lines ls = record { action = action.Command (AddSection name (concat ls)); lines = lines }
-
-section_said : (section : List (List ℕ)) (name : List ℕ) (lines : ℕ) (a : Act) → section_act section name lines ≡ Some a
-    → (lines ≤ length section) × (section_of name lines (take lines section) ≡ a)
-section_said section name lines a e = elim (cases_Bool (nat_le lines (length section))) [
-  | inl t ↦ (leb-true lines (length section) t, some_inj _ a (sym (ap (λ b. if b then Some (section_of name lines (take lines section)) else None) t) ∙ e))
-  | inr f ↦ absurd (none_some a (sym (ap (λ b. if b then Some (section_of name lines (take lines section)) else None) f) ∙ e))
-]
-
-section_told : (section future : List (List ℕ)) (name : List ℕ) (lines : ℕ) (a : Act) → section_act section name lines ≡ Some a
-    → section_act (section ++ future) name lines ≡ Some a
-section_told section future name lines a e =
-    let said = section_said section name lines a e in
-    let room : nat_le lines (length (section ++ future)) ≡ true = le-leb lines (length (section ++ future)) (omega (arith, said.0, length-append section future)) in
-    ap (λ b. if b then Some (section_of name lines (take lines (section ++ future))) else None) room
-    ∙ ap (λ ls. Some (section_of name lines ls)) (take-append-le lines section future said.0) ∙ ap (λ x. Some x) said.1
-
-told_more : (b : ℕ) (section future : List (List ℕ)) (l : SessionLine) (a : Act) → act_of b section l ≡ Some a → act_of b (section ++ future) l ≡ Some a
-told_more b section future (line.Module name mask) a e = e
-told_more b section future (line.Section name lines) a e = section_told section future name lines a e
-told_more b section future (line.Mask name mask) a e = e
-told_more b section future (line.Build name) a e = e
-told_more b section future (line.Bind name index exporter decl) a e = e
-told_more b section future (line.Unbind name index) a e = e
-told_more b section future (line.Discard name) a e = e
-told_more b section future (line.Call name args decl) a e = e
-told_more b section future (line.Budget ticks) a e = e
-
-pub option_told : (b : ℕ) (section future : List (List ℕ)) (o : Option SessionLine) (a : Act) → option_and_then (act_of b section) o ≡ Some a
-    → option_and_then (act_of b (section ++ future)) o ≡ Some a
-option_told b section future None a e = e
-option_told b section future (Some l) a e = told_more b section future l a e
-
--- an act has as many lines after it as its line tells
-act_lines : (b : ℕ) (section : List (List ℕ)) (l : SessionLine) (a : Act) → act_of b section l ≡ Some a → section_lines l ≡ a.lines
-act_lines b section (line.Module name mask) a e = ap (λ x. x.lines) (some_inj _ a e)
-act_lines b section (line.Section name lines) a e = ap (λ x. x.lines) (section_said section name lines a e).1
-act_lines b section (line.Mask name mask) a e = ap (λ x. x.lines) (some_inj _ a e)
-act_lines b section (line.Build name) a e = ap (λ x. x.lines) (some_inj _ a e)
-act_lines b section (line.Bind name index exporter decl) a e = ap (λ x. x.lines) (some_inj _ a e)
-act_lines b section (line.Unbind name index) a e = ap (λ x. x.lines) (some_inj _ a e)
-act_lines b section (line.Discard name) a e = ap (λ x. x.lines) (some_inj _ a e)
-act_lines b section (line.Call name args decl) a e = ap (λ x. x.lines) (some_inj _ a e)
-act_lines b section (line.Budget ticks) a e = ap (λ x. x.lines) (some_inj _ a e)
-
-option_lines : (b : ℕ) (section : List (List ℕ)) (o : Option SessionLine) (a : Act) → option_and_then (act_of b section) o ≡ Some a → lines_told o ≡ a.lines
-option_lines b section None a e = absurd (none_some a e)
-option_lines b section (Some l) a e = act_lines b section l a e
-
-behind_told : (shown : List ℕ) → is_skipped shown ≡ false → lines_behind shown ≡ lines_told (session_line_of shown)
-unfolding lines_behind
-behind_told shown e = ap (λ b. if b then 0 else lines_told (session_line_of shown)) e
-
-behind_none : (shown : List ℕ) → is_skipped shown ≡ true → lines_behind shown ≡ 0
-unfolding lines_behind
-behind_none shown e = ap (λ b. if b then 0 else lines_told (session_line_of shown)) e
-
-empty : (section : List (List ℕ)) → length section ≤ 0 → section ≡ []
-empty [] le = refl
-empty (l ∷ ls) le = absurd (omega (arith, le))
-
--- a line that is no head has no lines of a section after it
-told_none : (o : Option SessionLine) → may_head o ≡ false → lines_told o ≡ 0
-told_none None e = refl
-told_none (Some (line.Module name mask)) e = refl
-told_none (Some (line.Section name lines)) e = absurd (let no : true ≡ false = e in cc)
-told_none (Some (line.Mask name mask)) e = refl
-told_none (Some (line.Build name)) e = refl
-told_none (Some (line.Bind name index exporter decl)) e = refl
-told_none (Some (line.Unbind name index)) e = refl
-told_none (Some (line.Discard name)) e = refl
-told_none (Some (line.Call name args decl)) e = refl
-told_none (Some (line.Budget ticks)) e = refl
-
--- and where it does nothing, it is no line of a session
-no_line : (b : ℕ) (section : List (List ℕ)) (o : Option SessionLine) → may_head o ≡ false → option_and_then (act_of b section) o ≡ None → o ≡ None
-no_line b section None e f = refl
-no_line b section (Some (line.Module name mask)) e f = absurd (none_some _ (sym f))
-no_line b section (Some (line.Section name lines)) e f = absurd (let no : true ≡ false = e in cc)
-no_line b section (Some (line.Mask name mask)) e f = absurd (none_some _ (sym f))
-no_line b section (Some (line.Build name)) e f = absurd (none_some _ (sym f))
-no_line b section (Some (line.Bind name index exporter decl)) e f = absurd (none_some _ (sym f))
-no_line b section (Some (line.Unbind name index)) e f = absurd (none_some _ (sym f))
-no_line b section (Some (line.Discard name)) e f = absurd (none_some _ (sym f))
-no_line b section (Some (line.Call name args decl)) e f = absurd (none_some _ (sym f))
-no_line b section (Some (line.Budget ticks)) e f = absurd (none_some _ (sym f))
+use Rattle.asremote.proofs.Saying.{option_told, option_lines, behind_told, behind_none, empty, told_none, no_line}
 
 -- ---- the lines of a conversation, one after the other
 
@@ -228,9 +133,23 @@ leads_on n b line section future Wrong lines within h =
 
 -- ---- turns one after the other
 
-do_more : (R : RegistrationList) (s v after : Standing) (ts : List Turned) (t : Turned) → TurnsLead R s ts v → TurnLeads R v t after → TurnsLead R s (ts ++ t ∷ []) after
-do_more R s v after [] t h e = (after, subst (λ x. TurnLeads R x t after) (sym h) e, refl)
-do_more R s v after (x ∷ xs) t h e = (h.0, h.1, do_more R h.0 v after xs t h.2 e)
+do_more : (s v after : Standing) (ts : List Turned) (t : Turned) → TurnsLead s ts v → TurnLeads v t after → TurnsLead s (ts ++ t ∷ []) after
+do_more s v after [] t h e = (after, subst (λ x. TurnLeads x t after) (sym h) e, refl)
+do_more s v after (x ∷ xs) t h e = (h.0, h.1, do_more h.0 v after xs t h.2 e)
+
+-- a turn leaves no more of the list than there was
+turned_within : (s : Standing) (t : Turned) (S : Grouped) → S ≡ list_turned s t → IsWithin S.entries s.list.entries
+turned_within s Passed S e = same_within s.list S e
+turned_within s (Did d) S e = deed_within s.list S s.world d e
+turned_within s (Limited limit) S e = same_within s.list S e
+turned_within s (Told ticks held) S e = same_within s.list S e
+turned_within s (Traced frames) S e = same_within s.list S e
+turned_within s (Checked name r) S e = same_within s.list S e
+turned_within s (Listed name lines o) S e = same_within s.list S e
+turned_within s (LookedUp name decl found) S e = same_within s.list S e
+turned_within s (Called number args p ticks r) S e = same_within s.list S e
+turned_within s (Missed number args) S e = same_within s.list S e
+turned_within s Unread S e = same_within s.list S e
 
 text_more : (ts : List Turned) (t : Turned) → turns_text (ts ++ t ∷ []) ≡ turns_text ts ++ turn_text t
 text_more [] t = append-nil (turn_text t)
@@ -288,7 +207,7 @@ front_behind old mid new text one p q = (
 
 module _ {V : Type 0} {P : V → Type 0} (m : Meanings P) (e f : Engine V P) where
   module _ (ps qs : List Prepared) where
-    turn_modules : (t : Turned) → Comes m e f t → ModulesLead (registrations e) (standing m e ps) t (world_in m f)
+    turn_modules : (t : Turned) → Comes m e f t → ModulesLead (standing m e ps) t (world_in m f)
     turn_modules Passed h = ap (λ g. world_in m g) (sym h)
     turn_modules (Did d) h = h.does
     turn_modules (Limited limit) h = h.world
@@ -320,17 +239,34 @@ module _ {V : Type 0} {P : V → Type 0} (m : Meanings P) (e f : Engine V P) whe
     turn_builds (Missed number args) h = none_built h
     turn_builds Unread h = none_built h
 
-    turn_does : (t : Turned) → ComesWith m e f ps qs t → TurnLeads (registrations e) (standing m e ps) t (standing m f qs)
-    turn_does t h = record { modules = turn_modules t h.comes; builds = turn_builds t h.comes; functions = h.functions }
+    turn_list : (t : Turned) → Comes m e f t → list_in f ≡ list_turned (standing m e ps) t
+    turn_list Passed h = ap (λ g. list_in g) h
+    turn_list (Did d) h = h.list
+    turn_list (Limited limit) h = h.list
+    turn_list (Told ticks held) h = ap (λ g. list_in g) h.0
+    turn_list (Traced frames) h = ap (λ g. list_in g) h
+    turn_list (Checked name r) h = h.list
+    turn_list (Listed name lines o) h = ap (λ g. list_in g) h
+    turn_list (LookedUp name decl found) h = ap (λ g. list_in g) h
+    turn_list (Called number args p ticks r) h = h.list
+    turn_list (Missed number args) h = ap (λ g. list_in g) h
+    turn_list Unread h = ap (λ g. list_in g) h
+
+    turn_does : (t : Turned) → ComesWith m e f ps qs t → TurnLeads (standing m e ps) t (standing m f qs)
+    turn_does t h = record { modules = turn_modules t h.comes; list = turn_list t h.comes; builds = turn_builds t h.comes; functions = h.functions }
+
+  -- by any roles that fit its list
+  abbrev Follow : Turned → Type 0
+  Follow t = (roles : List Role) → AreRoles roles (registrations e) → DriversFollow m roles (drivers_in e) (events_of t) (drivers_in f)
 
   -- the drivers were asked nothing
-  none_asked : drivers_in f ≡ drivers_in e → DriversFollow m (roles_of (registrations e)) (drivers_in e) [] (drivers_in f)
-  none_asked h = subst (λ ys. DriversFollow m (roles_of (registrations e)) (drivers_in e) [] ys) (sym h) (follow_nothing m (registrations e) (drivers_in e))
+  none_asked : drivers_in f ≡ drivers_in e → (roles : List Role) → AreRoles roles (registrations e) → DriversFollow m roles (drivers_in e) [] (drivers_in f)
+  none_asked h roles fit = subst (λ ys. DriversFollow m roles (drivers_in e) [] ys) (sym h) (follow_nothing m roles (drivers_in e))
 
   same_drivers : f ≡ e → drivers_in f ≡ drivers_in e
   same_drivers h = ap (λ g. drivers_in g) h
 
-  turn_follows : (t : Turned) → Comes m e f t → DriversFollow m (roles_of (registrations e)) (drivers_in e) (events_of t) (drivers_in f)
+  turn_follows : (t : Turned) → Comes m e f t → Follow t
   turn_follows Passed h = none_asked (same_drivers h)
   turn_follows (Did d) h = h.follow
   turn_follows (Limited limit) h = none_asked h.drivers
@@ -345,7 +281,7 @@ module _ {V : Type 0} {P : V → Type 0} (m : Meanings P) (e f : Engine V P) whe
 
 -- ---- what was done so far with the lines that were read
 
-pub record HasCome {V : Type 0} {P : V → Type 0} (m : Meanings P) (R : RegistrationList) (s : Standing) (xs : List (DynBox V Global P)) (budget : ℕ)
+pub record HasCome {V : Type 0} {P : V → Type 0} (m : Meanings P) (s : Standing) (xs : List (DynBox V Global P)) (budget : ℕ)
     (rold rnow : Option (List ℕ)) (text : List ℕ) (lines : List (List ℕ)) (number ticks : ℕ) (turns : List Turned) (after : Standing)
     (ys : List (DynBox V Global P)) : Type 0 where
   pub read : Consumes rold rnow text
@@ -353,20 +289,21 @@ pub record HasCome {V : Type 0} {P : V → Type 0} (m : Meanings P) (R : Registr
   pub said : (future : List (List ℕ)) → (talk_from 1 budget zero (lines ++ future)).turns ≡ map says_of turns ++ (talk_from number ticks zero future).turns
   pub ends : (future : List (List ℕ)) → (talk_from 1 budget zero (lines ++ future)).bad_line ≡ (talk_from number ticks zero future).bad_line
   pub none : s.functions ≡ []
-  pub does : TurnsLead R s turns after
-  pub follow : DriversFollow m (roles_of R) xs (events_in turns) ys
+  pub does : TurnsLead s turns after
+  pub within : IsWithin after.list.entries s.list.entries
+  pub follow : (roles : List Role) → AreRoles roles s.list.entries → DriversFollow m roles xs (events_in turns) ys
 
 -- and what was printed
-pub record HasGone {V : Type 0} {P : V → Type 0} (m : Meanings P) (R : RegistrationList) (s : Standing) (xs : List (DynBox V Global P)) (budget : ℕ)
+pub record HasGone {V : Type 0} {P : V → Type 0} (m : Meanings P) (s : Standing) (xs : List (DynBox V Global P)) (budget : ℕ)
     (rold rnow wold wnow : Option (List ℕ)) (text : List ℕ) (lines : List (List ℕ)) (number ticks : ℕ) (ok : Bool) (after : Standing)
     (ys : List (DynBox V Global P)) : Type 0 where
   pub turns : List Turned
-  pub come : HasCome m R s xs budget rold rnow text lines number ticks turns after ys
+  pub come : HasCome m s xs budget rold rnow text lines number ticks turns after ys
   pub printed : Appends wold wnow (turns_text turns)
   pub all_ok : ok ≡ list_all is_right turns
 
-module _ {V : Type 0} {P : V → Type 0} (m : Meanings P) (R : RegistrationList) (s : Standing) (xs : List (DynBox V Global P)) (budget : ℕ) (rold wold : Option (List ℕ)) where
-  pub come_first : s.functions ≡ [] → HasCome m R s xs budget rold rold [] [] 1 budget [] s xs
+module _ {V : Type 0} {P : V → Type 0} (m : Meanings P) (s : Standing) (xs : List (DynBox V Global P)) (budget : ℕ) (rold wold : Option (List ℕ)) where
+  pub come_first : s.functions ≡ [] → HasCome m s xs budget rold rold [] [] 1 budget [] s xs
   come_first none = record {
     read = consumes_nothing rold;
     here = lines_here [] [] no_lines;
@@ -374,16 +311,17 @@ module _ {V : Type 0} {P : V → Type 0} (m : Meanings P) (R : RegistrationList)
     ends = λ future. refl;
     none = none;
     does = refl;
-    follow = follow_nothing m R xs;
+    within = all_within s.list.entries;
+    follow = λ roles fit. follow_nothing m roles xs;
   }
 
-  pub gone_first : s.functions ≡ [] → HasGone m R s xs budget rold rold wold wold [] [] 1 budget true s xs
+  pub gone_first : s.functions ≡ [] → HasGone m s xs budget rold rold wold wold [] [] 1 budget true s xs
   gone_first none = record { turns = []; come = come_first none; printed = appends_none wold; all_ok = refl }
 
   -- nothing more was read
   pub gone_read : (r1 r2 w1 : Option (List ℕ)) (text : List ℕ) (lines : List (List ℕ)) (number ticks : ℕ) (ok : Bool) (after : Standing) (ys : List (DynBox V Global P))
-      → HasGone m R s xs budget rold r1 wold w1 text lines number ticks ok after ys → Consumes r1 r2 []
-      → HasGone m R s xs budget rold r2 wold w1 text lines number ticks ok after ys
+      → HasGone m s xs budget rold r1 wold w1 text lines number ticks ok after ys → Consumes r1 r2 []
+      → HasGone m s xs budget rold r2 wold w1 text lines number ticks ok after ys
   gone_read r1 r2 w1 text lines number ticks ok after ys h c =
       let all : Consumes rold r2 (text ++ []) = consumes_both rold r1 r2 text [] h.come.read c in
       record {
@@ -395,6 +333,7 @@ module _ {V : Type 0} {P : V → Type 0} (m : Meanings P) (R : RegistrationList)
           ends = h.come.ends;
           none = h.come.none;
           does = h.come.does;
+          within = h.come.within;
           follow = h.come.follow;
         };
         printed = h.printed;
@@ -404,17 +343,18 @@ module _ {V : Type 0} {P : V → Type 0} (m : Meanings P) (R : RegistrationList)
   -- ---- where the lines that were read are all
 
   module _ (r1 : Option (List ℕ)) (text : List ℕ) (lines : List (List ℕ)) (number ticks : ℕ) (turns : List Turned) (after : Standing) (ys : List (DynBox V Global P))
-      (h : HasCome m R s xs budget rold r1 text lines number ticks turns after ys) where
+      (h : HasCome m s xs budget rold r1 text lines number ticks turns after ys) where
     whole_lines : lines_of text ≡ lines ++ []
     whole_lines = h.here ∙ sym (append-nil lines)
 
     pub going_on : (talk_from 1 budget 0 (lines_of text)).bad_line ≡ None
     going_on = ap (λ ls. (talk_from 1 budget 0 ls).bad_line) whole_lines ∙ h.ends [] ∙ ap (λ s. s.bad_line) (talk_end number ticks)
 
-    pub held : IsHeld R s.world (talk_from 1 budget 0 (lines_of text)) turns (events_in turns) after.world
+    pub held : IsHeld s.list s.world (talk_from 1 budget 0 (lines_of text)) turns (events_in turns) after.world
     held = record {
       said = ap (λ ls. (talk_from 1 budget 0 ls).turns) whole_lines ∙ h.said [] ∙ ap (λ s. map says_of turns ++ s.turns) (talk_end number ticks) ∙ append-nil (map says_of turns);
       start = s;
+      over = refl;
       begins = refl;
       none = h.none;
       last = after;
@@ -424,9 +364,9 @@ module _ {V : Type 0} {P : V → Type 0} (m : Meanings P) (R : RegistrationList)
     }
 
   module _ (r1 w1 : Option (List ℕ)) (text : List ℕ) (lines : List (List ℕ)) (number ticks : ℕ) (ok : Bool) (after : Standing) (ys : List (DynBox V Global P))
-      (h : HasGone m R s xs budget rold r1 wold w1 text lines number ticks ok after ys) where
+      (h : HasGone m s xs budget rold r1 wold w1 text lines number ticks ok after ys) where
     -- no line is left
-    pub ends_all : ByEvents m R xs (λ es. Converses R s.world budget [] rold r1 wold w1 (cond ok AllOk SomeRefused) es after.world) ys
+    pub ends_all : ByEvents m s.list.entries xs (λ es. Converses s.list s.world budget [] rold r1 wold w1 (cond ok AllOk SomeRefused) es after.world) ys
     ends_all =
         let good = going_on r1 text lines number ticks h.turns after ys h.come in
         let same : turns_text h.turns ≡ turns_text h.turns ++ bad_line_text (talk_from 1 budget 0 (lines_of text)).bad_line =
@@ -445,7 +385,7 @@ module _ {V : Type 0} {P : V → Type 0} (m : Meanings P) (R : RegistrationList)
 
     -- a command was too long
     pub ends_long : (r2 w2 : Option (List ℕ)) (more : List ℕ) → Consumes r1 r2 more → most_command < length more → Appends w1 w2 long_session_text
-        → ByEvents m R xs (λ es. Converses R s.world budget [] rold r2 wold w2 BadInput es after.world) ys
+        → ByEvents m s.list.entries xs (λ es. Converses s.list s.world budget [] rold r2 wold w2 BadInput es after.world) ys
     ends_long r2 w2 more c long p = (
       events_in h.turns,
       inr (record {
@@ -465,7 +405,7 @@ module _ {V : Type 0} {P : V → Type 0} (m : Meanings P) (R : RegistrationList)
     -- it is cut short after a front of one text more
     pub cut_after : (r2 w2 : Option (List ℕ)) (last : List ℕ) → ((talk_from 1 budget 0 (lines_of text)).bad_line ≡ None → (last ≡ bad_line_text (talk_from 1 budget 0 (lines_of text)).bad_line)
         ⊎ (((talk_from 1 budget 0 (lines_of text)).bad_line ≡ None) × (last ≡ long_session_text))) → HasFront w1 w2 last
-        → ByEvents m R xs (λ es. IsCutShort R s.world budget [] rold r2 wold w2 es after.world) ys
+        → ByEvents m s.list.entries xs (λ es. IsCutShort s.list s.world budget [] rold r2 wold w2 es after.world) ys
     cut_after r2 w2 last can p =
         let front = front_behind wold w1 w2 (turns_text h.turns) last h.printed p in (
           events_in h.turns,
@@ -483,16 +423,16 @@ module _ {V : Type 0} {P : V → Type 0} (m : Meanings P) (R : RegistrationList)
         )
 
     -- it is cut short here
-    pub cut_here : (r2 : Option (List ℕ)) → ByEvents m R xs (λ es. IsCutShort R s.world budget [] rold r2 wold w1 es after.world) ys
+    pub cut_here : (r2 : Option (List ℕ)) → ByEvents m s.list.entries xs (λ es. IsCutShort s.list s.world budget [] rold r2 wold w1 es after.world) ys
     cut_here r2 = cut_after r2 w1 [] (λ good. inl (ap bad_line_text (sym good))) (front_none w1 [])
 
-    pub cut_long : (r2 w2 : Option (List ℕ)) → HasFront w1 w2 long_session_text → ByEvents m R xs (λ es. IsCutShort R s.world budget [] rold r2 wold w2 es after.world) ys
+    pub cut_long : (r2 w2 : Option (List ℕ)) → HasFront w1 w2 long_session_text → ByEvents m s.list.entries xs (λ es. IsCutShort s.list s.world budget [] rold r2 wold w2 es after.world) ys
     cut_long r2 w2 p = cut_after r2 w2 long_session_text (λ good. inr (good, refl)) p
 
   -- ---- a command more
 
   module _ (r1 : Option (List ℕ)) (text : List ℕ) (lines : List (List ℕ)) (number ticks : ℕ) (turns : List Turned) (e : Engine V P) (ps : List Prepared)
-      (h : HasCome m R s xs budget rold r1 text lines number ticks turns (standing m e ps) (drivers_in e)) (list : registrations e ≡ R)
+      (h : HasCome m s xs budget rold r1 text lines number ticks turns (standing m e ps) (drivers_in e))
       (c line : List ℕ) (section : List (List ℕ)) (is : IsCommand c line section) (r2 : Option (List ℕ)) (read : Consumes r1 r2 c)
       (cut : lines_of (text ++ c) ≡ lines ++ line ∷ section) where
     joined : (future : List (List ℕ)) → (lines ++ line ∷ section) ++ future ≡ lines ++ (line ∷ (section ++ future))
@@ -500,7 +440,7 @@ module _ {V : Type 0} {P : V → Type 0} (m : Meanings P) (R : RegistrationList)
 
     -- a turn was taken with it
     pub come_on : (f : Engine V P) (qs : List Prepared) (t : Turned) (next many : ℕ) → IsTaken m e f ps qs ticks line section t next many
-        → HasCome m R s xs budget rold r2 (text ++ c) (lines ++ line ∷ section) (number + (1 + many)) next (turns ++ t ∷ []) (standing m f qs) (drivers_in f)
+        → HasCome m s xs budget rold r2 (text ++ c) (lines ++ line ∷ section) (number + (1 + many)) next (turns ++ t ∷ []) (standing m f qs) (drivers_in f)
     come_on f qs t next many k =
         let left : (future : List (List ℕ)) → talk_from number ticks zero (line ∷ (section ++ future)) ≡ behind_turn (says_of t) (talk_from (number + (1 + many)) next zero future) =
         λ future. leads_on number ticks line section future (says_of t) many is.within k.said
@@ -514,11 +454,12 @@ module _ {V : Type 0} {P : V → Type 0} (m : Meanings P) (R : RegistrationList)
           ends = λ future.
               ap (λ ls. (talk_from 1 budget zero ls).bad_line) (joined future) ∙ h.ends (line ∷ (section ++ future)) ∙ ap (λ s. s.bad_line) (left future);
           none = h.none;
-          does = do_more R s (standing m e ps) (standing m f qs) turns t h.does (subst (λ l. TurnLeads l (standing m e ps) t (standing m f qs)) list (turn_does m e f ps qs t k.comes));
-          follow = subst (λ es. DriversFollow m (roles_of R) xs es (drivers_in f)) (sym (events_more turns t))
-              (AllFollow-join (λ b. state_in m b) (λ b. b.vtable) (λ v. (m v).meaning.fits) (roles_of R) xs (drivers_in e) (drivers_in f)
-              (events_in turns) (events_of t) h.follow
-              (subst (λ l. DriversFollow m (roles_of l) (drivers_in e) (events_of t) (drivers_in f)) list (turn_follows m e f t k.comes.comes)));
+          does = do_more s (standing m e ps) (standing m f qs) turns t h.does (turn_does m e f ps qs t k.comes);
+          within = within_join s.list.entries (registrations e) (registrations f) h.within (turned_within (standing m e ps) t (list_in f) (turn_list m e f ps qs t k.comes.comes));
+          follow = λ roles fit.
+              subst (λ es. DriversFollow m roles xs es (drivers_in f)) (sym (events_more turns t))
+              (AllFollow-join (λ b. state_in m b) (λ b. b.vtable) (λ v. (m v).meaning.fits) roles xs (drivers_in e) (drivers_in f)
+              (events_in turns) (events_of t) (h.follow roles fit) (turn_follows m e f t k.comes.comes roles (roles_still roles s.list.entries (registrations e) h.within fit)));
         }
 
     -- or it ends the conversation
@@ -528,10 +469,11 @@ module _ {V : Type 0} {P : V → Type 0} (m : Meanings P) (R : RegistrationList)
     bad_line_is : IsEnding ticks line section → (talk_from 1 budget 0 (lines_of (text ++ c))).bad_line ≡ Some number
     bad_line_is k = ap (λ ls. (talk_from 1 budget 0 ls).bad_line) cut ∙ h.ends (line ∷ section) ∙ ap (λ s. s.bad_line) (ended_by k)
 
-    held_to : IsEnding ticks line section → IsHeld R s.world (talk_from 1 budget 0 (lines_of (text ++ c))) turns (events_in turns) (world_in m e)
+    held_to : IsEnding ticks line section → IsHeld s.list s.world (talk_from 1 budget 0 (lines_of (text ++ c))) turns (events_in turns) (world_in m e)
     held_to k = record {
       said = ap (λ ls. (talk_from 1 budget 0 ls).turns) cut ∙ h.said (line ∷ section) ∙ ap (λ s. map says_of turns ++ s.turns) (ended_by k) ∙ append-nil (map says_of turns);
       start = s;
+      over = refl;
       begins = refl;
       none = h.none;
       last = standing m e ps;
@@ -541,10 +483,10 @@ module _ {V : Type 0} {P : V → Type 0} (m : Meanings P) (R : RegistrationList)
     }
 
     pub ends_bad : (f : Engine V P) (w1 w2 : Option (List ℕ)) → Appends wold w1 (turns_text turns) → Ends m e f w1 w2 number ticks line section
-        → ByEvents m R xs (λ es. Converses R s.world budget [] rold r2 wold w2 BadInput es (world_in m f)) (drivers_in f)
+        → ByEvents m s.list.entries xs (λ es. Converses s.list s.world budget [] rold r2 wold w2 BadInput es (world_in m f)) (drivers_in f)
     ends_bad f w1 w2 before p =
         let bad = bad_line_is p.ending in
-        subst (λ g. ByEvents m R xs (λ es. Converses R s.world budget [] rold r2 wold w2 BadInput es (world_in m g)) (drivers_in g)) (sym p.same) (
+        subst (λ g. ByEvents m s.list.entries xs (λ es. Converses s.list s.world budget [] rold r2 wold w2 BadInput es (world_in m g)) (drivers_in g)) (sym p.same) (
           events_in turns,
           inl (record {
             text = text ++ c;
@@ -559,11 +501,11 @@ module _ {V : Type 0} {P : V → Type 0} (m : Meanings P) (R : RegistrationList)
         )
 
     pub cut_bad : (f : Engine V P) (w1 w2 r3 : Option (List ℕ)) → Appends wold w1 (turns_text turns) → EndsHalf m e f w1 w2 number ticks line section
-        → ByEvents m R xs (λ es. IsCutShort R s.world budget [] rold r3 wold w2 es (world_in m f)) (drivers_in f)
+        → ByEvents m s.list.entries xs (λ es. IsCutShort s.list s.world budget [] rold r3 wold w2 es (world_in m f)) (drivers_in f)
     cut_bad f w1 w2 r3 before p =
         let bad = bad_line_is p.ending in
         let front = front_behind wold w1 w2 (turns_text turns) (bad_line_text (Some number)) before p.front in
-        subst (λ g. ByEvents m R xs (λ es. IsCutShort R s.world budget [] rold r3 wold w2 es (world_in m g)) (drivers_in g)) (sym p.same) (
+        subst (λ g. ByEvents m s.list.entries xs (λ es. IsCutShort s.list s.world budget [] rold r3 wold w2 es (world_in m g)) (drivers_in g)) (sym p.same) (
           events_in turns,
           record {
             text = text ++ c;
@@ -579,7 +521,7 @@ module _ {V : Type 0} {P : V → Type 0} (m : Meanings P) (R : RegistrationList)
         )
 
     pub cut_half : (f : Engine V P) (qs : List Prepared) (w1 w2 r3 : Option (List ℕ)) → Appends wold w1 (turns_text turns) → GoesHalf m e f ps qs w1 w2 ticks line section
-        → ByEvents m R xs (λ es. IsCutShort R s.world budget [] rold r3 wold w2 es (world_in m f)) (drivers_in f)
+        → ByEvents m s.list.entries xs (λ es. IsCutShort s.list s.world budget [] rold r3 wold w2 es (world_in m f)) (drivers_in f)
     cut_half f qs w1 w2 r3 before p =
         let come = come_on f qs p.did p.next p.lines p.taken in
         let good = going_on r2 (text ++ c) (lines ++ line ∷ section) (number + (1 + p.lines)) p.next (turns ++ p.did ∷ []) (standing m f qs) (drivers_in f) come in
@@ -606,37 +548,37 @@ module _ {V : Type 0} {P : V → Type 0} (m : Meanings P) (R : RegistrationList)
 
   -- ---- what stands in the place of the next command
 
-  module _ (r1 w1 : Option (List ℕ)) (number ticks : ℕ) (ok : Bool) (e f : Engine V P) (ps qs : List Prepared) (list : registrations e ≡ R)
-      (come : (text : List ℕ) × (lines : List (List ℕ)) × AreLines text lines × HasGone m R s xs budget rold r1 wold w1 text lines number ticks ok (standing m e ps) (drivers_in e))
+  module _ (r1 w1 : Option (List ℕ)) (number ticks : ℕ) (ok : Bool) (e f : Engine V P) (ps qs : List Prepared)
+      (come : (text : List ℕ) × (lines : List (List ℕ)) × AreLines text lines × HasGone m s xs budget rold r1 wold w1 text lines number ticks ok (standing m e ps) (drivers_in e))
       (r2 w2 : Option (List ℕ)) where
-    went : HasGone m R s xs budget rold r1 wold w1 come.0 come.1 number ticks ok (standing m e ps) (drivers_in e)
+    went : HasGone m s xs budget rold r1 wold w1 come.0 come.1 number ticks ok (standing m e ps) (drivers_in e)
     went = come.3
 
     -- nothing was done
-    stayed : (r3 : Option (List ℕ)) → f ≡ e → w2 ≡ w1 → ByEvents m R xs (λ es. IsCutShort R s.world budget [] rold r3 wold w2 es (world_in m f)) (drivers_in f)
+    stayed : (r3 : Option (List ℕ)) → f ≡ e → w2 ≡ w1 → ByEvents m s.list.entries xs (λ es. IsCutShort s.list s.world budget [] rold r3 wold w2 es (world_in m f)) (drivers_in f)
     stayed r3 same kept =
-        subst (λ g. ByEvents m R xs (λ es. IsCutShort R s.world budget [] rold r3 wold w2 es (world_in m g)) (drivers_in g)) (sym same)
-        (subst (λ o. ByEvents m R xs (λ es. IsCutShort R s.world budget [] rold r3 wold o es (world_in m e)) (drivers_in e)) (sym kept)
+        subst (λ g. ByEvents m s.list.entries xs (λ es. IsCutShort s.list s.world budget [] rold r3 wold w2 es (world_in m g)) (drivers_in g)) (sym same)
+        (subst (λ o. ByEvents m s.list.entries xs (λ es. IsCutShort s.list s.world budget [] rold r3 wold o es (world_in m e)) (drivers_in e)) (sym kept)
         (cut_here r1 w1 come.0 come.1 number ticks ok (standing m e ps) (drivers_in e) went r3))
 
     -- a turn was taken with it
     module _ (c line : List ℕ) (section : List (List ℕ)) (is : IsCommand c line section) (consumed : Consumes r1 r2 c) (cut : lines_of (come.0 ++ c) ≡ come.1 ++ line ∷ section) where
       goes_on : (at : At) → Goes m e f ps qs w1 w2 number ticks line section at
-          → HasGone m R s xs budget rold r2 wold w2 (come.0 ++ c) (come.1 ++ line ∷ section) at.number at.ticks (ok && at.ok) (standing m f qs) (drivers_in f)
+          → HasGone m s xs budget rold r2 wold w2 (come.0 ++ c) (come.1 ++ line ∷ section) at.number at.ticks (ok && at.ok) (standing m f qs) (drivers_in f)
       goes_on at g = record {
         turns = went.turns ++ g.did ∷ [];
-        come = subst (λ n. HasCome m R s xs budget rold r2 (come.0 ++ c) (come.1 ++ line ∷ section) n at.ticks (went.turns ++ g.did ∷ []) (standing m f qs) (drivers_in f)) (sym g.place)
-            (come_on r1 come.0 come.1 number ticks went.turns e ps went.come list c line section is r2 consumed cut f qs g.did at.ticks g.lines g.taken);
+        come = subst (λ n. HasCome m s xs budget rold r2 (come.0 ++ c) (come.1 ++ line ∷ section) n at.ticks (went.turns ++ g.did ∷ []) (standing m f qs) (drivers_in f)) (sym g.place)
+            (come_on r1 come.0 come.1 number ticks went.turns e ps went.come c line section is r2 consumed cut f qs g.did at.ticks g.lines g.taken);
         printed = subst (λ t. Appends wold w2 t) (sym (text_more went.turns g.did)) (appends_both wold w1 w2 (turns_text went.turns) (turn_text g.did) went.printed g.printed);
         all_ok = ap (λ b. b && at.ok) went.all_ok ∙ ap (λ b. list_all is_right went.turns && b) g.is_ok ∙ sym (all_more went.turns g.did);
       }
 
-      bad_at : Ends m e f w1 w2 number ticks line section → ByEvents m R xs (λ es. Converses R s.world budget [] rold r2 wold w2 BadInput es (world_in m f)) (drivers_in f)
-      bad_at p = ends_bad r1 come.0 come.1 number ticks went.turns e ps went.come list c line section is r2 consumed cut f w1 w2 went.printed p
+      bad_at : Ends m e f w1 w2 number ticks line section → ByEvents m s.list.entries xs (λ es. Converses s.list s.world budget [] rold r2 wold w2 BadInput es (world_in m f)) (drivers_in f)
+      bad_at p = ends_bad r1 come.0 come.1 number ticks went.turns e ps went.come c line section is r2 consumed cut f w1 w2 went.printed p
 
-      half_at : TurnsHalf m e f ps qs w1 w2 number ticks line section → ByEvents m R xs (λ es. IsCutShort R s.world budget [] rold r2 wold w2 es (world_in m f)) (drivers_in f)
-      half_at (inl p) = cut_half r1 come.0 come.1 number ticks went.turns e ps went.come list c line section is r2 consumed cut f qs w1 w2 r2 went.printed p
-      half_at (inr (inl p)) = cut_bad r1 come.0 come.1 number ticks went.turns e ps went.come list c line section is r2 consumed cut f w1 w2 r2 went.printed p
+      half_at : TurnsHalf m e f ps qs w1 w2 number ticks line section → ByEvents m s.list.entries xs (λ es. IsCutShort s.list s.world budget [] rold r2 wold w2 es (world_in m f)) (drivers_in f)
+      half_at (inl p) = cut_half r1 come.0 come.1 number ticks went.turns e ps went.come c line section is r2 consumed cut f qs w1 w2 r2 went.printed p
+      half_at (inr (inl p)) = cut_bad r1 come.0 come.1 number ticks went.turns e ps went.come c line section is r2 consumed cut f w1 w2 r2 went.printed p
       half_at (inr (inr p)) = stayed r2 p.0 p.1
 
     -- all lines of a command were read
@@ -651,7 +593,7 @@ module _ {V : Type 0} {P : V → Type 0} (m : Meanings P) (R : RegistrationList)
       as_step y is = subst (λ z. Steps m e f ps qs r1 r2 w1 w2 number ticks z) is steps
 
       pub next_on : (at : At) → x ≡ step.Next at
-          → (text : List ℕ) × (lines : List (List ℕ)) × AreLines text lines × HasGone m R s xs budget rold r2 wold w2 text lines at.number at.ticks (ok && at.ok) (standing m f qs) (drivers_in f)
+          → (text : List ℕ) × (lines : List (List ℕ)) × AreLines text lines × HasGone m s xs budget rold r2 wold w2 text lines at.number at.ticks (ok && at.ok) (standing m f qs) (drivers_in f)
       next_on at is =
           let k : Steps m e f ps qs r1 r2 w1 w2 number ticks (step.Next at) = as_step (step.Next at) is in
           let q : ReadsCommand r1 r2 next.Command k.text = k.read in (
@@ -662,14 +604,14 @@ module _ {V : Type 0} {P : V → Type 0} (m : Meanings P) (R : RegistrationList)
           )
 
       pub last_on : (at : At) → x ≡ step.Last at
-          → ByEvents m R xs (λ es. Converses R s.world budget [] rold r2 wold w2 (cond (ok && at.ok) AllOk SomeRefused) es (world_in m f)) (drivers_in f)
+          → ByEvents m s.list.entries xs (λ es. Converses s.list s.world budget [] rold r2 wold w2 (cond (ok && at.ok) AllOk SomeRefused) es (world_in m f)) (drivers_in f)
       last_on at is =
           let k : Steps m e f ps qs r1 r2 w1 w2 number ticks (step.Last at) = as_step (step.Last at) is in
           let q : ReadsCommand r1 r2 next.Last k.text = k.read in
           ends_all r2 w2 (come.0 ++ k.text) (come.1 ++ q.0 ∷ q.1) at.number at.ticks (ok && at.ok) (standing m f qs) (drivers_in f)
           (goes_on k.text q.0 q.1 q.2 q.3 (last_cut k.text q) at (k.takes q.0 q.1 q.2.lines))
 
-      bad_either : Steps m e f ps qs r1 r2 w1 w2 number ticks step.Bad → ByEvents m R xs (λ es. Converses R s.world budget [] rold r2 wold w2 BadInput es (world_in m f)) (drivers_in f)
+      bad_either : Steps m e f ps qs r1 r2 w1 w2 number ticks step.Bad → ByEvents m s.list.entries xs (λ es. Converses s.list s.world budget [] rold r2 wold w2 BadInput es (world_in m f)) (drivers_in f)
       bad_either (inl k) =
           let q : ReadsCommand r1 r2 next.Command k.text = k.read in
           bad_at k.text q.0 q.1 q.2 q.4 (whole_cut k.text q) (k.takes q.0 q.1 q.2.lines)
@@ -677,25 +619,25 @@ module _ {V : Type 0} {P : V → Type 0} (m : Meanings P) (R : RegistrationList)
           let q : ReadsCommand r1 r2 next.Last k.text = k.read in
           bad_at k.text q.0 q.1 q.2 q.3 (last_cut k.text q) (k.takes q.0 q.1 q.2.lines)
 
-      pub bad_on : x ≡ step.Bad → ByEvents m R xs (λ es. Converses R s.world budget [] rold r2 wold w2 BadInput es (world_in m f)) (drivers_in f)
+      pub bad_on : x ≡ step.Bad → ByEvents m s.list.entries xs (λ es. Converses s.list s.world budget [] rold r2 wold w2 BadInput es (world_in m f)) (drivers_in f)
       bad_on is = bad_either (as_step step.Bad is)
 
-      pub long_on : x ≡ step.Long → ByEvents m R xs (λ es. Converses R s.world budget [] rold r2 wold w2 BadInput es (world_in m f)) (drivers_in f)
+      pub long_on : x ≡ step.Long → ByEvents m s.list.entries xs (λ es. Converses s.list s.world budget [] rold r2 wold w2 BadInput es (world_in m f)) (drivers_in f)
       long_on is =
           let k : Steps m e f ps qs r1 r2 w1 w2 number ticks step.Long = as_step step.Long is in
           let q : ReadsCommand r1 r2 next.TooLong k.text = k.read in
-          subst (λ g. ByEvents m R xs (λ es. Converses R s.world budget [] rold r2 wold w2 BadInput es (world_in m g)) (drivers_in g)) (sym k.same)
+          subst (λ g. ByEvents m s.list.entries xs (λ es. Converses s.list s.world budget [] rold r2 wold w2 BadInput es (world_in m g)) (drivers_in g)) (sym k.same)
           (ends_long r1 w1 come.0 come.1 number ticks ok (standing m e ps) (drivers_in e) went r2 w2 q.0 q.1 q.2 k.printed)
 
-      pub end_on : x ≡ step.End → ByEvents m R xs (λ es. Converses R s.world budget [] rold r2 wold w2 (cond ok AllOk SomeRefused) es (world_in m f)) (drivers_in f)
+      pub end_on : x ≡ step.End → ByEvents m s.list.entries xs (λ es. Converses s.list s.world budget [] rold r2 wold w2 (cond ok AllOk SomeRefused) es (world_in m f)) (drivers_in f)
       end_on is =
           let k : Steps m e f ps qs r1 r2 w1 w2 number ticks step.End = as_step step.End is in
-          subst (λ g. ByEvents m R xs (λ es. Converses R s.world budget [] rold r2 wold w2 (cond ok AllOk SomeRefused) es (world_in m g)) (drivers_in g)) (sym k.1.0)
-          (subst (λ o. ByEvents m R xs (λ es. Converses R s.world budget [] rold r2 wold o (cond ok AllOk SomeRefused) es (world_in m e)) (drivers_in e)) (sym k.1.1)
+          subst (λ g. ByEvents m s.list.entries xs (λ es. Converses s.list s.world budget [] rold r2 wold w2 (cond ok AllOk SomeRefused) es (world_in m g)) (drivers_in g)) (sym k.1.0)
+          (subst (λ o. ByEvents m s.list.entries xs (λ es. Converses s.list s.world budget [] rold r2 wold o (cond ok AllOk SomeRefused) es (world_in m e)) (drivers_in e)) (sym k.1.1)
           (ends_all r2 w1 come.0 come.1 number ticks ok (standing m e ps) (drivers_in e) (gone_read r1 r2 w1 come.0 come.1 number ticks ok (standing m e ps) (drivers_in e) went k.0)))
 
     -- it was cut short
-    pub half_on : StepsHalf m e f ps qs r1 r2 w1 w2 number ticks → ByEvents m R xs (λ es. IsCutShort R s.world budget [] rold r2 wold w2 es (world_in m f)) (drivers_in f)
+    pub half_on : StepsHalf m e f ps qs r1 r2 w1 w2 number ticks → ByEvents m s.list.entries xs (λ es. IsCutShort s.list s.world budget [] rold r2 wold w2 es (world_in m f)) (drivers_in f)
     half_on (inl k) =
         let q : ReadsCommand r1 r2 next.Command k.text = k.read in
         half_at k.text q.0 q.1 q.2 q.4 (whole_cut k.text q) (k.takes q.0 q.1 q.2.lines)
@@ -703,13 +645,13 @@ module _ {V : Type 0} {P : V → Type 0} (m : Meanings P) (R : RegistrationList)
         let q : ReadsCommand r1 r2 next.Last k.text = k.read in
         half_at k.text q.0 q.1 q.2 q.3 (last_cut k.text q) (k.takes q.0 q.1 q.2.lines)
     half_on (inr (inr (inl k))) =
-        subst (λ g. ByEvents m R xs (λ es. IsCutShort R s.world budget [] rold r2 wold w2 es (world_in m g)) (drivers_in g)) (sym k.same)
+        subst (λ g. ByEvents m s.list.entries xs (λ es. IsCutShort s.list s.world budget [] rold r2 wold w2 es (world_in m g)) (drivers_in g)) (sym k.same)
         (cut_long r1 w1 come.0 come.1 number ticks ok (standing m e ps) (drivers_in e) went r2 w2 k.front)
     half_on (inr (inr (inr p))) = stayed r2 p.0 p.1
 
 -- ---- the start is told
 
-module _ (R : RegistrationList) (w : World) (budget : ℕ) (r1 r2 w0 w1 w2 : Option (List ℕ)) (d : Appends w0 w1 done_line) where
+module _ (R : Grouped) (w : World) (budget : ℕ) (r1 r2 w0 w1 w2 : Option (List ℕ)) (d : Appends w0 w1 done_line) where
   started : (status : Status) (es : List HostEvent) (after : World) → Converses R w budget [] r1 r2 w1 w2 status es after → Converses R w budget done_line r1 r2 w0 w2 status es after
   started status es after (inl t) = inl (record {
     text = t.text;
@@ -746,24 +688,24 @@ module _ (R : RegistrationList) (w : World) (budget : ℕ) (r1 r2 w0 w1 w2 : Opt
       }
 
   pub started_over : {V : Type 0} {P : V → Type 0} (m : Meanings P) (xs ys : List (DynBox V Global P)) (after : World) (r : Result Status SessionError)
-      → IfOk r (λ status. ByEvents m R xs (λ es. Converses R w budget [] r1 r2 w1 w2 status es after) ys)
-      → IfOk r (λ status. ByEvents m R xs (λ es. Converses R w budget done_line r1 r2 w0 w2 status es after) ys)
+      → IfOk r (λ status. ByEvents m R.entries xs (λ es. Converses R w budget [] r1 r2 w1 w2 status es after) ys)
+      → IfOk r (λ status. ByEvents m R.entries xs (λ es. Converses R w budget done_line r1 r2 w0 w2 status es after) ys)
   started_over m xs ys after (Err why) h = tt
   started_over m xs ys after (Ok status) h = (h.0, started status h.0 after h.1, h.2)
 
   pub started_half : {V : Type 0} {P : V → Type 0} (m : Meanings P) (xs ys : List (DynBox V Global P)) (after : World) (r : Result Status SessionError)
-      → OnErr r (ByEvents m R xs (λ es. IsCutShort R w budget [] r1 r2 w1 w2 es after) ys)
-      → OnErr r (ByEvents m R xs (λ es. IsCutShort R w budget done_line r1 r2 w0 w2 es after) ys)
+      → OnErr r (ByEvents m R.entries xs (λ es. IsCutShort R w budget [] r1 r2 w1 w2 es after) ys)
+      → OnErr r (ByEvents m R.entries xs (λ es. IsCutShort R w budget done_line r1 r2 w0 w2 es after) ys)
   started_half m xs ys after (Ok status) h = tt
   started_half m xs ys after (Err why) h = (h.0, started_cut h.0 after h.1, h.2)
 
 -- nor was it told whole
-pub unstarted : {V : Type 0} {P : V → Type 0} (m : Meanings P) (R : RegistrationList) (w : World) (xs : List (DynBox V Global P)) (budget : ℕ) (r1 r2 w0 w1 : Option (List ℕ))
-    → HasFront w0 w1 done_line → ByEvents m R xs (λ es. IsCutShort R w budget done_line r1 r2 w0 w1 es w) xs
+pub unstarted : {V : Type 0} {P : V → Type 0} (m : Meanings P) (R : Grouped) (w : World) (xs : List (DynBox V Global P)) (budget : ℕ) (r1 r2 w0 w1 : Option (List ℕ))
+    → HasFront w0 w1 done_line → ByEvents m R.entries xs (λ es. IsCutShort R w budget done_line r1 r2 w0 w1 es w) xs
 unstarted m R w xs budget r1 r2 w0 w1 p =
-    let s : Standing = record { world = w; last = 0; builds = λ i. None; functions = [] } in
-    let first = come_first m R s xs budget r1 w0 refl in
-    let good = going_on m R s xs budget r1 w0 r1 [] [] 1 budget [] s xs first in
+    let s : Standing = record { list = R; world = w; last = 0; builds = λ i. None; functions = [] } in
+    let first = come_first m s xs budget r1 w0 refl in
+    let good = going_on m s xs budget r1 w0 r1 [] [] 1 budget [] s xs first in
     let same : done_line ≡ done_line ++ ([] ++ []) = sym (append-nil done_line) in (
       [],
       record {
@@ -771,7 +713,7 @@ unstarted m R w xs budget r1 r2 w0 w1 p =
         turns = [];
         last = [];
         read = (r1, consumes_nothing r1);
-        held = held m R s xs budget r1 w0 r1 [] [] 1 budget [] s xs first;
+        held = held m s xs budget r1 w0 r1 [] [] 1 budget [] s xs first;
         can_end = inl (ap bad_line_text (sym good));
         printed = record {
           count = p.count;
@@ -780,5 +722,5 @@ unstarted m R w xs budget r1 r2 w0 w1 p =
         };
         whole = omega arith;
       },
-      follow_nothing m R xs,
+      λ roles fit. follow_nothing m roles xs,
     )

@@ -4,6 +4,7 @@ pub mod Turning
 pub mod OwnLines
 pub mod Limiting
 pub mod Posting
+pub mod Saying
 pub mod Coming
 pub mod Stepping
 pub mod AsSession

@@ -3,7 +3,6 @@ use Rattle.std.proofs.Common.{◌≡◌, ℕ, zero, suc, ◌≤◌, false, List,
 use Rattle.std.proofs.lemmas.Bool.{cases_Bool, eqb-true, eqb-false}
 use Rattle.ang_engine.specs.Prepared.{place_in, build_in, is_there, HaveMoved}
 use Rattle.ang_engine.specs.declared.prepared.Prepared.{Prepared}
-use Rattle.ang_view.specs.Registration.{RegistrationList}
 use Rattle.asrun_session.specs.Deeds.{Ran, Set}
 use Rattle.asremote.specs.Conversation.{TurnsLead}
 use Rattle.asremote.specs.Standing.{Standing, BuildsNothing, KeepsFunctions, TurnBuilds}
@@ -37,9 +36,9 @@ module _ (n : ℕ) (p : Prepared) where
   turn_stays s (Missed number args) after h = same_at s.functions after h.1
   turn_stays s Unread after h = same_at s.functions after h
 
-  pub turns_stay : (R : RegistrationList) (s after : Standing) (turns : List Turned) → TurnsLead R s turns after → slice_get s.functions n ≡ Some p → slice_get after.functions n ≡ Some p
-  turns_stay R s after [] h g = ap (λ (x : Standing). slice_get x.functions n) (sym h) ∙ g
-  turns_stay R s after (t ∷ ts) h g = turns_stay R h.0 after ts h.2 (turn_stays s t h.0.functions h.1.functions g)
+  pub turns_stay : (s after : Standing) (turns : List Turned) → TurnsLead s turns after → slice_get s.functions n ≡ Some p → slice_get after.functions n ≡ Some p
+  turns_stay s after [] h g = ap (λ (x : Standing). slice_get x.functions n) (sym h) ∙ g
+  turns_stay s after (t ∷ ts) h g = turns_stay h.0 after ts h.2 (turn_stays s t h.0.functions h.1.functions g)
 
 -- ---- whether it is there
 
@@ -75,6 +74,6 @@ module _ (p : Prepared) where
   turn_gone s (Missed number args) after h = same_gone s after h
   turn_gone s Unread after h = same_gone s after h
 
-  pub turns_gone : (R : RegistrationList) (s after : Standing) (turns : List Turned) → TurnsLead R s turns after → Gone s → Gone after
-  turns_gone R s after [] h g = subst Gone h g
-  turns_gone R s after (t ∷ ts) h g = turns_gone R h.0 after ts h.2 (turn_gone s t h.0 h.1.builds g)
+  pub turns_gone : (s after : Standing) (turns : List Turned) → TurnsLead s turns after → Gone s → Gone after
+  turns_gone s after [] h g = subst Gone h g
+  turns_gone s after (t ∷ ts) h g = turns_gone h.0 after ts h.2 (turn_gone s t h.0 h.1.builds g)

@@ -8,7 +8,7 @@ use Rattle.ang_host.specs.Events.{DriversFollow}
 use Rattle.ang_host.specs.Meanings.{Meanings}
 use Rattle.ang_host.specs.Members.{states_of}
 use Rattle.ang_meaning.specs.Counting.{counts_by}
-use Rattle.ang_view.specs.Registration.{RegistrationList}
+use Rattle.ang_view.specs.Groups.{Grouped}
 use Rattle.ang_engine.specs.Roles.{roles_of}
 use Rattle.ang_engine.specs.Sound.{HaveDrivers}
 use Rattle.ang_engine_modules.specs.World.{World, engine_ended}
@@ -44,24 +44,24 @@ status_right None turns e = ended (list_all is_right turns) e
 
 module _ {V : Type 0} {P : V → Type 0} (m : Meanings P) (budget : ℕ) (unread unread2 written written2 : Option (List ℕ)) where
   -- an engine took the drivers, and was discarded
-  module _ (t : Start) (R' : RegistrationList) (xs xs' zs ys : List (DynBox V Global P)) (begun w : World) (list : R' ≡ t.entries) (new_engine : begun ≡ world_at_start t) (same : xs' ≡ xs)
-      (listed : AreListed m xs) (in_list : HaveDrivers R' (length xs')) (hosts : w.hosts ≡ counts_by (states_of m zs)) (ends : DriversFollow m (roles_of t.entries) zs (engine_ended w).events ys) (back : AreBack m ys) where
+  module _ (t : Start) (R' : Grouped) (xs xs' zs ys : List (DynBox V Global P)) (begun w : World) (list : R' ≡ t.list) (new_engine : begun ≡ world_at_start t) (same : xs' ≡ xs)
+      (listed : AreListed m xs) (in_list : HaveDrivers R'.entries (length xs')) (hosts : w.hosts ≡ counts_by (states_of m zs)) (ends : DriversFollow m (roles_of t.list.entries) zs (engine_ended w).events ys) (back : AreBack m ys) where
     pub talks_taken : (ended : Result Status SessionError)
-        → IfOk ended (λ status. ByEvents m R' xs' (λ es. Converses R' begun budget done_line unread unread2 written written2 status es w) zs)
+        → IfOk ended (λ status. ByEvents m R'.entries xs' (λ es. Converses R' begun budget done_line unread unread2 written written2 status es w) zs)
         → IfOk ended (TalksOver m xs ys budget unread unread2 written written2 t)
     talks_taken (Err why) h = tt
     talks_taken (Ok status) h =
         inr (discarded m t R' xs xs' zs ys begun w list new_engine same listed in_list hosts ends back (λ l v. Converses l v budget done_line unread unread2 written written2 status) h)
 
     pub stops_taken : (ended : Result Status SessionError)
-        → OnErr ended (ByEvents m R' xs' (λ es. IsCutShort R' begun budget done_line unread unread2 written written2 es w) zs)
+        → OnErr ended (ByEvents m R'.entries xs' (λ es. IsCutShort R' begun budget done_line unread unread2 written written2 es w) zs)
         → OnErr ended (StopsOver m xs ys budget unread unread2 written written2 t)
     stops_taken (Ok status) h = tt
     stops_taken (Err why) h =
         inr (inr (discarded m t R' xs xs' zs ys begun w list new_engine same listed in_list hosts ends back (λ l v. IsCutShort l v budget done_line unread unread2 written written2) h))
 
   -- no engine took them
-  module _ (t : Start) (xs ys : List (DynBox V Global P)) (why : EngineRefusal) (back : ys ≡ xs) (refused : IsRefused m t.entries xs why) where
+  module _ (t : Start) (xs ys : List (DynBox V Global P)) (why : EngineRefusal) (back : ys ≡ xs) (refused : IsRefused m t.list.entries xs why) where
     pub talks_refused : (ended : Result Status SessionError) → OnOk ended (Appends written written2 (engine_text why)) → IfOk ended (λ status. status ≡ BadInput)
         → IfOk ended (TalksOver m xs ys budget unread unread2 written written2 t)
     talks_refused (Err e) printed ending = tt
@@ -83,7 +83,7 @@ module _ {V : Type 0} {P : V → Type 0} (m : Meanings P) (budget : ℕ) (unread
   not_memory xs ys t status (inl r) = λ e. bad_memory (sym r.3 ∙ e)
   not_memory xs ys t status (inr d) = told_memory d.did
     where
-      told_memory : {es : List HostEvent} {after : World} → Converses t.entries (world_at_start t) budget done_line unread unread2 written written2 status es after → status ≢ Memory
+      told_memory : {es : List HostEvent} {after : World} → Converses t.list (world_at_start t) budget done_line unread unread2 written written2 status es after → status ≢ Memory
       told_memory (inl d) = λ e. status_right _ d.turns (sym d.ending ∙ e)
       told_memory (inr d) = λ e. bad_memory (sym d.ending ∙ e)
 

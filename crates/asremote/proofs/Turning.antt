@@ -85,7 +85,7 @@ module _ {V : Type 0} {P : V → Type 0} (m : Meanings P) (e f : Engine V P) (ps
       said = subst (λ x. IsSaid ticks l ls (Does x) a.lines) (sym p.done.action) said;
       budget = budget ∙ ap (λ x. ticks_after ticks (Does x)) (sym p.done.action);
       budgeted = tt;
-      comes = record { comes = record { does = p.done.does; builds = p.builds; follow = p.done.follow; within = p.within }; functions = refl };
+      comes = record { comes = record { does = p.done.does; list = p.list; builds = p.builds; follow = p.done.follow; within = p.within }; functions = refl };
     };
     is_ok = p.done.ended;
     printed = p.done.printed;
@@ -102,7 +102,7 @@ module _ {V : Type 0} {P : V → Type 0} (m : Meanings P) (e f : Engine V P) (ps
       said = subst (λ x. IsSaid ticks l ls (Does x) a.lines) (sym p.done.action) said;
       budget = ap (λ x. ticks_after ticks (Does x)) (sym p.done.action);
       budgeted = tt;
-      comes = record { comes = record { does = p.done.does; builds = p.builds; follow = p.done.follow; within = p.within }; functions = refl };
+      comes = record { comes = record { does = p.done.does; list = p.list; builds = p.builds; follow = p.done.follow; within = p.within }; functions = refl };
     };
     front = front_of_turn old new (Did p.done.deed) p.done.front;
   }

@@ -17,6 +17,7 @@ section_lines (line.Build name) = 0
 section_lines (line.Bind name index exporter decl) = 0
 section_lines (line.Unbind name index) = 0
 section_lines (line.Discard name) = 0
+section_lines (line.Remove name) = 0
 section_lines (line.Call name args decl) = 0
 section_lines (line.Budget ticks) = 0
 

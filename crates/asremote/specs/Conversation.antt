@@ -5,7 +5,7 @@ use Rattle.std.specs.declared.alloc.Global.{Global}
 use Rattle.std.specs.declared.dyn_box.DynBox.{DynBox}
 use Rattle.ang_host.specs.Meanings.{Meanings}
 use Rattle.ang_host.specs.declared.event.HostEvent.{HostEvent}
-use Rattle.ang_view.specs.Registration.{RegistrationList}
+use Rattle.ang_view.specs.Groups.{Grouped}
 use Rattle.ang_engine.specs.declared.engine.Engine.{Engine}
 use Rattle.ang_engine.specs.Checking.{checking}
 use Rattle.ang_engine.specs.declared.prepared.Prepared.{Prepared}
@@ -28,7 +28,7 @@ use Rattle.asremote.specs.declared.conversation.Step.{Step}
 use Rattle.asremote.specs.declared.conversation.Step.TheVariants as step
 use Rattle.asremote.specs.declared.turns.At.{At}
 use Rattle.asremote.specs.Talk.{Talk, talk_from, Turned, Passed, Did, Limited, Told, Traced, Checked, Listed, LookedUp, Called, Missed, Unread, says_of, events_in, turns_text, done_line, status_of}
-use Rattle.asremote.specs.Standing.{Standing, KeepsFunctions, TurnBuilds}
+use Rattle.asremote.specs.Standing.{Standing, KeepsFunctions, TurnBuilds, list_turned}
 use Rattle.asremote.specs.Turns.{TakesPrepared, TakesOne, TakesHalf, Stays}
 
 -- all turns but the last one
@@ -89,64 +89,66 @@ module _ {V : Type 0} {P : V → Type 0} (m : Meanings P) (e f : Engine V P)
 
 -- What a turn does to the world: a command and a call of what was looked up as the engine says, a limit is
 -- what the host allows from then on, a check takes sections with errors away, and no other turn does anything.
-abbrev pub ModulesLead : RegistrationList → Standing → Turned → World → Type 0
-ModulesLead R s Passed after = s.world ≡ after
-ModulesLead R s (Did d) after = DoesDeed R s.world d after
-ModulesLead R s (Limited limit) after =
+abbrev pub ModulesLead : Standing → Turned → World → Type 0
+ModulesLead s Passed after = s.world ≡ after
+ModulesLead s (Did d) after = DoesDeed s.list s.world d after
+ModulesLead s (Limited limit) after =
     after ≡ bounded_by (with_bound s.world.bounds limit) s.world
-ModulesLead R s (Told ticks held) after = s.world ≡ after
-ModulesLead R s (Traced frames) after = s.world ≡ after
-ModulesLead R s (Checked name r) after = Leads (checking R name s.world) r after
-ModulesLead R s (Listed name lines o) after = s.world ≡ after
-ModulesLead R s (LookedUp name decl found) after = s.world ≡ after
-ModulesLead R s (Called number args p ticks r) after =
-    TakesPrepared R s.world s.builds p args ticks r after
-ModulesLead R s (Missed number args) after = s.world ≡ after
-ModulesLead R s Unread after = s.world ≡ after
+ModulesLead s (Told ticks held) after = s.world ≡ after
+ModulesLead s (Traced frames) after = s.world ≡ after
+ModulesLead s (Checked name r) after = Leads (checking s.list.entries name s.world) r after
+ModulesLead s (Listed name lines o) after = s.world ≡ after
+ModulesLead s (LookedUp name decl found) after = s.world ≡ after
+ModulesLead s (Called number args p ticks r) after =
+    TakesPrepared s.list s.world s.builds p args ticks r after
+ModulesLead s (Missed number args) after = s.world ≡ after
+ModulesLead s Unread after = s.world ≡ after
 
 -- What a turn does to all that stands. So `run N` calls what the look-up found that was answered N, and is
 -- refused once the module was built again or discarded (`TakesPrepared`).
-pub record TurnLeads (R : RegistrationList) (s : Standing) (t : Turned) (after : Standing) : Type 0 where
-  pub modules : ModulesLead R s t after.world
+pub record TurnLeads (s : Standing) (t : Turned) (after : Standing) : Type 0 where
+  pub modules : ModulesLead s t after.world
+  pub list : after.list ≡ list_turned s t
   pub builds : TurnBuilds s t after
   pub functions : KeepsFunctions s t after.functions
 
 -- one after the other
-abbrev pub TurnsLead : RegistrationList → Standing → List Turned → Standing → Type 0
-TurnsLead R s [] after = s ≡ after
-TurnsLead R s (t ∷ ts) after = (v : Standing) × TurnLeads R s t v × TurnsLead R v ts after
+abbrev pub TurnsLead : Standing → List Turned → Standing → Type 0
+TurnsLead s [] after = s ≡ after
+TurnsLead s (t ∷ ts) after = (v : Standing) × TurnLeads s t v × TurnsLead v ts after
 
 -- A function that was looked up keeps its number to the end.
 abbrev pub NumbersStay : Type 0
 NumbersStay =
-    (R : RegistrationList) (s after : Standing) (turns : List Turned) → TurnsLead R s turns after
+    (s after : Standing) (turns : List Turned) → TurnsLead s turns after
     → (number : ℕ) (p : Prepared) → slice_get s.functions number ≡ Some p
     → slice_get after.functions number ≡ Some p
 
 -- Once its module was built again or discarded, it never comes back: each call of it is refused.
 abbrev pub GoneStay : Type 0
 GoneStay =
-    (R : RegistrationList) (s after : Standing) (turns : List Turned) → TurnsLead R s turns after
+    (s after : Standing) (turns : List Turned) → TurnsLead s turns after
     → (p : Prepared) → build_in p ≤ s.last → is_there s.builds p ≡ false
     → is_there after.builds p ≡ false
 
 -- Over the list R and the world w: these turns were taken with what was said, in their order, from where
 -- nothing was looked up; each command among them ran, with its reply; these are the events of all replies,
 -- and the world that they left.
-pub record IsHeld (R : RegistrationList) (w : World) (talk : Talk) (turns : List Turned)
+pub record IsHeld (R : Grouped) (w : World) (talk : Talk) (turns : List Turned)
     (es : List HostEvent) (after : World) : Type 0 where
   pub said : talk.turns ≡ map says_of turns
   pub start : Standing
+  pub over : start.list ≡ R
   pub begins : start.world ≡ w
   pub none : start.functions ≡ []
   pub last : Standing
-  pub leads : TurnsLead R start turns last
+  pub leads : TurnsLead start turns last
   pub left : last.world ≡ after
   pub events : es ≡ events_in turns
 
 -- A conversation over the list R and the world w, with a budget. `first` is told before it begins. The
 -- bytes that the reader had left and those of the writer, before and after.
-module _ (R : RegistrationList) (w : World) (budget : ℕ) (first : List ℕ) (unread unread_after written written_after : Option (List ℕ)) where
+module _ (R : Grouped) (w : World) (budget : ℕ) (first : List ℕ) (unread unread_after written written_after : Option (List ℕ)) where
   -- The lines that were read were taken, and answered: each turn's answer, then `done`.
   pub record IsTold (status : Status) (es : List HostEvent) (after : World) : Type 0 where
     pub text : List ℕ
@@ -195,18 +197,18 @@ module _ {V : Type 0} {P : V → Type 0} (m : Meanings P) (xs ys : List (DynBox 
   -- over what a profile gives
   abbrev pub TalksOver : Start → Status → Type 0
   TalksOver s status =
-      EngineRefused m xs ys written written_after s.entries status
-      ⊎ WasDiscarded m s.entries xs ys
-      (Converses s.entries (world_at_start s) budget done_line unread unread_after written
+      EngineRefused m xs ys written written_after s.list.entries status
+      ⊎ WasDiscarded m s.list.entries xs ys
+      (Converses s.list (world_at_start s) budget done_line unread unread_after written
       written_after status)
 
   -- and cut short
   abbrev pub StopsOver : Start → Type 0
   StopsOver s =
       Untouched m xs ys written written_after
-      ⊎ (EngineStops m xs ys written written_after s.entries
-      ⊎ WasDiscarded m s.entries xs ys
-      (IsCutShort s.entries (world_at_start s) budget done_line unread unread_after written
+      ⊎ (EngineStops m xs ys written written_after s.list.entries
+      ⊎ WasDiscarded m s.list.entries xs ys
+      (IsCutShort s.list (world_at_start s) budget done_line unread unread_after written
       written_after))
 
   -- over a profile, which may be refused

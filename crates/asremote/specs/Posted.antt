@@ -1,7 +1,7 @@
 -- Which functions a profile has posted (docs/FORMATS.md, "The conversation of asremote").
 use Rattle.std.specs.Prelude.{ℕ, ◌==◌, List, [], ◌∷◌, flat_map, Option, Some, None, if◌then◌else◌}
 use Rattle.asrun_lines.specs.Lines.{shown_of}
-use Rattle.asrun_lines.specs.ProfileLines.{Entry, DefaultMask, Limit, HostType, Factory, Method, Property, Function, Posted, Global, Enumeration, EnumValue, Blank, entry_of}
+use Rattle.asrun_lines.specs.ProfileLines.{Entry, DefaultMask, Limit, HostType, Factory, Method, Property, Function, Posted, Global, Enumeration, EnumValue, Group, EndGroup, Blank, entry_of}
 use Rattle.asremote.specs.declared.posted.PostedFunction.{PostedFunction}
 
 -- the function that a line has posted: one line `posted DRIVER F DECL` has one, and any other none
@@ -18,6 +18,8 @@ posted_by (Some (Posted own number decl)) = record { driver = own; f = number } 
 posted_by (Some (Global own f decl)) = []
 posted_by (Some (Enumeration name)) = []
 posted_by (Some (EnumValue enumeration name value)) = []
+posted_by (Some (Group name)) = []
+posted_by (Some EndGroup) = []
 posted_by (Some Blank) = []
 
 -- those of all lines, in their order

@@ -4,17 +4,19 @@ use Rattle.std.specs.Prelude.{ℕ, ◌≡◌, ◌≢◌, ◌≤◌, true, List, 
 use Rattle.ang_host.specs.Meanings.{Meanings}
 use Rattle.ang_engine.specs.declared.engine.Engine.{Engine}
 use Rattle.ang_engine.specs.declared.prepared.Prepared.{Prepared}
-use Rattle.ang_engine.specs.Engines.{world_in, builds_in, last_build}
+use Rattle.ang_engine.specs.Engines.{list_in, world_in, builds_in, last_build}
 use Rattle.ang_engine.specs.Prepared.{IsFunctionOf, build_in, number_in, is_there, looked_up}
 use Rattle.ang_engine_modules.specs.World.{World}
 use Rattle.ang_engine_modules.specs.declared.reply.Refusal.{Refusal}
 use Rattle.ang_engine_modules.specs.declared.reply.Refusal.TheVariants.{Memory}
-use Rattle.asrun_session.specs.Deeds.{MovesBuilds}
+use Rattle.asrun_session.specs.Deeds.{MovesBuilds, list_behind}
+use Rattle.ang_view.specs.Groups.{Grouped}
 use Rattle.asremote.specs.Talk.{Turned, Passed, Did, Limited, Told, Traced, Checked, Listed, LookedUp, Called, Missed, Unread}
 
--- The modules; the number of the last build that was begun; for each module's place the number of its last
--- build; and the functions that were looked up so far, in their order.
+-- The registration list with its groups; the modules; the number of the last build that was begun; for each
+-- module's place the number of its last build; and the functions that were looked up so far, in their order.
 pub record Standing : Type 0 where
+  pub list : Grouped
   pub world : World
   pub last : ℕ
   pub builds : ℕ → Option ℕ
@@ -24,6 +26,7 @@ pub record Standing : Type 0 where
 abbrev pub standing : {V : Type 0} {P : V → Type 0} → Meanings P → Engine V P → List Prepared → Standing
 standing m e functions =
     record {
+      list = list_in e;
       world = world_in m e;
       last = last_build e;
       builds = builds_in e;
@@ -82,3 +85,17 @@ TurnBuilds s (LookedUp name decl found) after = BuildsNothing s after
 TurnBuilds s (Called number args p ticks r) after = BuildsNothing s after
 TurnBuilds s (Missed number args) after = BuildsNothing s after
 TurnBuilds s Unread after = BuildsNothing s after
+
+-- The list after a turn: a command alone changes it.
+abbrev pub list_turned : Standing → Turned → Grouped
+list_turned s Passed = s.list
+list_turned s (Did d) = list_behind s.list s.world d
+list_turned s (Limited limit) = s.list
+list_turned s (Told ticks held) = s.list
+list_turned s (Traced frames) = s.list
+list_turned s (Checked name r) = s.list
+list_turned s (Listed name lines o) = s.list
+list_turned s (LookedUp name decl found) = s.list
+list_turned s (Called number args p ticks r) = s.list
+list_turned s (Missed number args) = s.list
+list_turned s Unread = s.list

@@ -4,13 +4,13 @@ use Rattle.std.specs.Option.{option_and_then}
 use Rattle.std.specs.Io.KnownBytes.{Appends}
 use Rattle.ang_host.specs.Events.{DriversFollow}
 use Rattle.ang_host.specs.Meanings.{Meanings}
-use Rattle.ang_engine.specs.Engines.{registrations, world_in, drivers_in, limits_in, held_in, builds_in, last_build}
+use Rattle.ang_engine.specs.Engines.{list_in, registrations, world_in, drivers_in, limits_in, held_in, builds_in, last_build}
 use Rattle.ang_engine.specs.declared.engine.Engine.{Engine}
 use Rattle.ang_engine.specs.Checking.{checking}
 use Rattle.ang_engine.specs.Limited.{StaysWithin}
 use Rattle.ang_engine.specs.Prepared.{IsFunctionOf, is_there}
 use Rattle.ang_engine.specs.declared.prepared.Prepared.{Prepared}
-use Rattle.ang_engine.specs.Roles.{roles_of}
+use Rattle.ang_engine.specs.Roles.{AreRoles}
 use Rattle.ang_engine.specs.Step.{Leads, Takes}
 use Rattle.ang_engine.specs.Trace.{ticks_in}
 use Rattle.ang_engine_modules.specs.Commands.{reply_of}
@@ -20,11 +20,12 @@ use Rattle.ang_engine_modules.specs.declared.reply.Outcome.TheVariants.{Refused}
 use Rattle.ang_engine_modules.specs.declared.reply.Refusal.TheVariants.{NoFunction}
 use Rattle.ang_engine_modules.specs.declared.reply.Reply.{Reply}
 use Rattle.ang_kinds.specs.declared.value.Value.{Value}
-use Rattle.ang_view.specs.Registration.{RegistrationList}
+use Rattle.ang_host.specs.declared.event.Role.{Role}
+use Rattle.ang_view.specs.Groups.{Grouped}
 use Rattle.asrun_lines.specs.Lines.{lines_of, shown_of, is_skipped}
 use Rattle.asrun_lines.specs.SessionLines.{session_line_of, is_header}
 use Rattle.asrun_lines.specs.declared.limits.LimitLine.{LimitLine}
-use Rattle.asrun_session.specs.Deeds.{Deed, Does as DoesDeed, deed_events, bad_line_text}
+use Rattle.asrun_session.specs.Deeds.{Deed, Does as DoesDeed, list_behind, deed_events, bad_line_text}
 use Rattle.asrun_session.specs.Engines.{Builds}
 use Rattle.asrun_session.specs.Limits.{with_limit, with_bound}
 use Rattle.asrun_session.specs.Session.{Act, act_of}
@@ -92,7 +93,7 @@ IsBudgeted budget Unread = Unit {0}
 
 -- What was looked up is called over the modules w: as by each text that names the function, or, where its
 -- module was built since or is gone, to no avail. `builds` numbers the last build of each module.
-pub record TakesPrepared (R : RegistrationList) (w : World) (builds : ℕ → Option ℕ) (p : Prepared)
+pub record TakesPrepared (R : Grouped) (w : World) (builds : ℕ → Option ℕ) (p : Prepared)
     (args : List Value) (ticks : ℕ) (r : Reply) (after : World) : Type 0 where
   pub takes : (name decl : List ℕ) → IsFunctionOf w builds p name decl → Takes R w (Call name decl args ticks) r after
   pub gone : is_there builds p ≡ false → (r ≡ reply_of (Refused NoFunction) [] []) × (after ≡ w)
@@ -105,10 +106,11 @@ module _ {V : Type 0} {P : V → Type 0} (m : Meanings P) (e f : Engine V P) whe
 
   -- A command was done, under the limits that hold and stay: the drivers followed its events.
   pub record HasDone (d : Deed) : Type 0 where
-    pub does : DoesDeed (registrations e) (world_in m e) d (world_in m f)
+    pub does : DoesDeed (list_in e) (world_in m e) d (world_in m f)
+    pub list : list_in f ≡ list_behind (list_in e) (world_in m e) d
     pub builds : Builds m e f d
-    pub follow : DriversFollow m (roles_of (registrations e)) (drivers_in e) (deed_events d)
-        (drivers_in f)
+    pub follow : (roles : List Role) → AreRoles roles (registrations e)
+        → DriversFollow m roles (drivers_in e) (deed_events d) (drivers_in f)
     pub within : StaysWithin m e.machine.store (deed_events d) f.machine.store
 
   -- A limit was set: the host allows so much from now on, and nothing else changed.
@@ -116,12 +118,14 @@ module _ {V : Type 0} {P : V → Type 0} (m : Meanings P) (e f : Engine V P) whe
     pub limits : limits_in f ≡ with_limit (limits_in e) limit
     pub world :
         world_in m f ≡ bounded_by (with_bound (world_in m e).bounds limit) (world_in m e)
+    pub list : list_in f ≡ list_in e
     pub numbers : HasSameBuilds
     pub drivers : drivers_in f ≡ drivers_in e
 
   -- The sections that wait in a module were checked: what the drivers have and the limits stay.
   pub record HasChecked (name : List ℕ) (r : Reply) : Type 0 where
     pub checks : Leads (checking (registrations e) name (world_in m e)) r (world_in m f)
+    pub list : list_in f ≡ list_in e
     pub numbers : HasSameBuilds
     pub silent : r.events ≡ []
     pub drivers : drivers_in f ≡ drivers_in e
@@ -129,10 +133,11 @@ module _ {V : Type 0} {P : V → Type 0} (m : Meanings P) (e f : Engine V P) whe
 
   -- What was looked up was called, under the limits that hold and stay: the drivers followed its events.
   pub record HasCalled (p : Prepared) (args : List Value) (ticks : ℕ) (r : Reply) : Type 0 where
-    pub takes : TakesPrepared (registrations e) (world_in m e) (builds_in e) p args ticks r
-        (world_in m f)
+    pub takes : TakesPrepared (list_in e) (world_in m e) (builds_in e) p args ticks r (world_in m f)
+    pub list : list_in f ≡ list_in e
     pub numbers : HasSameBuilds
-    pub follow : DriversFollow m (roles_of (registrations e)) (drivers_in e) r.events (drivers_in f)
+    pub follow : (roles : List Role) → AreRoles roles (registrations e)
+        → DriversFollow m roles (drivers_in e) r.events (drivers_in f)
     pub within : StaysWithin m e.machine.store r.events f.machine.store
 
   -- What a turn did to the engine. What was told of ticks and to be held is what it took and holds.

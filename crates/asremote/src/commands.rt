@@ -41,6 +41,7 @@ fn section_lines(line: &SessionLine) -> u64
         } => 0,
         SessionLine::Unbind { name: _, index: _ } => 0,
         SessionLine::Discard { name: _ } => 0,
+        SessionLine::Remove { name: _ } => 0,
         SessionLine::Call {
             name: _,
             args: _,

@@ -3,11 +3,12 @@
 ghost use Rattle.std.specs.Prelude.{◌≡◌, ◌<◌, ◌^◌, [], length, cond, IfOk, IfSome, OnOk, OnErr};
 ghost use Rattle.std.specs.Io.KnownBytes.{Appends};
 ghost use Rattle.ang_host.specs.Boxes.{members};
-ghost use Rattle.ang_engine.specs.Engines.{registrations, world_in, drivers_in};
+ghost use Rattle.ang_view.specs.Only.{IsWithin};
+ghost use Rattle.ang_engine.specs.Engines.{list_in, registrations, world_in, drivers_in};
 ghost use Rattle.ang_engine.specs.Sound.{IsSound};
 ghost use Rattle.asrun_session.specs.Drivers.{kinds_of, AreListed};
 ghost use Rattle.asrun_session.specs.Engines.{Comes};
-ghost use Rattle.asrun_session.specs.Whole.{start_by, start_of, outcome_of, long_session_text};
+ghost use Rattle.asrun_session.specs.Whole.{start_by, list_begun, start_of, outcome_of, long_session_text};
 ghost use Rattle.asrun_session.specs.Writing.{HasFront};
 ghost use Rattle.asremote.specs.Conversation.{stepped, Steps, StepsHalf, Converses, IsCutShort, TalksOver, StopsOver, Tells};
 ghost use Rattle.asremote.specs.Talk.{done_line};
@@ -90,7 +91,7 @@ fn turn_over<S: Read, W: Write>(
     requires sound { IsSound ⟦<dyn Driver as Driver>⟧ engine.old }
     requires empty { text.old.items ≡ [] }
     ensures sound { IsSound ⟦<dyn Driver as Driver>⟧ engine.new }
-    ensures registrations { registrations engine.new ≡ registrations engine.old }
+    ensures within { IsWithin (registrations engine.new) (registrations engine.old) }
     ensures order { kinds_of (drivers_in engine.new) ≡ kinds_of (drivers_in engine.old) }
     ensures done { IfOk result (Steps ⟦<dyn Driver as Driver>⟧ engine.old engine.new
         prepared.old.items prepared.new.items (S.remaining input.old) (S.remaining input.new)
@@ -138,7 +139,7 @@ fn next_turn<S: Read, W: Write>(
 ) -> Result<Step, SessionError>
     requires sound { IsSound ⟦<dyn Driver as Driver>⟧ engine.old }
     ensures sound { IsSound ⟦<dyn Driver as Driver>⟧ engine.new }
-    ensures registrations { registrations engine.new ≡ registrations engine.old }
+    ensures within { IsWithin (registrations engine.new) (registrations engine.old) }
     ensures order { kinds_of (drivers_in engine.new) ≡ kinds_of (drivers_in engine.old) }
     ensures done { IfOk result (Steps ⟦<dyn Driver as Driver>⟧ engine.old engine.new
         prepared.old.items prepared.new.items (S.remaining input.old) (S.remaining input.new)
@@ -172,14 +173,14 @@ fn turns_on<S: Read, W: Write>(
     requires sound { IsSound ⟦<dyn Driver as Driver>⟧ engine.old }
     requires none { prepared.old.items ≡ [] }
     ensures sound { IsSound ⟦<dyn Driver as Driver>⟧ engine.new }
-    ensures registrations { registrations engine.new ≡ registrations engine.old }
+    ensures within { IsWithin (registrations engine.new) (registrations engine.old) }
     ensures order { kinds_of (drivers_in engine.new) ≡ kinds_of (drivers_in engine.old) }
     ensures done { IfOk result (λ status. Comes ⟦<dyn Driver as Driver>⟧ engine.old engine.new
-        (Converses (registrations engine.old) (world_in ⟦<dyn Driver as Driver>⟧ engine.old)
+        (Converses (list_in engine.old) (world_in ⟦<dyn Driver as Driver>⟧ engine.old)
         budget [] (S.remaining input.old) (S.remaining input.new) (W.contents writer.old)
         (W.contents writer.new) status)) }
     ensures cut { OnErr result (Comes ⟦<dyn Driver as Driver>⟧ engine.old engine.new
-        (IsCutShort (registrations engine.old) (world_in ⟦<dyn Driver as Driver>⟧ engine.old)
+        (IsCutShort (list_in engine.old) (world_in ⟦<dyn Driver as Driver>⟧ engine.old)
         budget [] (S.remaining input.old) (S.remaining input.new) (W.contents writer.old)
         (W.contents writer.new))) }
 {
@@ -218,14 +219,14 @@ fn run_turns<S: Read, W: Write>(
 ) -> Result<Status, SessionError>
     requires sound { IsSound ⟦<dyn Driver as Driver>⟧ engine.old }
     ensures sound { IsSound ⟦<dyn Driver as Driver>⟧ engine.new }
-    ensures registrations { registrations engine.new ≡ registrations engine.old }
+    ensures within { IsWithin (registrations engine.new) (registrations engine.old) }
     ensures order { kinds_of (drivers_in engine.new) ≡ kinds_of (drivers_in engine.old) }
     ensures done { IfOk result (λ status. Comes ⟦<dyn Driver as Driver>⟧ engine.old engine.new
-        (Converses (registrations engine.old) (world_in ⟦<dyn Driver as Driver>⟧ engine.old)
+        (Converses (list_in engine.old) (world_in ⟦<dyn Driver as Driver>⟧ engine.old)
         budget done_line (S.remaining input.old) (S.remaining input.new)
         (W.contents writer.old) (W.contents writer.new) status)) }
     ensures cut { OnErr result (Comes ⟦<dyn Driver as Driver>⟧ engine.old engine.new
-        (IsCutShort (registrations engine.old) (world_in ⟦<dyn Driver as Driver>⟧ engine.old)
+        (IsCutShort (list_in engine.old) (world_in ⟦<dyn Driver as Driver>⟧ engine.old)
         budget done_line (S.remaining input.old) (S.remaining input.new)
         (W.contents writer.old) (W.contents writer.new))) }
 {
@@ -250,11 +251,11 @@ fn run_engine<S: Read, W: Write>(
     ensures done { IfOk result.0 (TalksOver ⟦<dyn Driver as Driver>⟧ (members drivers)
         result.1.items budget (S.remaining input.old) (S.remaining input.new)
         (W.contents writer.old) (W.contents writer.new)
-        (start_by profile.registry.entries profile.limits)) }
+        (start_by (list_begun profile.registry) profile.limits)) }
     ensures cut { OnErr result.0 (StopsOver ⟦<dyn Driver as Driver>⟧ (members drivers)
         result.1.items budget (S.remaining input.old) (S.remaining input.new)
         (W.contents writer.old) (W.contents writer.new)
-        (start_by profile.registry.entries profile.limits)) }
+        (start_by (list_begun profile.registry) profile.limits)) }
 {
     match limited_engine(alloc, profile, drivers) {
         Ok(mut engine) => {
@@ -292,11 +293,11 @@ fn run_drivers<S: Read, W: Write>(
     ensures done { IfOk result.0 (TalksOver ⟦<dyn Driver as Driver>⟧ drivers.items
         result.1.items budget (S.remaining input.old) (S.remaining input.new)
         (W.contents writer.old) (W.contents writer.new)
-        (start_by profile.registry.entries profile.limits)) }
+        (start_by (list_begun profile.registry) profile.limits)) }
     ensures cut { OnErr result.0 (StopsOver ⟦<dyn Driver as Driver>⟧ drivers.items
         result.1.items budget (S.remaining input.old) (S.remaining input.new)
         (W.contents writer.old) (W.contents writer.new)
-        (start_by profile.registry.entries profile.limits)) }
+        (start_by (list_begun profile.registry) profile.limits)) }
 {
     match Drivers::new(drivers) {
         Ok(drivers) => run_engine(alloc, input, writer, buffer, profile, drivers, budget),

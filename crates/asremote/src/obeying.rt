@@ -1,5 +1,6 @@
 //! Doing the lines of a conversation that no session has.
 ghost use Rattle.std.specs.Prelude.{◌≡◌, ℕ, List, IfOk, OnOk, OnErr};
+ghost use Rattle.ang_view.specs.Only.{IsWithin};
 ghost use Rattle.ang_engine.specs.Engines.{registrations, drivers_in};
 ghost use Rattle.ang_engine.specs.Sound.{IsSound};
 ghost use Rattle.ang_engine.specs.declared.prepared.Prepared.{Prepared};
@@ -30,7 +31,7 @@ fn set_limit<W: Write>(
 ) -> Result<bool, SessionError>
     requires sound { IsSound ⟦<dyn Driver as Driver>⟧ engine.old }
     ensures sound { IsSound ⟦<dyn Driver as Driver>⟧ engine.new }
-    ensures registrations { registrations engine.new ≡ registrations engine.old }
+    ensures within { IsWithin (registrations engine.new) (registrations engine.old) }
     ensures order { kinds_of (drivers_in engine.new) ≡ kinds_of (drivers_in engine.old) }
     ensures obeyed { (ps : List Prepared) (ticks : ℕ) → IfOk result
         (λ ok. Obeys ⟦<dyn Driver as Driver>⟧ engine.old engine.new ps ps (W.contents writer.old)
@@ -99,7 +100,7 @@ fn check<W: Write>(
 ) -> Result<bool, SessionError>
     requires sound { IsSound ⟦<dyn Driver as Driver>⟧ engine.old }
     ensures sound { IsSound ⟦<dyn Driver as Driver>⟧ engine.new }
-    ensures registrations { registrations engine.new ≡ registrations engine.old }
+    ensures within { IsWithin (registrations engine.new) (registrations engine.old) }
     ensures order { kinds_of (drivers_in engine.new) ≡ kinds_of (drivers_in engine.old) }
     ensures obeyed { (ps : List Prepared) (ticks : ℕ) → IfOk result
         (λ ok. Obeys ⟦<dyn Driver as Driver>⟧ engine.old engine.new ps ps (W.contents writer.old)
@@ -149,7 +150,7 @@ fn obey_lent<W: Write>(
 ) -> Result<bool, SessionError>
     requires sound { IsSound ⟦<dyn Driver as Driver>⟧ engine.old }
     ensures sound { IsSound ⟦<dyn Driver as Driver>⟧ engine.new }
-    ensures registrations { registrations engine.new ≡ registrations engine.old }
+    ensures within { IsWithin (registrations engine.new) (registrations engine.old) }
     ensures order { kinds_of (drivers_in engine.new) ≡ kinds_of (drivers_in engine.old) }
     ensures obeyed { IfOk result (λ ok. Obeys ⟦<dyn Driver as Driver>⟧ engine.old engine.new
         prepared.old.items prepared.new.items (W.contents writer.old) (W.contents writer.new) ticks
@@ -199,7 +200,7 @@ pub fn obey<W: Write>(
 ) -> Result<bool, SessionError>
     requires sound { IsSound ⟦<dyn Driver as Driver>⟧ engine.old }
     ensures sound { IsSound ⟦<dyn Driver as Driver>⟧ engine.new }
-    ensures registrations { registrations engine.new ≡ registrations engine.old }
+    ensures within { IsWithin (registrations engine.new) (registrations engine.old) }
     ensures order { kinds_of (drivers_in engine.new) ≡ kinds_of (drivers_in engine.old) }
     ensures obeyed { IfOk result (λ ok. Obeys ⟦<dyn Driver as Driver>⟧ engine.old engine.new
         prepared.old.items prepared.new.items (W.contents writer.old) (W.contents writer.new) ticks

@@ -39,6 +39,8 @@ fn push_posted(posted: &mut Vec<PostedFunction>, line: &[u8]) -> Result<(), Allo
         | ProfileLine::Global { .. }
         | ProfileLine::Enumeration { .. }
         | ProfileLine::EnumValue { .. }
+        | ProfileLine::Group { .. }
+        | ProfileLine::EndGroup
         | ProfileLine::Blank => Ok(()),
     }
 }

@@ -1,5 +1,6 @@
 //! Functions that were looked up once, and are called by the number that this gave.
 ghost use Rattle.std.specs.Prelude.{◌≡◌, ◌++◌, ◌∷◌, [], ℕ, IfOk, IfErr, OnOk, OnErr, length, slice_get};
+ghost use Rattle.ang_view.specs.Only.{IsWithin};
 ghost use Rattle.ang_engine.specs.Engines.{registrations, drivers_in};
 ghost use Rattle.ang_engine.specs.Sound.{IsSound};
 ghost use Rattle.ang_engine_modules.specs.declared.reply.Refusal.TheVariants.{Memory};
@@ -110,7 +111,7 @@ pub fn run_prepared<W: Write>(
 ) -> Result<bool, SessionError>
     requires sound { IsSound ⟦<dyn Driver as Driver>⟧ engine.old }
     ensures sound { IsSound ⟦<dyn Driver as Driver>⟧ engine.new }
-    ensures registrations { registrations engine.new ≡ registrations engine.old }
+    ensures within { IsWithin (registrations engine.new) (registrations engine.old) }
     ensures order { kinds_of (drivers_in engine.new) ≡ kinds_of (drivers_in engine.old) }
     ensures obeyed { IfOk result (λ ok. Obeys ⟦<dyn Driver as Driver>⟧ engine.old engine.new
         prepared.now.items prepared.now.items (W.contents writer.old) (W.contents writer.new) ticks

@@ -1,6 +1,7 @@
 //! Doing a command of a conversation.
 ghost use Rattle.std.specs.Prelude.{◌≡◌, ◌+◌, ℕ, false, List, None, IfOk, OnOk, OnErr};
 ghost use Rattle.std.specs.Io.KnownBytes.{Appends};
+ghost use Rattle.ang_view.specs.Only.{IsWithin};
 ghost use Rattle.ang_engine.specs.Engines.{registrations, drivers_in};
 ghost use Rattle.ang_engine.specs.Sound.{IsSound};
 ghost use Rattle.ang_engine.specs.declared.prepared.Prepared.{Prepared};
@@ -88,7 +89,7 @@ fn take_act<W: Write>(
     requires told { is_skipped line.now ≡ false }
     requires not_own { own_line_of line.now ≡ None }
     ensures sound { IsSound ⟦<dyn Driver as Driver>⟧ engine.new }
-    ensures registrations { registrations engine.new ≡ registrations engine.old }
+    ensures within { IsWithin (registrations engine.new) (registrations engine.old) }
     ensures order { kinds_of (drivers_in engine.new) ≡ kinds_of (drivers_in engine.old) }
     ensures turned { IfOk result
         (λ t. (ps : List Prepared) (whole : List ℕ) → line.now ≡ shown_of whole
@@ -127,7 +128,7 @@ pub fn take_turn<W: Write>(
 ) -> Result<Turn, SessionError>
     requires sound { IsSound ⟦<dyn Driver as Driver>⟧ engine.old }
     ensures sound { IsSound ⟦<dyn Driver as Driver>⟧ engine.new }
-    ensures registrations { registrations engine.new ≡ registrations engine.old }
+    ensures within { IsWithin (registrations engine.new) (registrations engine.old) }
     ensures order { kinds_of (drivers_in engine.new) ≡ kinds_of (drivers_in engine.old) }
     ensures turned { IfOk result (TakesTurn ⟦<dyn Driver as Driver>⟧ engine.old engine.new
         prepared.old.items prepared.new.items (W.contents writer.old) (W.contents writer.new)
@@ -193,7 +194,7 @@ pub fn one_turn<W: Write>(
 ) -> Result<Option<At>, SessionError>
     requires sound { IsSound ⟦<dyn Driver as Driver>⟧ engine.old }
     ensures sound { IsSound ⟦<dyn Driver as Driver>⟧ engine.new }
-    ensures registrations { registrations engine.new ≡ registrations engine.old }
+    ensures within { IsWithin (registrations engine.new) (registrations engine.old) }
     ensures order { kinds_of (drivers_in engine.new) ≡ kinds_of (drivers_in engine.old) }
     ensures turned { IfOk result (TakesOne ⟦<dyn Driver as Driver>⟧ engine.old engine.new
         prepared.old.items prepared.new.items (W.contents writer.old) (W.contents writer.new)

@@ -9,7 +9,7 @@ use Rattle.std.proofs.lemmas.List.{take-append-drop}
 use Rattle.std.proofs.lemmas.Slice.Eq.{bytes_eq-Decides}
 use Rattle.asrun_lines.specs.Fields.{field_of, last_field_of, rest_of, decimal_of, number_of, mask_of, is_space}
 use Rattle.asrun_lines.specs.Values.{arguments_of}
-use Rattle.asrun_lines.specs.SessionLines.{module_of, masked_of, section_of, build_of, bind_of, unbind_of, call_of, discard_of, budget_of, session_line_of, begins_section, is_header_at, is_header}
+use Rattle.asrun_lines.specs.SessionLines.{module_of, masked_of, section_of, build_of, bind_of, unbind_of, call_of, discard_of, remove_of, budget_of, session_line_of, begins_section, is_header_at, is_header}
 use Rattle.asrun_lines.specs.declared.session_lines.SessionLine.{SessionLine}
 use Rattle.asrun_lines.specs.declared.session_lines.SessionLine.TheVariants as line
 
@@ -23,6 +23,7 @@ may_head (Some (line.Build name)) = false
 may_head (Some (line.Bind name index exporter decl)) = false
 may_head (Some (line.Unbind name index)) = false
 may_head (Some (line.Discard name)) = false
+may_head (Some (line.Remove name)) = false
 may_head (Some (line.Call name args decl)) = false
 may_head (Some (line.Budget ticks)) = false
 
@@ -62,6 +63,10 @@ discard_no : (t : List ℕ) → may_head (discard_of t) ≡ false
 unfolding discard_of
 discard_no t = then_no (last_field_of t) _ (λ name. refl)
 
+remove_no : (t : List ℕ) → may_head (remove_of t) ≡ false
+unfolding remove_of
+remove_no t = then_no (last_field_of t) _ (λ name. refl)
+
 budget_no : (t : List ℕ) → may_head (budget_of t) ≡ false
 unfolding budget_of
 budget_no t = elim (decimal_of 10 t) as (λ o. may_head (option_map line.Budget o) ≡ false) [ None ↦ refl | Some n ↦ refl ]
@@ -83,7 +88,8 @@ word_no : (w t : List ℕ) → bytes_eq w (codes "section") ≡ false
     else (if bytes_eq w (codes "unbind") then unbind_of t
     else (if bytes_eq w (codes "call") then call_of t
     else (if bytes_eq w (codes "discard") then discard_of t
-    else (if bytes_eq w (codes "budget") then budget_of t else None))))))))) ≡ false
+    else (if bytes_eq w (codes "remove") then remove_of t
+    else (if bytes_eq w (codes "budget") then budget_of t else None)))))))))) ≡ false
 word_no w t e =
     either_no (bytes_eq w (codes "module")) _ _ (module_no t)
     (either_no (bytes_eq w (codes "mask")) _ _ (masked_no t)
@@ -93,7 +99,8 @@ word_no w t e =
     (either_no (bytes_eq w (codes "unbind")) _ _ (unbind_no t)
     (either_no (bytes_eq w (codes "call")) _ _ (call_no t)
     (either_no (bytes_eq w (codes "discard")) _ _ (discard_no t)
-    (either_no (bytes_eq w (codes "budget")) _ _ (budget_no t) refl))))))))
+    (either_no (bytes_eq w (codes "remove")) _ _ (remove_no t)
+    (either_no (bytes_eq w (codes "budget")) _ _ (budget_no t) refl)))))))))
 
 -- `section`, and what follows it
 letter_first : (rest : List ℕ) → position is_ascii_alphabetic (codes "section" ++ rest) ≡ Some 0
@@ -151,7 +158,8 @@ field_no : (text : List ℕ) → is_header text ≡ false → (o : Option (List 
     else (if bytes_eq word.0 (codes "unbind") then unbind_of word.1
     else (if bytes_eq word.0 (codes "call") then call_of word.1
     else (if bytes_eq word.0 (codes "discard") then discard_of word.1
-    else (if bytes_eq word.0 (codes "budget") then budget_of word.1 else None))))))))) o) ≡ false
+    else (if bytes_eq word.0 (codes "remove") then remove_of word.1
+    else (if bytes_eq word.0 (codes "budget") then budget_of word.1 else None)))))))))) o) ≡ false
 field_no text e None is = refl
 field_no text e (Some x) is = word_no x.0 x.1 (by_word text x.0 x.1 e (field_front text x is))
 

@@ -23,6 +23,8 @@ pub data Entry : Type 0 where
   Global : ℕ → ℕ → List ℕ → Entry
   Enumeration : List ℕ → Entry
   EnumValue : List ℕ → List ℕ → ℤ → Entry
+  Group : List ℕ → Entry
+  EndGroup : Entry
   Blank : Entry
 
 abbrev pub entry : ProfileLine → Entry
@@ -37,6 +39,8 @@ entry (line.Posted driver f decl) = Posted driver f decl.now
 entry (line.Global driver f decl) = Global driver f decl.now
 entry (line.Enumeration name) = Enumeration name.now
 entry (line.EnumValue enumeration name value) = EnumValue enumeration.now name.now value
+entry (line.Group name) = Group name.now
+entry line.EndGroup = EndGroup
 entry line.Blank = Blank
 
 -- `NAME DRIVER`, after the word `type`
@@ -77,6 +81,10 @@ enum_value_of text = do
   value ← signed_of name.1
   Some (EnumValue enumeration.0 name.0 value)
 
+-- `NAME`, after the word `group`
+unfoldable pub group_of : List ℕ → Option Entry
+group_of text = option_map Group (last_field_of text)
+
 -- what a line says after its first word
 unfoldable pub entry_behind : List ℕ → List ℕ → Option Entry
 entry_behind word text =
@@ -97,12 +105,14 @@ entry_behind word text =
     then option_map (λ o. Global o.0 o.1 o.2) (own_of text)
     else (if bytes_eq word (codes "enum") then enumeration_of text
     else (if bytes_eq word (codes "value") then enum_value_of text
-    else None))))))))))
+    else (if bytes_eq word (codes "group") then group_of text
+    else None)))))))))))
 
--- one of these lines, or `blank` alone
+-- one of these lines, or `blank` or `endgroup` alone
 unfoldable pub entry_of : List ℕ → Option Entry
 entry_of text =
     if bytes_eq text (codes "blank") then Some Blank
+    else (if bytes_eq text (codes "endgroup") then Some EndGroup
     else (do
       word ← field_of text
-      entry_behind word.0 word.1)
+      entry_behind word.0 word.1))

@@ -66,6 +66,12 @@ discard_of text = do
   name ← last_field_of text
   Some (line.Discard name)
 
+-- `remove NAME`
+unfoldable pub remove_of : List ℕ → Option SessionLine
+remove_of text = do
+  name ← last_field_of text
+  Some (line.Remove name)
+
 -- `call NAME (V,V) DECL`
 unfoldable pub call_of : List ℕ → Option SessionLine
 call_of text = do
@@ -91,7 +97,8 @@ session_line_of text = do
       else (if bytes_eq word.0 (codes "unbind") then unbind_of word.1
       else (if bytes_eq word.0 (codes "call") then call_of word.1
       else (if bytes_eq word.0 (codes "discard") then discard_of word.1
-      else (if bytes_eq word.0 (codes "budget") then budget_of word.1 else None))))))))
+      else (if bytes_eq word.0 (codes "remove") then remove_of word.1
+      else (if bytes_eq word.0 (codes "budget") then budget_of word.1 else None)))))))))
 
 -- a text begins with `section`, in either case
 unfoldable pub begins_section : List ℕ → Bool

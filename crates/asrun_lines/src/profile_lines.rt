@@ -1,6 +1,6 @@
 //! The lines of a profile.
 ghost use Rattle.std.specs.Prelude.{◌≡◌, option_map};
-ghost use Rattle.asrun_lines.specs.ProfileLines.{entry, type_of, member_of, own_of, enumeration_of, enum_value_of, entry_behind, entry_of};
+ghost use Rattle.asrun_lines.specs.ProfileLines.{entry, type_of, member_of, own_of, enumeration_of, enum_value_of, group_of, entry_behind, entry_of};
 
 use crate::fields::{field, last_field, mask, number, rest, signed};
 use crate::limits::{LimitLine, limit};
@@ -88,6 +88,13 @@ pub enum ProfileLine<'a> {
         /// Its number.
         value: i32,
     },
+    /// `group NAME`: what follows belongs to the group.
+    Group {
+        /// The group's name.
+        name: &'a [u8],
+    },
+    /// `endgroup`: the group ends.
+    EndGroup,
     /// `blank`: a number without an entry.
     Blank,
 }
@@ -148,6 +155,14 @@ fn enum_value_line(text: &[u8]) -> Option<ProfileLine<'_>>
     })
 }
 
+#[tactic(auto, unfolding(crate::specs::ProfileLines::group_of))]
+fn group_line(text: &[u8]) -> Option<ProfileLine<'_>>
+    ensures exact { option_map entry result ≡ group_of text.now }
+{
+    let name = last_field(text)?;
+    Some(ProfileLine::Group { name })
+}
+
 /// What a line spells after its first word.
 #[tactic(auto, unfolding(crate::specs::ProfileLines::entry_behind))]
 fn line_behind<'a>(word: &[u8], text: &'a [u8]) -> Option<ProfileLine<'a>>
@@ -194,6 +209,9 @@ fn line_behind<'a>(word: &[u8], text: &'a [u8]) -> Option<ProfileLine<'a>>
     if word == b"value".as_slice() {
         return enum_value_line(text);
     }
+    if word == b"group".as_slice() {
+        return group_line(text);
+    }
     None
 }
 
@@ -204,6 +222,9 @@ pub fn profile_line(line: &[u8]) -> Option<ProfileLine<'_>>
 {
     if line == b"blank".as_slice() {
         return Some(ProfileLine::Blank);
+    }
+    if line == b"endgroup".as_slice() {
+        return Some(ProfileLine::EndGroup);
     }
     let (word, text) = field(line)?;
     line_behind(word, text)

@@ -2,7 +2,7 @@
 ghost use Rattle.std.specs.Prelude.{◌≡◌, ◌<◌, IfOk, IfSome, codes, length, position};
 ghost use Rattle.std.specs.Char.{is_ascii_alphabetic};
 ghost use Rattle.std.specs.Str.{str_eq_ignore_ascii_case};
-ghost use Rattle.asrun_lines.specs.SessionLines.{Reads, module_of, masked_of, section_of, build_of, bind_of, unbind_of, call_of, discard_of, budget_of, session_line_of, begins_section, is_header};
+ghost use Rattle.asrun_lines.specs.SessionLines.{Reads, module_of, masked_of, section_of, build_of, bind_of, unbind_of, call_of, discard_of, remove_of, budget_of, session_line_of, begins_section, is_header};
 
 use crate::fields::{decimal, field, last_field, mask, number, rest};
 use crate::values::arguments;
@@ -69,6 +69,11 @@ pub enum SessionLine {
     /// `discard NAME`: discards the module.
     Discard {
         /// The module.
+        name: List<u8>,
+    },
+    /// `remove NAME`: removes a group of entries.
+    Remove {
+        /// The group.
         name: List<u8>,
     },
     /// `budget N`: the ticks that each later command may take.
@@ -177,6 +182,15 @@ fn discard_line(alloc: Global, text: &[u8]) -> Result<SessionLine, LineError>
     Ok(SessionLine::Discard { name })
 }
 
+#[tactic(auto, unfolding(crate::specs::SessionLines::remove_of))]
+fn remove_line(alloc: Global, text: &[u8]) -> Result<SessionLine, LineError>
+    ensures exact { Reads result (remove_of text.now) }
+{
+    let name = last_field(text).ok_or(LineError::BadLine)?;
+    let name = copied(alloc, name)?;
+    Ok(SessionLine::Remove { name })
+}
+
 #[tactic(auto, unfolding(crate::specs::SessionLines::call_of))]
 fn call_line(alloc: Global, text: &[u8]) -> Result<SessionLine, LineError>
     ensures exact { Reads result (call_of text.now) }
@@ -229,6 +243,9 @@ pub fn session_line(alloc: Global, line: &[u8]) -> Result<SessionLine, LineError
     }
     if word == b"discard".as_slice() {
         return discard_line(alloc, text);
+    }
+    if word == b"remove".as_slice() {
+        return remove_line(alloc, text);
     }
     if word == b"budget".as_slice() {
         return budget_line(text);

@@ -3,6 +3,7 @@ pub mod Appending
 pub mod Doing
 pub mod Held
 pub mod LastEnds
+pub mod Lists
 pub mod Loading
 pub mod ReadBytes
 pub mod Taking

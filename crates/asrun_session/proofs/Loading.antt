@@ -3,15 +3,17 @@ use Rattle.std.proofs.Common.{◌≡◌, ◌≢◌, ℕ, ◌+◌, List, [], ◌�
 use Rattle.std.specs.Prelude.{Bool, OnOk, IfOk, IfErr, if◌then◌else◌}
 use Rattle.ang_view.specs.Registration.{entry_at}
 use Rattle.ang_kinds.specs.declared.mask.EntityNo.{EntityNo}
+use Rattle.ang_registry.specs.declared.error.GroupError.{GroupError}
+use Rattle.ang_registry.specs.declared.error.GroupError.TheVariants.{Memory as NoGroupMemory}
 use Rattle.ang_registry.specs.declared.error.RegError.{RegError}
 use Rattle.ang_registry.specs.declared.error.RegError.TheVariants.{Memory as NoMemory}
 use Rattle.ang_registry.specs.Registrations.{Registrations}
 use Rattle.ang_heap.specs.declared.limits.Limits.{Limits}
 use Rattle.asrun_lines.specs.Lines.{shown_of}
 use Rattle.asrun_session.specs.Limits.{limits_of, line_limits}
-use Rattle.asrun_session.specs.Profile.{loaded, line_entered, Loads, registered, posted, gives_none, IsJudged, IsJudgedPosted}
+use Rattle.asrun_session.specs.Profile.{loaded, line_entered, Loads, registered, grouped, posted, gives_none, IsGroupJudged, IsJudged, IsJudgedPosted}
 use Rattle.asrun_session.specs.declared.profile.ProfileFault.{ProfileFault}
-use Rattle.asrun_session.specs.declared.profile.ProfileFault.TheVariants.{Refused, NotVoid}
+use Rattle.asrun_session.specs.declared.profile.ProfileFault.TheVariants.{Refused, GroupRefused, NotVoid}
 use Rattle.asrun_session.specs.declared.profile.ProfileStop.{ProfileStop}
 use Rattle.asrun_session.specs.declared.profile.ProfileStop.TheVariants as stop
 
@@ -56,6 +58,24 @@ loads_judged (Err (stop.Fault fault)) n (Err was) refusal after now (why, e, oth
     let same : was ≡ why = cc in
     ap (λ o. registered n o after) (first (subst (λ w. w ≢ NoMemory) (sym same) other)) ∙ ap Err (ap (λ w. Refused n w) same ∙ sym is)
 loads_judged (Err stop.Memory) n answer refusal after now j none added first = tt
+
+-- what the registry answered where a group is begun
+pub loads_grouped : {U : Type 0} (r : Result U ProfileStop) (n : ℕ) (answer : Result (Unit {0}) GroupError) (refusal : Option GroupError) (after now : Registrations)
+    → IsGroupJudged r n answer → OnOk answer (refusal ≡ None) → OnOk answer (now ≡ after) → IfErr answer (λ why. why ≢ NoGroupMemory → refusal ≡ Some why)
+    → Loads r now (grouped n refusal after)
+loads_grouped (Ok u) n (Ok x) refusal after now j none added first = ap (λ o. grouped n o after) none ∙ ap Ok (sym added)
+loads_grouped (Ok u) n (Err why) refusal after now j none added first = let differ : false ≡ true = j in cc
+loads_grouped (Err (stop.Fault fault)) n (Ok x) refusal after now (why, e, other, is) none added first = absurd (cc)
+loads_grouped (Err (stop.Fault fault)) n (Err was) refusal after now (why, e, other, is) none added first =
+    let same : was ≡ why = cc in
+    ap (λ o. grouped n o after) (first (subst (λ w. w ≢ NoGroupMemory) (sym same) other)) ∙ ap Err (ap (λ w. GroupRefused n w) same ∙ sym is)
+loads_grouped (Err stop.Memory) n answer refusal after now j none added first = tt
+
+-- and where one is ended, which wants no memory
+pub loads_ended : {U : Type 0} (r : Result U ProfileStop) (n : ℕ) (answer : Result (Unit {0}) GroupError) (refusal : Option GroupError) (after now : Registrations)
+    → IsGroupJudged r n answer → OnOk answer (refusal ≡ None) → OnOk answer (now ≡ after) → IfErr answer (λ why. refusal ≡ Some why) → Loads r now (grouped n refusal after)
+loads_ended r n (Ok x) refusal after now j none ended first = loads_grouped r n (Ok x) refusal after now j none ended tt
+loads_ended r n (Err why) refusal after now j none ended first = loads_grouped r n (Err why) refusal after now j tt tt (λ other. first)
 
 -- the same of a function that is posted
 loads_chosen : (b : Bool) (r : Result (Unit {0}) ProfileStop) (n : ℕ) (now : Registrations)

@@ -10,9 +10,11 @@ use Rattle.ang_host.specs.Members.{states_of}
 use Rattle.ang_host.specs.declared.event.HostEvent.{HostEvent}
 use Rattle.ang_host.proofs.Events.{AllFollow-join}
 use Rattle.ang_meaning.specs.Counting.{counts_by}
+use Rattle.ang_view.specs.Groups.{Grouped}
 use Rattle.ang_view.specs.Registration.{RegistrationList}
 use Rattle.ang_engine.specs.Roles.{roles_of}
 use Rattle.ang_engine.specs.Sound.{HaveDrivers}
+use Rattle.ang_engine.proofs.Roles.{own_roles}
 use Rattle.ang_engine_modules.specs.World.{World, engine_ended}
 use Rattle.asrun_session.specs.Deeds.{IsDone, IsCut}
 use Rattle.asrun_session.specs.Drivers.{AreListed, AreBack, ByEvents, WasDiscarded, DidNothing, EngineRefusal, IsRefused, AreRefused, NoDriver, engine_text}
@@ -30,33 +32,33 @@ use Rattle.asrun_session.proofs.LastEnds.{last_ends}
 
 -- ---- the text of a session, over an engine that has the world w
 
-module _ {V : Type 0} {P : V → Type 0} (m : Meanings P) (R : RegistrationList) (w : World) where
+module _ {V : Type 0} {P : V → Type 0} (m : Meanings P) (R : Grouped) (w : World) where
   -- it could not be read
   pub stops_unread : (xs : List (DynBox V Global P)) (o text : Option (List ℕ)) (budget : ℕ)
-      → IfSome text (λ s. ByEvents m R xs (λ es. StopsSession R w s budget o o es w) xs)
+      → IfSome text (λ s. ByEvents m R.entries xs (λ es. StopsSession R w s budget o o es w) xs)
   stops_unread xs o None budget = tt
   stops_unread xs o (Some s) budget =
-      ([], inr (cut_nothing R w (session_from 1 budget 0 (lines_of s)) o), follow_nothing m R xs)
+      ([], inr (cut_nothing R w (session_from 1 budget 0 (lines_of s)) o), λ roles fit. follow_nothing m roles xs)
 
   -- it was too long
   pub runs_long : (xs : List (DynBox V Global P)) (old new text : Option (List ℕ)) (budget : ℕ)
       → IfSome text (λ s. most_session < length s) → Appends old new long_session_text
-      → IfSome text (λ s. ByEvents m R xs (λ es. RunsSession R w s budget old new BadInput es w) xs)
+      → IfSome text (λ s. ByEvents m R.entries xs (λ es. RunsSession R w s budget old new BadInput es w) xs)
   runs_long xs old new None budget long printed = tt
-  runs_long xs old new (Some s) budget long printed = ([], inl (long, printed, refl, (refl, refl)), follow_nothing m R xs)
+  runs_long xs old new (Some s) budget long printed = ([], inl (long, printed, refl, (refl, refl)), λ roles fit. follow_nothing m roles xs)
 
   -- the text that says so was cut short
   pub stops_long : (xs : List (DynBox V Global P)) (old new text : Option (List ℕ)) (budget : ℕ)
       → IfSome text (λ s. most_session < length s) → HasFront old new long_session_text
-      → IfSome text (λ s. ByEvents m R xs (λ es. StopsSession R w s budget old new es w) xs)
+      → IfSome text (λ s. ByEvents m R.entries xs (λ es. StopsSession R w s budget old new es w) xs)
   stops_long xs old new None budget long front = tt
-  stops_long xs old new (Some s) budget long front = ([], inl (long, front, (refl, refl)), follow_nothing m R xs)
+  stops_long xs old new (Some s) budget long front = ([], inl (long, front, (refl, refl)), λ roles fit. follow_nothing m roles xs)
 
   -- its lines were done
   pub runs_lines : (xs ys : List (DynBox V Global P)) (old new text : Option (List ℕ)) (bytes : List ℕ) (budget : ℕ) (ended : Result Status SessionError) (after : World)
       → IfSome text (λ s. (bytes ≡ s) × (length s ≤ most_session))
-      → IfOk ended (λ status. ByEvents m R xs (λ es. IsDone R w (session_from 1 budget 0 (lines_of bytes)) old new status es after) ys)
-      → IfOk ended (λ status. IfSome text (λ s. ByEvents m R xs (λ es. RunsSession R w s budget old new status es after) ys))
+      → IfOk ended (λ status. ByEvents m R.entries xs (λ es. IsDone R w (session_from 1 budget 0 (lines_of bytes)) old new status es after) ys)
+      → IfOk ended (λ status. IfSome text (λ s. ByEvents m R.entries xs (λ es. RunsSession R w s budget old new status es after) ys))
   runs_lines xs ys old new text bytes budget (Err stop) after is h = tt
   runs_lines xs ys old new None bytes budget (Ok status) after is h = tt
   runs_lines xs ys old new (Some s) bytes budget (Ok status) after is h =
@@ -67,8 +69,8 @@ module _ {V : Type 0} {P : V → Type 0} (m : Meanings P) (R : RegistrationList)
   -- some of them were
   pub stops_lines : (xs ys : List (DynBox V Global P)) (old new text : Option (List ℕ)) (bytes : List ℕ) (budget : ℕ) (ended : Result Status SessionError) (after : World)
       → IfSome text (λ s. (bytes ≡ s) × (length s ≤ most_session))
-      → OnErr ended (ByEvents m R xs (λ es. IsCut R w (session_from 1 budget 0 (lines_of bytes)) old new es after) ys)
-      → OnErr ended (IfSome text (λ s. ByEvents m R xs (λ es. StopsSession R w s budget old new es after) ys))
+      → OnErr ended (ByEvents m R.entries xs (λ es. IsCut R w (session_from 1 budget 0 (lines_of bytes)) old new es after) ys)
+      → OnErr ended (IfSome text (λ s. ByEvents m R.entries xs (λ es. StopsSession R w s budget old new es after) ys))
   stops_lines xs ys old new text bytes budget (Ok status) after is h = tt
   stops_lines xs ys old new None bytes budget (Err stop) after is h = tt
   stops_lines xs ys old new (Some s) bytes budget (Err stop) after is h =
@@ -79,7 +81,7 @@ module _ {V : Type 0} {P : V → Type 0} (m : Meanings P) (R : RegistrationList)
 -- ---- no engine took the drivers
 
 pub ends_refused : {V : Type 0} {P : V → Type 0} (m : Meanings P) (t : Start) (xs ys : List (DynBox V Global P)) (old new text : Option (List ℕ))
-    (budget : ℕ) (why : EngineRefusal) (ended : Result Status SessionError) → ys ≡ xs → IsRefused m t.entries xs why → OnOk ended (Appends old new (engine_text why))
+    (budget : ℕ) (why : EngineRefusal) (ended : Result Status SessionError) → ys ≡ xs → IsRefused m t.list.entries xs why → OnOk ended (Appends old new (engine_text why))
     → IfOk ended (λ status. status ≡ BadInput) → IfOk ended (λ status. IfSome text (λ s. Ends m xs ys old new (Ok t) s budget status))
 ends_refused m t xs ys old new text budget why (Err stop) back refused printed ending = tt
 ends_refused m t xs ys old new None budget why (Ok status) back refused printed ending = tt
@@ -87,7 +89,7 @@ ends_refused m t xs ys old new (Some s) budget why (Ok status) back refused prin
 
 -- the text that says why was cut short
 pub stops_refused : {V : Type 0} {P : V → Type 0} (m : Meanings P) (t : Start) (xs ys : List (DynBox V Global P)) (old new text : Option (List ℕ))
-    (budget : ℕ) (why : EngineRefusal) (ended : Result Status SessionError) → ys ≡ xs → IsRefused m t.entries xs why → OnErr ended (HasFront old new (engine_text why))
+    (budget : ℕ) (why : EngineRefusal) (ended : Result Status SessionError) → ys ≡ xs → IsRefused m t.list.entries xs why → OnErr ended (HasFront old new (engine_text why))
     → OnErr ended (IfSome text (λ s. Stops m xs ys old new (Ok t) s budget))
 stops_refused m t xs ys old new text budget why (Ok status) back refused front = tt
 stops_refused m t xs ys old new None budget why (Err stop) back refused front = tt
@@ -110,7 +112,7 @@ read_memory A ended is = rw is (λ e. absurd (memory_written e))
 
 module _ {V : Type 0} {P : V → Type 0} (m : Meanings P) (t : Start) (xs ys : List (DynBox V Global P)) (old new : Option (List ℕ)) (text : Option (List ℕ)) (budget : ℕ)
     (same : ys ≡ xs) where
-  pub refused_done : (ended : Result Status SessionError) → IsRefused m t.entries xs NoDriver → OnOk ended (Appends old new (engine_text NoDriver)) → IfOk ended (λ status. status ≡ BadInput)
+  pub refused_done : (ended : Result Status SessionError) → IsRefused m t.list.entries xs NoDriver → OnOk ended (Appends old new (engine_text NoDriver)) → IfOk ended (λ status. status ≡ BadInput)
       → IfOk ended (λ status. IfSome text (λ s. Ends m xs ys old new (Ok t) s budget status))
   refused_done (Err stop) refused printed is = tt
   refused_done (Ok status) refused printed is = some text
@@ -119,7 +121,7 @@ module _ {V : Type 0} {P : V → Type 0} (m : Meanings P) (t : Start) (xs ys : L
       some None = tt
       some (Some s) = inl (NoDriver, refused, printed, is, same)
 
-  pub refused_cut : (ended : Result Status SessionError) → IsRefused m t.entries xs NoDriver → OnErr ended (HasFront old new (engine_text NoDriver))
+  pub refused_cut : (ended : Result Status SessionError) → IsRefused m t.list.entries xs NoDriver → OnErr ended (HasFront old new (engine_text NoDriver))
       → OnErr ended (IfSome text (λ s. Stops m xs ys old new (Ok t) s budget))
   refused_cut (Ok status) refused printed = tt
   refused_cut (Err stop) refused printed = some text
@@ -141,27 +143,28 @@ module _ {V : Type 0} {P : V → Type 0} (m : Meanings P) (t : Start) (xs ys : L
 
 -- ---- an engine over the list R', which had the world begun, took the drivers, which it has as xs'; it was left with the world w and the drivers zs, and discarded
 
-module _ {V : Type 0} {P : V → Type 0} (m : Meanings P) (t : Start) (R' : RegistrationList) (xs xs' zs ys : List (DynBox V Global P)) (begun w : World)
-    (list : R' ≡ t.entries) (new_engine : begun ≡ world_at_start t) (same : xs' ≡ xs) (listed : AreListed m xs) (in_list : HaveDrivers R' (length xs'))
-    (hosts : w.hosts ≡ counts_by (states_of m zs)) (ends : DriversFollow m (roles_of t.entries) zs (engine_ended w).events ys) (back : AreBack m ys) where
+module _ {V : Type 0} {P : V → Type 0} (m : Meanings P) (t : Start) (R' : Grouped) (xs xs' zs ys : List (DynBox V Global P)) (begun w : World)
+    (list : R' ≡ t.list) (new_engine : begun ≡ world_at_start t) (same : xs' ≡ xs) (listed : AreListed m xs) (in_list : HaveDrivers R'.entries (length xs'))
+    (hosts : w.hosts ≡ counts_by (states_of m zs)) (ends : DriversFollow m (roles_of t.list.entries) zs (engine_ended w).events ys) (back : AreBack m ys) where
   -- what was done with it, by the events that the drivers followed meanwhile
-  pub discarded : (S : RegistrationList → World → List HostEvent → World → Type 0) → ByEvents m R' xs' (λ es. S R' begun es w) zs → WasDiscarded m t.entries xs ys (S t.entries (world_at_start t))
+  pub discarded : (S : Grouped → World → List HostEvent → World → Type 0) → ByEvents m R'.entries xs' (λ es. S R' begun es w) zs → WasDiscarded m t.list.entries xs ys (S t.list (world_at_start t))
   discarded S h =
-      let first : DriversFollow m (roles_of t.entries) xs h.0 zs =
-      subst (λ l. DriversFollow m (roles_of l) xs h.0 zs) list (subst (λ l. DriversFollow m (roles_of R') l h.0 zs) same h.2) in
+      let first : DriversFollow m (roles_of t.list.entries) xs h.0 zs =
+      subst (λ l. DriversFollow m (roles_of l.entries) xs h.0 zs) list
+      (subst (λ l. DriversFollow m (roles_of R'.entries) l h.0 zs) same (h.2 (roles_of R'.entries) (own_roles R'.entries))) in
       record {
-        taken = record { listed = listed; in_list = subst (λ l. HaveDrivers l (length xs)) list (subst (λ l. HaveDrivers R' (length l)) same in_list) };
+        taken = record { listed = listed; in_list = subst (λ l. HaveDrivers l.entries (length xs)) list (subst (λ l. HaveDrivers R'.entries (length l)) same in_list) };
         events = h.0;
         after = w;
-        did = subst (λ u. S t.entries u h.0 w) new_engine (subst (λ l. S l begun h.0 w) list h.1);
-        follow = AllFollow-join (λ b. state_in m b) (λ b. b.vtable) (λ v. (m v).meaning.fits) (roles_of t.entries) xs zs ys h.0 (engine_ended w).events first ends;
-        last = last_ends m t.entries xs zs ys h.0 w hosts listed.idle back.fresh first ends;
+        did = subst (λ u. S t.list u h.0 w) new_engine (subst (λ l. S l begun h.0 w) list h.1);
+        follow = AllFollow-join (λ b. state_in m b) (λ b. b.vtable) (λ v. (m v).meaning.fits) (roles_of t.list.entries) xs zs ys h.0 (engine_ended w).events first ends;
+        last = last_ends m t.list.entries xs zs ys h.0 w hosts listed.idle back.fresh first ends;
         back = back;
       }
 
   -- the session was done
   pub ends_taken : (old new text : Option (List ℕ)) (budget : ℕ) (ended : Result Status SessionError)
-      → IfOk ended (λ status. IfSome text (λ s. ByEvents m R' xs' (λ es. RunsSession R' begun s budget old new status es w) zs))
+      → IfOk ended (λ status. IfSome text (λ s. ByEvents m R'.entries xs' (λ es. RunsSession R' begun s budget old new status es w) zs))
       → IfOk ended (λ status. IfSome text (λ s. Ends m xs ys old new (Ok t) s budget status))
   ends_taken old new text budget (Err stop) h = tt
   ends_taken old new None budget (Ok status) h = tt
@@ -169,19 +172,19 @@ module _ {V : Type 0} {P : V → Type 0} (m : Meanings P) (t : Start) (R' : Regi
 
   -- it was cut short
   pub stops_taken : (old new text : Option (List ℕ)) (budget : ℕ) (ended : Result Status SessionError)
-      → OnErr ended (IfSome text (λ s. ByEvents m R' xs' (λ es. StopsSession R' begun s budget old new es w) zs))
+      → OnErr ended (IfSome text (λ s. ByEvents m R'.entries xs' (λ es. StopsSession R' begun s budget old new es w) zs))
       → OnErr ended (IfSome text (λ s. Stops m xs ys old new (Ok t) s budget))
   stops_taken old new text budget (Ok status) h = tt
   stops_taken old new None budget (Err stop) h = tt
   stops_taken old new (Some s) budget (Err stop) h = inr (inr (discarded (λ l u. StopsSession l u s budget old new) h))
 
   -- nothing was done with it
-  pub unused : w ≡ begun → zs ≡ xs' → WasDiscarded m t.entries xs ys (DidNothing (world_at_start t))
-  unused idle kept = discarded (λ l. DidNothing) ([], (refl, idle), subst (λ l. DriversFollow m (roles_of R') xs' [] l) (sym kept) (follow_nothing m R' xs'))
+  pub unused : w ≡ begun → zs ≡ xs' → WasDiscarded m t.list.entries xs ys (DidNothing (world_at_start t))
+  unused idle kept = discarded (λ l. DidNothing) ([], (refl, idle), λ roles fit. subst (λ l. DriversFollow m roles xs' [] l) (sym kept) (follow_nothing m roles xs'))
 
 -- the session could not be read
 pub unread_taken : {V : Type 0} {P : V → Type 0} (m : Meanings P) (t : Start) (xs ys : List (DynBox V Global P)) (old new : Option (List ℕ))
-    (A : Type 0) (ended : Result Status SessionError) → (A → WasDiscarded m t.entries xs ys (DidNothing (world_at_start t)))
+    (A : Type 0) (ended : Result Status SessionError) → (A → WasDiscarded m t.list.entries xs ys (DidNothing (world_at_start t)))
     → IfErr ended (λ e. e ≡ unread → new ≡ old) → IfErr ended (λ e. e ≡ unread → A) → IfErr ended (λ e. e ≡ unread → Unread m xs ys old new (Ok t))
 unread_taken m t xs ys old new A (Ok status) go h k = tt
 unread_taken m t xs ys old new A (Err stop) go h k = λ is. inr (h is, go (k is))

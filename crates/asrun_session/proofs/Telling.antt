@@ -6,7 +6,7 @@ use Rattle.std.specs.declared.alloc.Global.{Global}
 use Rattle.std.specs.declared.dyn_box.DynBox.{DynBox}
 use Rattle.ang_host.specs.Meanings.{Meanings}
 use Rattle.ang_host.specs.declared.event.HostEvent.{HostEvent}
-use Rattle.ang_view.specs.Registration.{RegistrationList}
+use Rattle.ang_view.specs.Groups.{Grouped}
 use Rattle.ang_engine_modules.specs.World.{World}
 use Rattle.asrun_session.specs.Deeds.{Deed, is_ok, status_of}
 use Rattle.asrun_session.specs.Reading.{unread}
@@ -27,7 +27,7 @@ no_memory : (bad : Option ℕ) (deeds : List Deed) → Memory ≡ status_of bad 
 no_memory None deeds e = no_status (list_all is_ok deeds) e
 no_memory (Some n) deeds e = cc
 
-unsaid : (R : RegistrationList) (begun : World) (s : List ℕ) (budget : ℕ) (old new : Option (List ℕ)) (es : List HostEvent) (w : World)
+unsaid : (R : Grouped) (begun : World) (s : List ℕ) (budget : ℕ) (old new : Option (List ℕ)) (es : List HostEvent) (w : World)
     → RunsSession R begun s budget old new Memory es w → ⊥
 unsaid R begun s budget old new es w (inl h) = let e : Memory ≡ BadInput = h.2 in cc
 unsaid R begun s budget old new es w (inr h) = no_memory _ h.1.deeds h.1.ending
@@ -35,7 +35,7 @@ unsaid R begun s budget old new es w (inr h) = no_memory _ h.1.deeds h.1.ending
 module _ {V : Type 0} {P : V → Type 0} (m : Meanings P) (xs ys : List (DynBox V Global P)) where
   never : (t : Start) (s : List ℕ) (budget : ℕ) (old new : Option (List ℕ)) → Ends m xs ys old new (Ok t) s budget Memory → ⊥
   never t s budget old new (inl h) = let e : Memory ≡ BadInput = h.3 in cc
-  never t s budget old new (inr gone) = unsaid t.entries (world_at_start t) s budget old new gone.events gone.after gone.did
+  never t s budget old new (inr gone) = unsaid t.list (world_at_start t) s budget old new gone.events gone.after gone.did
 
   ends : (t : Start) (s : List ℕ) (budget : ℕ) (old new : Option (List ℕ)) (status : Status)
       → Ends m xs ys old new (Ok t) s budget status → Tells m xs ys old new (Ok t) s budget (Ok status)

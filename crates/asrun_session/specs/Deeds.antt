@@ -7,14 +7,15 @@ use Rattle.std.specs.declared.dyn_box.DynBox.{DynBox}
 use Rattle.ang_host.specs.Events.{DriversFollow}
 use Rattle.ang_host.specs.Meanings.{Meanings}
 use Rattle.ang_host.specs.declared.event.HostEvent.{HostEvent}
-use Rattle.ang_view.specs.Registration.{RegistrationList}
-use Rattle.ang_engine.specs.Roles.{roles_of}
+use Rattle.ang_host.specs.declared.event.Role.{Role}
+use Rattle.ang_view.specs.Groups.{Grouped}
+use Rattle.ang_engine.specs.Roles.{AreRoles}
 use Rattle.ang_engine_modules.specs.declared.command.Command.{Command}
 use Rattle.ang_engine_modules.specs.declared.reply.Outcome.{Outcome}
 use Rattle.ang_engine_modules.specs.declared.reply.Outcome.TheVariants.{Done, Failed, Refused}
 use Rattle.ang_engine_modules.specs.declared.reply.Reply.{Reply}
 use Rattle.ang_engine.specs.Prepared.{HaveMoved, replaced}
-use Rattle.ang_engine.specs.Step.{Takes, Runs}
+use Rattle.ang_engine.specs.Step.{Takes, Runs, list_after}
 use Rattle.ang_engine_modules.specs.World.{World}
 use Rattle.asrun_session.specs.Session.{Session}
 use Rattle.asrun_text.specs.Text.{newline, reply_text}
@@ -81,10 +82,15 @@ abbrev pub status_of : Option ℕ → List Deed → Status
 status_of (Some n) deeds = BadInput
 status_of None deeds = if list_all is_ok deeds then AllOk else SomeRefused
 
--- one deed, over the engine's modules
-abbrev pub Does : RegistrationList → World → Deed → World → Type 0
+-- one deed, over the list and the engine's modules
+abbrev pub Does : Grouped → World → Deed → World → Type 0
 Does R w (Ran c r) after = Takes R w c r after
 Does R w (Set ticks) after = w ≡ after
+
+-- the list after it
+abbrev pub list_behind : Grouped → World → Deed → Grouped
+list_behind R w (Ran c r) = list_after R w c
+list_behind R w (Set ticks) = R
 
 -- What a deed does to the numbers of builds, of n builds that had begun before and k after it: a command
 -- ends what was looked up in the module that it replaces, and nothing else (`HaveMoved` of ang_engine).
@@ -94,7 +100,7 @@ MovesBuilds w (Set ticks) n before k after = (k ≡ n) × (after ≡ before)
 
 -- The session was done whole: its commands ran in their order, each with its reply, these are the
 -- events of all replies, and the text of all was printed.
-pub record IsDone (R : RegistrationList) (w : World) (session : Session) (old new : Option (List ℕ))
+pub record IsDone (R : Grouped) (w : World) (session : Session) (old new : Option (List ℕ))
     (status : Status) (es : List HostEvent) (after : World) : Type 0 where
   pub deeds : List Deed
   pub actions : session.actions ≡ map action_of deeds
@@ -114,7 +120,7 @@ told_behind (a ∷ left) bad_line = []
 
 -- The session was cut short: its first commands ran, these are the events of their replies, and a
 -- front of their text was printed, in which each reply but the last one stands whole.
-pub record IsCut (R : RegistrationList) (w : World) (session : Session) (old new : Option (List ℕ))
+pub record IsCut (R : Grouped) (w : World) (session : Session) (old new : Option (List ℕ))
     (es : List HostEvent) (after : World) : Type 0 where
   pub deeds : List Deed
   pub left : List Action
@@ -125,22 +131,24 @@ pub record IsCut (R : RegistrationList) (w : World) (session : Session) (old new
   pub whole : length (text_in (but_last deeds)) ≤ printed.count
 
 -- one action was done, the drivers followed its events, and its text was printed
-pub record IsPrinted {V : Type 0} {P : V → Type 0} (m : Meanings P) (R : RegistrationList)
+pub record IsPrinted {V : Type 0} {P : V → Type 0} (m : Meanings P) (R : Grouped)
     (w : World) (xs : List (DynBox V Global P)) (a : Action) (old new : Option (List ℕ)) (ok : Bool)
     (after : World) (ys : List (DynBox V Global P)) : Type 0 where
   pub deed : Deed
   pub action : action_of deed ≡ a
   pub does : Does R w deed after
-  pub follow : DriversFollow m (roles_of R) xs (deed_events deed) ys
+  pub follow : (roles : List Role) → AreRoles roles R.entries
+      → DriversFollow m roles xs (deed_events deed) ys
   pub printed : Appends old new (deed_text deed)
   pub ended : ok ≡ is_ok deed
 
 -- one action was done, the drivers followed its events, and a front of its text was printed
-pub record IsHalfPrinted {V : Type 0} {P : V → Type 0} (m : Meanings P) (R : RegistrationList)
+pub record IsHalfPrinted {V : Type 0} {P : V → Type 0} (m : Meanings P) (R : Grouped)
     (w : World) (xs : List (DynBox V Global P)) (a : Action) (old new : Option (List ℕ))
     (after : World) (ys : List (DynBox V Global P)) : Type 0 where
   pub deed : Deed
   pub action : action_of deed ≡ a
   pub does : Does R w deed after
-  pub follow : DriversFollow m (roles_of R) xs (deed_events deed) ys
+  pub follow : (roles : List Role) → AreRoles roles R.entries
+      → DriversFollow m roles xs (deed_events deed) ys
   pub front : HasFront old new (deed_text deed)

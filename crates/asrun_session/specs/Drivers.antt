@@ -10,8 +10,9 @@ use Rattle.ang_host.specs.Refusal.{IsRefusal}
 use Rattle.ang_host.specs.declared.drivers.DriversError.{DriversError}
 use Rattle.ang_host.specs.declared.drivers.DriversError.TheVariants.{TooMany, Busy}
 use Rattle.ang_host.specs.declared.event.HostEvent.{HostEvent}
+use Rattle.ang_host.specs.declared.event.Role.{Role}
 use Rattle.ang_view.specs.Registration.{RegistrationList}
-use Rattle.ang_engine.specs.Roles.{roles_of}
+use Rattle.ang_engine.specs.Roles.{AreRoles, roles_of}
 use Rattle.ang_engine.specs.Sound.{HaveDrivers}
 use Rattle.ang_engine_modules.specs.World.{World, engine_ended}
 use Rattle.asrun_session.specs.LastEnds.{AreLastEnds}
@@ -53,10 +54,13 @@ engine_text (NotListed TooMany) = codes "engine TooMany\n"
 engine_text (NotListed Busy) = codes "engine Busy\n"
 engine_text NoDriver = codes "engine NoDriver\n"
 
--- By some events, of which S is said, the drivers xs became ys.
+-- By some events, of which S is said, the drivers xs became ys, by any roles that fit the list R: those of
+-- a list that R comes from do, by entries that went.
 abbrev pub ByEvents : {V : Type 0} {P : V → Type 0} → Meanings P → RegistrationList
     → List (DynBox V Global P) → (List HostEvent → Type 0) → List (DynBox V Global P) → Type 0
-ByEvents m R xs S ys = (es : List HostEvent) × S es × DriversFollow m (roles_of R) xs es ys
+ByEvents m R xs S ys =
+    (es : List HostEvent) × S es
+    × ((roles : List Role) → AreRoles roles R → DriversFollow m roles xs es ys)
 
 -- They come back with nothing alive, so that another engine can take them.
 pub record AreBack {V : Type 0} {P : V → Type 0} (m : Meanings P)

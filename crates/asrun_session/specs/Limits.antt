@@ -3,7 +3,7 @@ use Rattle.std.specs.Prelude.{ℕ, List, [], ◌∷◌, Option, Some, None, if�
 use Rattle.ang_meaning.specs.World.{Bounds}
 use Rattle.ang_heap.specs.declared.limits.Limits.{Limits}
 use Rattle.asrun_lines.specs.Lines.{shown_of, is_skipped}
-use Rattle.asrun_lines.specs.ProfileLines.{Entry, DefaultMask, Limit, HostType, Factory, Method, Property, Function, Posted, Global, Enumeration, EnumValue, Blank, entry_of}
+use Rattle.asrun_lines.specs.ProfileLines.{Entry, DefaultMask, Limit, HostType, Factory, Method, Property, Function, Posted, Global, Enumeration, EnumValue, Group, EndGroup, Blank, entry_of}
 use Rattle.asrun_lines.specs.declared.limits.LimitKind.{LimitKind}
 use Rattle.asrun_lines.specs.declared.limits.LimitKind.TheVariants.{Events, Slots, Objects}
 use Rattle.asrun_lines.specs.declared.limits.LimitLine.{LimitLine}
@@ -40,6 +40,8 @@ entry_limits l (Some (Posted driver f decl)) = l
 entry_limits l (Some (Global driver f decl)) = l
 entry_limits l (Some (Enumeration name)) = l
 entry_limits l (Some (EnumValue enumeration name value)) = l
+entry_limits l (Some (Group name)) = l
+entry_limits l (Some EndGroup) = l
 entry_limits l (Some Blank) = l
 
 abbrev pub line_limits : Limits → List ℕ → Limits

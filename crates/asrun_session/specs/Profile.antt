@@ -1,6 +1,9 @@
 -- What a profile registers (docs/HOST.md, "The program").
 use Rattle.std.specs.Prelude.{◌≡◌, ◌≢◌, IsOk, ℕ, ◌+◌, Bool, true, false, List, [], ◌∷◌, length, Option, Some, None, Result, Ok, Err, if◌then◌else◌}
+use Rattle.ang_registry.specs.declared.error.GroupError.{GroupError}
+use Rattle.ang_registry.specs.declared.error.GroupError.TheVariants.{Memory as NoGroupMemory}
 use Rattle.ang_registry.specs.declared.error.RegError.{RegError}
+use Rattle.ang_registry.specs.Groups.{refusal_of_begin, with_opened, refusal_of_end, with_ended}
 use Rattle.ang_registry.specs.Registrations.{Registrations}
 use Rattle.ang_kinds.specs.declared.mask.EntityNo.{EntityNo}
 use Rattle.ang_kinds.specs.declared.types.TypeRef.{TypeRef}
@@ -11,9 +14,9 @@ use Rattle.ang_registry.specs.Declarations.{declared_type, declared_factory, dec
 use Rattle.ang_registry.specs.Refusals.{refusal_of_type, with_type, refusal_of_factory, with_factory, refusal_of_method, with_method, refusal_of_property, with_property, refusal_of_function, with_function, refusal_of_global, with_global, refusal_of_enumeration, with_enumeration, refusal_of_value, with_value, refusal_of_blank, with_blank}
 use Rattle.ang_registry.specs.declared.error.RegError.TheVariants.{Memory as NoMemory}
 use Rattle.asrun_lines.specs.Lines.{shown_of, is_skipped}
-use Rattle.asrun_lines.specs.ProfileLines.{Entry, DefaultMask, Limit, HostType, Factory, Method, Property, Function, Posted, Global, Enumeration, EnumValue, Blank, entry_of}
+use Rattle.asrun_lines.specs.ProfileLines.{Entry, DefaultMask, Limit, HostType, Factory, Method, Property, Function, Posted, Global, Enumeration, EnumValue, Group, EndGroup, Blank, entry_of}
 use Rattle.asrun_session.specs.declared.profile.ProfileFault.{ProfileFault}
-use Rattle.asrun_session.specs.declared.profile.ProfileFault.TheVariants.{BadLine, Refused, NotVoid}
+use Rattle.asrun_session.specs.declared.profile.ProfileFault.TheVariants.{BadLine, Refused, GroupRefused, NotVoid}
 use Rattle.asrun_session.specs.declared.profile.ProfileStop.{ProfileStop}
 use Rattle.asrun_session.specs.declared.profile.ProfileStop.TheVariants as stop
 
@@ -25,6 +28,11 @@ on_ok (Err e) f = Err e
 abbrev pub registered : ℕ → Option RegError → Registrations → Result Registrations ProfileFault
 registered n None after = Ok after
 registered n (Some why) after = Err (Refused n why)
+
+-- a group is begun or ended, or line n is refused
+abbrev pub grouped : ℕ → Option GroupError → Registrations → Result Registrations ProfileFault
+grouped n None after = Ok after
+grouped n (Some why) after = Err (GroupRefused n why)
 
 abbrev pub is_void : TypeRef → Bool
 is_void ref.Void = true
@@ -75,6 +83,8 @@ entered n r (Some (Enumeration name)) =
 entered n r (Some (EnumValue enumeration name value)) =
     registered n (refusal_of_value r enumeration value (declared_type name))
     (with_value r enumeration value (declared_type name))
+entered n r (Some (Group name)) = grouped n (refusal_of_begin r name) (with_opened r name)
+entered n r (Some EndGroup) = grouped n (refusal_of_end r) (with_ended r)
 entered n r (Some Blank) = registered n (refusal_of_blank r) (with_blank r)
 
 abbrev pub line_entered : ℕ → Registrations → List ℕ → Result Registrations ProfileFault
@@ -105,3 +115,10 @@ abbrev pub IsJudgedPosted :
 IsJudgedPosted r n list (Ok number) =
     r ≡ (if gives_none (entry_at list number.0) then Ok tt else Err (stop.Fault (NotVoid n)))
 IsJudgedPosted r n list (Err why) = IsJudged r n (Err why)
+
+-- The same of a group that is begun or ended.
+abbrev pub IsGroupJudged : {U : Type 0} → Result U ProfileStop → ℕ → Result (Unit {0}) GroupError → Type 0
+IsGroupJudged (Ok u) n answer = IsOk answer
+IsGroupJudged (Err (stop.Fault fault)) n answer =
+    (why : GroupError) × (answer ≡ Err why) × (why ≢ NoGroupMemory) × (fault ≡ GroupRefused n why)
+IsGroupJudged (Err stop.Memory) n answer = answer ≡ Err NoGroupMemory

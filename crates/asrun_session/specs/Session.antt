@@ -2,7 +2,7 @@
 use Rattle.std.specs.Prelude.{ℕ, zero, suc, ◌+◌, nat_le, List, [], ◌∷◌, length, take, Option, Some, None, option_and_then, if◌then◌else◌}
 use Rattle.std.specs.List.{concat}
 use Rattle.ang_engine_modules.specs.declared.command.Command.{Command}
-use Rattle.ang_engine_modules.specs.declared.command.Command.TheVariants.{NewModule, SetMask, AddSection, Build, Bind, Unbind, Call, Discard}
+use Rattle.ang_engine_modules.specs.declared.command.Command.TheVariants.{NewModule, SetMask, AddSection, Build, Bind, Unbind, Call, Discard, RemoveGroup}
 use Rattle.asrun_lines.specs.Lines.{shown_of, is_skipped}
 use Rattle.asrun_lines.specs.SessionLines.{session_line_of}
 use Rattle.asrun_session.specs.declared.action.Action.{Action}
@@ -40,6 +40,7 @@ act_of budget behind (line.Bind name index exporter decl) =
     command (Bind name index exporter decl)
 act_of budget behind (line.Unbind name index) = command (Unbind name index)
 act_of budget behind (line.Discard name) = command (Discard name)
+act_of budget behind (line.Remove name) = command (RemoveGroup name)
 act_of budget behind (line.Call name args decl) = command (Call name decl args budget)
 act_of budget behind (line.Budget ticks) = Some (record { action = action.Budget ticks; lines = 0 })
 

@@ -9,6 +9,8 @@ use Rattle.ang_host.specs.declared.event.HostEvent.{HostEvent}
 use Rattle.ang_registry.specs.declared.error.RegError.{RegError}
 use Rattle.ang_registry.specs.declared.error.RegError.TheVariants.{Limit, EmptyMask, BadDeclaration, UnknownType, WrongDriver, Duplicate, Memory as NoMemory}
 use Rattle.ang_registry.specs.Registrations.{Registrations}
+use Rattle.ang_registry.specs.Groups.{all_ended}
+use Rattle.ang_view.specs.Groups.{Grouped}
 use Rattle.ang_view.specs.Registration.{RegistrationList}
 use Rattle.ang_meaning.specs.World.{Bounds}
 use Rattle.ang_heap.specs.Stores.{bounds_of}
@@ -29,7 +31,9 @@ use Rattle.asrun_session.specs.declared.ending.Status.TheVariants.{AllOk, SomeRe
 use Rattle.asrun_session.specs.declared.ending.SessionError.{SessionError}
 use Rattle.asrun_session.specs.declared.ending.SessionError.TheVariants as stop
 use Rattle.asrun_session.specs.declared.profile.ProfileFault.{ProfileFault}
-use Rattle.asrun_session.specs.declared.profile.ProfileFault.TheVariants.{BadLine, Refused, NotVoid}
+use Rattle.asrun_session.specs.declared.profile.ProfileFault.TheVariants.{BadLine, Refused, GroupRefused, NotVoid}
+use Rattle.ang_registry.specs.declared.error.GroupError.{GroupError}
+use Rattle.ang_registry.specs.declared.error.GroupError.TheVariants as group
 
 -- the most bytes of a profile and of a session
 abbrev pub most_profile : ℕ
@@ -47,11 +51,22 @@ why_text WrongDriver = codes "WrongDriver"
 why_text Duplicate = codes "Duplicate"
 why_text NoMemory = codes "Memory"
 
+unfoldable pub group_why_text : GroupError → List ℕ
+group_why_text group.GroupOpen = codes "GroupOpen"
+group_why_text group.BadName = codes "BadName"
+group_why_text group.Duplicate = codes "Duplicate"
+group_why_text group.Limit = codes "Limit"
+group_why_text group.NoGroup = codes "NoGroup"
+group_why_text group.InUse = codes "InUse"
+group_why_text group.Memory = codes "Memory"
+
 -- `profile LINE BadLine`, `profile LINE NotVoid` or `profile LINE REFUSAL`
 unfoldable pub profile_fault_text : ProfileFault → List ℕ
 profile_fault_text (BadLine n) = codes "profile " ++ decimal n ++ codes " BadLine\n"
 profile_fault_text (Refused n why) =
     codes "profile " ++ decimal n ++ codes " " ++ why_text why ++ codes "\n"
+profile_fault_text (GroupRefused n why) =
+    codes "profile " ++ decimal n ++ codes " " ++ group_why_text why ++ codes "\n"
 profile_fault_text (NotVoid n) = codes "profile " ++ decimal n ++ codes " NotVoid\n"
 
 abbrev pub long_profile_text : List ℕ
@@ -60,27 +75,31 @@ long_profile_text = codes "profile 0 TooLong\n"
 abbrev pub long_session_text : List ℕ
 long_session_text = codes "line 0 TooLong\n"
 
--- What a profile gives a run: the registration list, and how much scripts may hold and a command may
--- list.
+-- What a profile gives a run: the registration list with its groups, and how much scripts may hold and a
+-- command may list.
 pub record Start : Type 0 where
-  pub entries : RegistrationList
+  pub list : Grouped
   pub bounds : Bounds
 
-abbrev pub start_by : RegistrationList → Limits → Start
-start_by R limits = record { entries = R; bounds = bounds_of limits }
+abbrev pub start_by : Grouped → Limits → Start
+start_by R limits = record { list = R; bounds = bounds_of limits }
 
 -- the world of an engine that begins so
 abbrev pub world_at_start : Start → World
 world_at_start s = bounded_by s.bounds no_modules
 
+-- the list over which an engine begins: a group that is open is ended
+abbrev pub list_begun : Registrations → Grouped
+list_begun r = record { entries = r.entries; groups = (all_ended r).groups }
+
 -- the text of a profile that isn't taken, or what it gives
 abbrev pub started_by : Result Registrations ProfileFault → Limits → Result Start (List ℕ)
-started_by (Ok r) limits = Ok (start_by r.entries limits)
+started_by (Ok r) limits = Ok (start_by (list_begun r) limits)
 started_by (Err fault) limits = Err (profile_fault_text fault)
 
--- A new registry has no entries, and bit 0 alone in its default mask.
+-- A new registry has no entries and no groups, and bit 0 alone in its default mask.
 abbrev pub fresh : Registrations
-fresh = record { default_mask = record { 0 = 1 }; entries = [] }
+fresh = record { default_mask = record { 0 = 1 }; entries = []; groups = []; is_open = false }
 
 -- what these lines register, and the limits that they set, after these
 abbrev pub start_by_lines : Registrations → Limits → List (List ℕ) → Result Start (List ℕ)
@@ -94,7 +113,7 @@ start_of profile =
 
 -- What a session does over the list R in the world w, with a writer that has the bytes old and then
 -- new: which events its replies list, and the world that it leaves.
-module _ (R : RegistrationList) (w : World) (session : List ℕ) (budget : ℕ)
+module _ (R : Grouped) (w : World) (session : List ℕ) (budget : ℕ)
     (old new : Option (List ℕ)) where
   -- It was read and done.
   abbrev pub RunsSession : Status → List HostEvent → World → Type 0
@@ -134,9 +153,9 @@ module _ {V : Type 0} {P : V → Type 0} (m : Meanings P) (xs ys : List (DynBox 
   abbrev pub Ends : Result Start (List ℕ) → List ℕ → ℕ → Status → Type 0
   Ends (Err text) session budget status = Appends old new text × (status ≡ BadInput) × (ys ≡ xs)
   Ends (Ok s) session budget status =
-      EngineRefused s.entries status
-      ⊎ WasDiscarded m s.entries xs ys
-      (RunsSession s.entries (world_at_start s) session budget old new status)
+      EngineRefused s.list.entries status
+      ⊎ WasDiscarded m s.list.entries xs ys
+      (RunsSession s.list (world_at_start s) session budget old new status)
 
   -- A run that was cut short: what it printed is a front. It may have been cut before there was an
   -- engine.
@@ -144,9 +163,9 @@ module _ {V : Type 0} {P : V → Type 0} (m : Meanings P) (xs ys : List (DynBox 
   Stops (Err text) session budget = HasFront old new text × (ys ≡ xs)
   Stops (Ok s) session budget =
       Untouched
-      ⊎ (EngineStops s.entries
-      ⊎ WasDiscarded m s.entries xs ys
-      (StopsSession s.entries (world_at_start s) session budget old new))
+      ⊎ (EngineStops s.list.entries
+      ⊎ WasDiscarded m s.list.entries xs ys
+      (StopsSession s.list (world_at_start s) session budget old new))
 
   -- A text that can't be read is found before anything is printed and any driver is asked. There
   -- may have been an engine.
@@ -154,7 +173,7 @@ module _ {V : Type 0} {P : V → Type 0} (m : Meanings P) (xs ys : List (DynBox 
   Unread (Err text) = Untouched
   Unread (Ok s) =
       Untouched
-      ⊎ ((new ≡ old) × WasDiscarded m s.entries xs ys (DidNothing (world_at_start s)))
+      ⊎ ((new ≡ old) × WasDiscarded m s.list.entries xs ys (DidNothing (world_at_start s)))
 
   -- What a run over these texts prints and asks, by its outcome.
   abbrev pub Tells : Result Start (List ℕ) → List ℕ → ℕ → Result Status IoFault → Type 0

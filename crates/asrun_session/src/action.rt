@@ -77,6 +77,7 @@ pub fn read_act<'a>(
         }),
         SessionLine::Unbind { name, index } => Action::Command(Command::Unbind { name, index }),
         SessionLine::Discard { name } => Action::Command(Command::Discard { name }),
+        SessionLine::Remove { name } => Action::Command(Command::RemoveGroup { name }),
         SessionLine::Call { name, args, decl } => Action::Command(Command::Call {
             name,
             decl,

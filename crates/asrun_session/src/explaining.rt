@@ -5,7 +5,7 @@ ghost use Rattle.asrun_session.specs.Profile.{loaded};
 ghost use Rattle.asrun_session.specs.Whole.{fresh};
 
 use crate::action::read_act;
-use crate::forms::{NO_RESULT, profile_form, registration_form, session_form};
+use crate::forms::{GROUPS, NO_RESULT, profile_form, registration_form, session_form};
 use crate::profile::{LoadedProfile, ProfileFault, ProfileStop, load};
 use crate::reading::{MOST_PROFILE, MOST_SESSION};
 use asrun_lines::{LineError, first_line, first_lines, is_skipped, shown};
@@ -33,6 +33,7 @@ fn line_of(fault: ProfileFault) -> u64 {
     match fault {
         ProfileFault::BadLine(number) => number,
         ProfileFault::Refused(number, _) => number,
+        ProfileFault::GroupRefused(number, _) => number,
         ProfileFault::NotVoid(number) => number,
     }
 }
@@ -42,6 +43,7 @@ fn wanted_by(fault: ProfileFault, line: &[u8]) -> &'static str {
     match fault {
         ProfileFault::BadLine(_) => profile_form(line),
         ProfileFault::Refused(_, why) => registration_form(why),
+        ProfileFault::GroupRefused(_, _) => GROUPS,
         ProfileFault::NotVoid(_) => NO_RESULT,
     }
 }

@@ -6,11 +6,15 @@ use asrun_lines::field;
 /// What is wanted of a function that is posted.
 pub const NO_RESULT: &str = "a function without a result, since no answer is waited for";
 
+/// What is wanted of a line that begins or ends a group.
+pub const GROUPS: &str =
+    "group NAME, an identifier that no group above has, and endgroup before the next; 64 at most";
+
 const PROFILE_WORDS: &str = "a line that begins with mask, limit, type, factory, method, property, \
-                             function, posted, global, enum, value or blank";
+                             function, posted, global, enum, value, group, endgroup or blank";
 
 const SESSION_WORDS: &str = "a line that begins with module, mask, section, build, bind, unbind, \
-                             call, discard or budget";
+                             call, discard, remove or budget";
 
 /// The first word of a line.
 fn first_word(line: &[u8]) -> &[u8] {
@@ -60,6 +64,12 @@ fn plain_form(word: &[u8]) -> Option<&'static str> {
     if word == b"value".as_slice() {
         return Some("value ENUM NAME NUMBER, of a number from -2147483648 to 2147483647");
     }
+    if word == b"group".as_slice() {
+        return Some("group NAME");
+    }
+    if word == b"endgroup".as_slice() {
+        return Some("endgroup alone");
+    }
     if word == b"blank".as_slice() {
         return Some("blank alone");
     }
@@ -91,6 +101,9 @@ fn module_form(word: &[u8]) -> Option<&'static str> {
     }
     if word == b"discard".as_slice() {
         return Some("discard NAME");
+    }
+    if word == b"remove".as_slice() {
+        return Some("remove NAME, of a group of the profile");
     }
     None
 }

@@ -2,7 +2,8 @@
 ghost use Rattle.std.specs.Prelude.{◌≡◌, ◌↔◌, IfOk, IfErr, length};
 ghost use Rattle.ang_host.specs.Boxes.{members};
 ghost use Rattle.ang_host.specs.Members.{states_of, AreFresh};
-ghost use Rattle.ang_engine.specs.Engines.{registrations, world_in, drivers_in, limits_in};
+ghost use Rattle.asrun_session.specs.Whole.{list_begun};
+ghost use Rattle.ang_engine.specs.Engines.{list_in, registrations, world_in, drivers_in, limits_in};
 ghost use Rattle.ang_heap.specs.Stores.{bounds_of};
 ghost use Rattle.ang_engine.specs.Sound.{IsSound, HaveDrivers};
 ghost use Rattle.ang_engine.specs.declared.refused.NewError.TheVariants.{NoDriver};
@@ -48,6 +49,7 @@ pub fn limited_engine(
 ) -> Result<Engine, NewRefused>
     requires fresh { AreFresh (states_of ⟦<dyn Driver as Driver>⟧ (members drivers)) }
     ensures limits { IfOk result (λ e. limits_in e ≡ profile.limits) }
+    ensures list { IfOk result (λ e. list_in e ≡ list_begun profile.registry) }
     ensures registrations { IfOk result (λ e. registrations e ≡ profile.registry.entries) }
     ensures world { IfOk result (λ e. world_in ⟦<dyn Driver as Driver>⟧ e
         ≡ bounded_by (bounds_of profile.limits) no_modules) }

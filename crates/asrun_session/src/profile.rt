@@ -4,14 +4,14 @@ ghost use Rattle.ang_view.specs.Registration.{entry_at};
 ghost use Rattle.ang_engine.specs.Limited.{no_limits};
 ghost use Rattle.asrun_lines.specs.Lines.{lines_of};
 ghost use Rattle.asrun_session.specs.Limits.{entry_limits, line_limits, limits_of};
-ghost use Rattle.asrun_session.specs.Profile.{line_entered, loaded, Loads, entered, IsJudged, IsJudgedPosted, is_void, gives_none};
+ghost use Rattle.asrun_session.specs.Profile.{line_entered, loaded, Loads, entered, IsJudged, IsJudgedPosted, IsGroupJudged, is_void, gives_none};
 ghost use Rattle.asrun_session.specs.Whole.{fresh};
 ghost use Rattle.asrun_lines.specs.ProfileLines.{entry_of};
 
 use crate::limits::with_limit;
 use ang_engine::Limits;
 use ang_kinds::{EntityNo, TypeRef};
-use ang_registry::{RegError, Registry};
+use ang_registry::{GroupError, RegError, Registry};
 use asrun_lines::{ProfileLine, first_line, is_skipped, profile_line, shown};
 use std::alloc::Global;
 
@@ -44,6 +44,8 @@ pub enum ProfileFault {
     BadLine(u64),
     /// The registration of the line was refused, for another cause than memory.
     Refused(u64, RegError),
+    /// The line begins or ends a group, and was refused, for another cause than memory.
+    GroupRefused(u64, GroupError),
     /// The line posts a function that has a result.
     NotVoid(u64),
 }
@@ -65,6 +67,17 @@ fn judged(number: u64, answer: Result<EntityNo, RegError>) -> Result<(), Profile
         Ok(_) => Ok(()),
         Err(RegError::Memory) => Err(ProfileStop::Memory),
         Err(why) => Err(ProfileStop::Fault(ProfileFault::Refused(number, why))),
+    }
+}
+
+/// How line `number`, which begins or ends a group, ends, of which this is the registry's answer.
+fn judged_group(number: u64, answer: Result<(), GroupError>) -> Result<(), ProfileStop>
+    ensures exact { IsGroupJudged result number answer }
+{
+    match answer {
+        Ok(()) => Ok(()),
+        Err(GroupError::Memory) => Err(ProfileStop::Memory),
+        Err(why) => Err(ProfileStop::Fault(ProfileFault::GroupRefused(number, why))),
     }
 }
 
@@ -115,7 +128,7 @@ fn judged_posted(
 }
 
 /// Registers what line `number` says, or sets the limit that it says.
-#[tactic(auto, using(crate::proofs::Loading::loads_judged, crate::proofs::Loading::loads_posted))]
+#[tactic(auto, using(crate::proofs::Loading::loads_judged, crate::proofs::Loading::loads_posted, crate::proofs::Loading::loads_grouped, crate::proofs::Loading::loads_ended))]
 fn enter(profile: &mut LoadedProfile, number: u64, line: &[u8]) -> Result<(), ProfileStop>
     ensures exact { Loads result profile.new.registry
         (entered number profile.old.registry (entry_of line.now)) }
@@ -166,6 +179,8 @@ fn enter(profile: &mut LoadedProfile, number: u64, line: &[u8]) -> Result<(), Pr
             number,
             profile.registry.enum_value(enumeration, name, value),
         ),
+        ProfileLine::Group { name } => { judged_group(number, profile.registry.begin_group(name)) }
+        ProfileLine::EndGroup => judged_group(number, profile.registry.end_group()),
         ProfileLine::Blank => judged(number, profile.registry.blank()),
     }
 }

@@ -1,5 +1,6 @@
 //! Running what a session says.
 ghost use Rattle.std.specs.Prelude.{◌≡◌, ◌≢◌, ◌<◌, ◌^◌, length, IfOk, IfErr, OnErr};
+ghost use Rattle.ang_view.specs.Only.{IsWithin};
 ghost use Rattle.ang_engine.specs.Engines.{registrations, drivers_in, limits_in};
 ghost use Rattle.ang_engine.specs.Sound.{IsSound};
 ghost use Rattle.asrun_session.specs.Deeds.{is_done};
@@ -39,7 +40,7 @@ fn run_command<W: Write>(
 ) -> Result<bool, SessionError>
     requires sound { IsSound ⟦<dyn Driver as Driver>⟧ engine.old }
     ensures sound { IsSound ⟦<dyn Driver as Driver>⟧ engine.new }
-    ensures registrations { registrations engine.new ≡ registrations engine.old }
+    ensures within { IsWithin (registrations engine.new) (registrations engine.old) }
     ensures limits { limits_in engine.new ≡ limits_in engine.old }
     ensures order { kinds_of (drivers_in engine.new) ≡ kinds_of (drivers_in engine.old) }
     ensures done { IfOk result (λ ok. Prints ⟦<dyn Driver as Driver>⟧ engine.old engine.new
@@ -65,7 +66,7 @@ pub fn perform<W: Write>(
 ) -> Result<(bool, u64), SessionError>
     requires sound { IsSound ⟦<dyn Driver as Driver>⟧ engine.old }
     ensures sound { IsSound ⟦<dyn Driver as Driver>⟧ engine.new }
-    ensures registrations { registrations engine.new ≡ registrations engine.old }
+    ensures within { IsWithin (registrations engine.new) (registrations engine.old) }
     ensures limits { limits_in engine.new ≡ limits_in engine.old }
     ensures order { kinds_of (drivers_in engine.new) ≡ kinds_of (drivers_in engine.old) }
     ensures budget { IfOk result (λ x. x.1 ≡ budget_after budget action) }
@@ -99,7 +100,7 @@ pub fn run_session<W: Write>(
     requires sound { IsSound ⟦<dyn Driver as Driver>⟧ engine.old }
     requires few { length text.now < 2 ^ 32 }
     ensures sound { IsSound ⟦<dyn Driver as Driver>⟧ engine.new }
-    ensures registrations { registrations engine.new ≡ registrations engine.old }
+    ensures within { IsWithin (registrations engine.new) (registrations engine.old) }
     ensures limits { limits_in engine.new ≡ limits_in engine.old }
     ensures order { kinds_of (drivers_in engine.new) ≡ kinds_of (drivers_in engine.old) }
     ensures done { IfOk result (λ status. RunsLines ⟦<dyn Driver as Driver>⟧ engine.old engine.new

@@ -2,11 +2,11 @@
 ghost use Rattle.std.specs.Prelude.{◌≡◌, ◌++◌, OnOk, Some};
 ghost use Rattle.asrun_session.specs.Deeds.{bad_line_text};
 ghost use Rattle.asrun_session.specs.Inquiries.{used_text, prepared_text};
-ghost use Rattle.asrun_session.specs.Whole.{why_text, profile_fault_text};
+ghost use Rattle.asrun_session.specs.Whole.{why_text, group_why_text, profile_fault_text};
 
 use crate::profile::ProfileFault;
 use ang_engine::Held;
-use ang_registry::RegError;
+use ang_registry::{GroupError, RegError};
 use asrun_lines::{push_number, push_text};
 use std::alloc::AllocError;
 
@@ -35,6 +35,21 @@ fn registration_error_name(why: RegError) -> &'static str
     }
 }
 
+#[tactic(auto, unfolding(crate::specs::Whole::group_why_text))]
+fn group_error_name(why: GroupError) -> &'static str
+    ensures exact { result.now ≡ group_why_text why }
+{
+    match why {
+        GroupError::GroupOpen => "GroupOpen",
+        GroupError::BadName => "BadName",
+        GroupError::Duplicate => "Duplicate",
+        GroupError::Limit => "Limit",
+        GroupError::NoGroup => "NoGroup",
+        GroupError::InUse => "InUse",
+        GroupError::Memory => "Memory",
+    }
+}
+
 /// `profile LINE BadLine`, `profile LINE NotVoid` or `profile LINE REFUSAL`, put after what stands in `out`.
 #[tactic(auto, using(crate::proofs::Texts::texts), unfolding(crate::specs::Whole::profile_fault_text))]
 pub fn push_profile_fault(out: &mut Vec<u8>, fault: ProfileFault) -> Result<(), AllocError>
@@ -50,6 +65,12 @@ pub fn push_profile_fault(out: &mut Vec<u8>, fault: ProfileFault) -> Result<(), 
             push_number(out, number)?;
             push_text(out, " ")?;
             push_text(out, registration_error_name(why))?;
+            push_text(out, "\n")
+        }
+        ProfileFault::GroupRefused(number, why) => {
+            push_number(out, number)?;
+            push_text(out, " ")?;
+            push_text(out, group_error_name(why))?;
             push_text(out, "\n")
         }
         ProfileFault::NotVoid(number) => {

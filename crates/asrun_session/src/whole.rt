@@ -9,7 +9,7 @@ ghost use Rattle.asrun_session.specs.Drivers.{kinds_of, AreListed, AreRefused, A
 ghost use Rattle.asrun_session.specs.Engines.{RunsText, StopsText};
 ghost use Rattle.asrun_lines.specs.Lines.{lines_of};
 ghost use Rattle.asrun_session.specs.Reading.{unread, IsReadThrough};
-ghost use Rattle.asrun_session.specs.Whole.{start_by, start_by_lines, most_profile, most_session, long_profile_text, start_of, Starts, Tells, StartStops, Ends, Stops, Unread, outcome_of, fresh};
+ghost use Rattle.asrun_session.specs.Whole.{start_by, list_begun, start_by_lines, most_profile, most_session, long_profile_text, start_of, Starts, Tells, StartStops, Ends, Stops, Unread, outcome_of, fresh};
 ghost use Rattle.asrun_session.specs.Writing.{HasFront, unwritten};
 
 use crate::ending::{IoFault, SessionError, Status};
@@ -42,7 +42,7 @@ fn load_text<W: Write>(
     requires few { length text.now < 2 ^ 32 }
     ensures done { IfOk result (Starts
         (start_by_lines profile.old.registry profile.old.limits (lines_of text.now))
-        (start_by profile.new.registry.entries profile.new.limits) (W.contents writer.old)
+        (start_by (list_begun profile.new.registry) profile.new.limits) (W.contents writer.old)
         (W.contents writer.new)) }
     ensures cut { OnErr result (StartStops
         (start_by_lines profile.old.registry profile.old.limits (lines_of text.now))
@@ -89,7 +89,7 @@ pub fn load_profile<R: Read, W: Write>(
     requires new { profile.old.registry ≡ fresh }
     requires unlimited { profile.old.limits ≡ no_limits }
     ensures done { IfOk result (λ ok. IfSome (R.remaining reader.old) (λ text.
-        Starts (start_of text) (start_by profile.new.registry.entries profile.new.limits)
+        Starts (start_of text) (start_by (list_begun profile.new.registry) profile.new.limits)
         (W.contents writer.old) (W.contents writer.new) ok)) }
     ensures cut { OnErr result (IfSome (R.remaining reader.old)
         (λ text. StartStops (start_of text) (W.contents writer.old) (W.contents writer.new))) }
@@ -189,11 +189,11 @@ fn run_engine<R: Read, W: Write>(
     ensures done { IfOk result.0 (λ status. IfSome (R.remaining reader.old) (λ text.
         Ends ⟦<dyn Driver as Driver>⟧ (members drivers) result.1.items
         (W.contents writer.old) (W.contents writer.new)
-        (Ok (start_by profile.registry.entries profile.limits)) text budget status)) }
+        (Ok (start_by (list_begun profile.registry) profile.limits)) text budget status)) }
     ensures cut { OnErr result.0 (IfSome (R.remaining reader.old) (λ text.
         Stops ⟦<dyn Driver as Driver>⟧ (members drivers) result.1.items
         (W.contents writer.old) (W.contents writer.new)
-        (Ok (start_by profile.registry.entries profile.limits)) text budget)) }
+        (Ok (start_by (list_begun profile.registry) profile.limits)) text budget)) }
     ensures read { IfErr result.0 (λ e. e ≡ unwritten →
         IsReadThrough most_session (R.remaining reader.old) (R.remaining reader.new)
         ⊎ AreRefused ⟦<dyn Driver as Driver>⟧ profile.registry.entries (members drivers)) }
@@ -203,7 +203,7 @@ fn run_engine<R: Read, W: Write>(
     ensures fault { IfErr result.0 (λ e. e ≡ unread →
         Unread ⟦<dyn Driver as Driver>⟧ (members drivers) result.1.items
         (W.contents writer.old) (W.contents writer.new)
-        (Ok (start_by profile.registry.entries profile.limits))) }
+        (Ok (start_by (list_begun profile.registry) profile.limits))) }
 {
     match limited_engine(alloc, profile, drivers) {
         Ok(mut engine) => {
@@ -241,11 +241,11 @@ fn run_drivers<R: Read, W: Write>(
     ensures done { IfOk result.0 (λ status. IfSome (R.remaining reader.old) (λ text.
         Ends ⟦<dyn Driver as Driver>⟧ drivers.items result.1.items
         (W.contents writer.old) (W.contents writer.new)
-        (Ok (start_by profile.registry.entries profile.limits)) text budget status)) }
+        (Ok (start_by (list_begun profile.registry) profile.limits)) text budget status)) }
     ensures cut { OnErr result.0 (IfSome (R.remaining reader.old) (λ text.
         Stops ⟦<dyn Driver as Driver>⟧ drivers.items result.1.items
         (W.contents writer.old) (W.contents writer.new)
-        (Ok (start_by profile.registry.entries profile.limits)) text budget)) }
+        (Ok (start_by (list_begun profile.registry) profile.limits)) text budget)) }
     ensures read { IfErr result.0 (λ e. e ≡ unwritten →
         IsReadThrough most_session (R.remaining reader.old) (R.remaining reader.new)
         ⊎ AreRefused ⟦<dyn Driver as Driver>⟧ profile.registry.entries drivers.items) }
@@ -256,7 +256,7 @@ fn run_drivers<R: Read, W: Write>(
     ensures fault { IfErr result.0 (λ e. e ≡ unread →
         Unread ⟦<dyn Driver as Driver>⟧ drivers.items result.1.items
         (W.contents writer.old) (W.contents writer.new)
-        (Ok (start_by profile.registry.entries profile.limits))) }
+        (Ok (start_by (list_begun profile.registry) profile.limits))) }
 {
     match Drivers::new(drivers) {
         Ok(drivers) => run_engine(alloc, reader, writer, buffer, profile, drivers, budget),
@@ -313,7 +313,7 @@ pub fn session<P: Read, S: Read, W: Write>(
     ensures session_read { IfErr result.outcome (λ e. e ≡ IoFault.Write
         → IsReadThrough most_session (S.remaining session.old) (S.remaining session.new)
         ⊎ IfSome (P.remaining profile.old) (λ p.
-        IfOk (start_of p) (λ t. AreRefused ⟦<dyn Driver as Driver>⟧ t.entries drivers.items))) }
+        IfOk (start_of p) (λ t. AreRefused ⟦<dyn Driver as Driver>⟧ t.list.entries drivers.items))) }
     ensures order { kinds_of result.drivers.items ≡ kinds_of drivers.items }
     // They come back as they were, or, where an engine may have taken them, with nothing alive.
     ensures returned { (result.drivers.items ≡ drivers.items)

@@ -277,6 +277,8 @@ fn push_refusal(out: &mut Vec<u8>, refusal: Refusal) -> Result<(), AllocError>
         Refusal::NoFunction => push_text(out, "NoFunction"),
         Refusal::NoImport => push_text(out, "NoImport"),
         Refusal::SignatureDiffers => push_text(out, "SignatureDiffers"),
+        Refusal::NoGroup => push_text(out, "NoGroup"),
+        Refusal::InUse => push_text(out, "InUse"),
         Refusal::NotCallable => push_text(out, "NotCallable"),
         Refusal::BadArguments => push_text(out, "BadArguments"),
         Refusal::Memory => push_text(out, "Memory"),

@@ -7,6 +7,8 @@ mod drivers;
 #[cfg(test)]
 mod events;
 #[cfg(test)]
+mod groups;
+#[cfg(test)]
 mod kinds;
 #[cfg(test)]
 mod registry;

@@ -25,8 +25,11 @@ function say(problem) {
 
 /** Takes what an answer says of modules, objects and commands. */
 function take(answer) {
-  for (const name of ["modules", "objects", "alive", "used", "budget"]) {
+  for (const name of ["modules", "objects", "alive", "used", "budget", "groups"]) {
     state[name] = answer[name] ?? state[name];
+  }
+  for (const number of answer.removed ?? []) {
+    Object.assign(state.entries[number], { word: "blank", told: "", masks: [] });
   }
   for (const module of state.modules) {
     module.mask = wanted.get(module.name)?.mask ?? module.mask;
@@ -79,6 +82,7 @@ function hintAtBits() {
 function draw() {
   hintAtBits();
   drawTable();
+  drawGroups();
   drawModule();
   at("profile").value = state.profile;
   at("answers").value = state.answers;
@@ -226,6 +230,25 @@ async function addModule(event) {
     draw();
   } else if (outcome) {
     say(`The module was not made: ${outcome}`);
+  }
+}
+
+/** Draws a button for each group of entries that can be removed. */
+function drawGroups() {
+  const buttons = state.groups.map((it) => element("button", { type: "button", click: () => removeGroup(it) }, `Remove ${it}`));
+  at("groups").hidden = buttons.length === 0;
+  fill(at("groups"), "Groups of entries ", ...buttons);
+}
+
+/** Takes the entries of a group away, unless a built module uses one of them. */
+async function removeGroup(group) {
+  const answer = await command("remove", { name: group });
+  const step = answer.steps?.at(-1);
+  if (step?.lines.at(-1) === "ok") {
+    draw();
+    checkSoon();
+  } else if (step) {
+    say(`The group ${group} was not removed: ${step.means}.`);
   }
 }
 

@@ -10,6 +10,7 @@ export const state = {
   chosen: "",
   budget: 0,
   limits: {},
+  groups: [], // of entries: the names of those that can be removed
   used: {},
   objects: [],
   alive: 0,

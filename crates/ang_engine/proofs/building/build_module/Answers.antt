@@ -69,7 +69,7 @@ returns-in-Ok-clause-done g c =
     c.args.budget c.compile_place.new.place c.index_mut.result.now c.args.machine.now.store c.end_globals.new.machine.store c.args.events.now c.end_globals.new.events
     c.requires.modules.each c.requires.within (sym (c.index_mut.ensures.value ∙ any_default c.args.list.now.places.items c.args.home c.index_mut.result.now None c.requires.within)) c.unload.ensures.unloaded
     c.requires.first c.end_globals.ensures.ended c.end_globals.ensures.moves
-    c.compile_place.ensures.emptied c.in-Ok.loaded c.in-Ok.ensures.built c.in-Ok.ensures.unbound c.in-Ok.ensures.compiled
+    c.compile_place.ensures.emptied c.in-Ok.loaded c.in-Ok.ensures.built c.in-Ok.ensures.shown c.in-Ok.ensures.unbound c.in-Ok.ensures.compiled
     c.start.result c.start.new.code c.start.new.machine.store c.start.new.events c.start.ensures.built c.start.ensures.unloaded c.start.ensures.started
 
 pub returns-in-Ok-clause-asked : goal.returns-in-Ok-clause-asked

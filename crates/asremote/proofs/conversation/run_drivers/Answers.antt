@@ -1,6 +1,6 @@
 use Rattle.std.proofs.Common.{subst, sym}
 use Rattle.asrun_session.specs.Drivers.{AreListed, NotListed}
-use Rattle.asrun_session.specs.Whole.{start_by}
+use Rattle.asrun_session.specs.Whole.{start_by, list_begun}
 use Rattle.asremote.proofs.Talking.{talks_refused, stops_refused}
 use Rattle.asremote.proofs.conversation.run_drivers.Goals as goal
 
@@ -16,9 +16,9 @@ returns-in-Ok g c = record { done = rw c.in-Ok.ensures.kept at c.run_engine.ensu
 pub returns-in-Err : goal.returns-in-Err
 returns-in-Err g c = record {
   done =
-      talks_refused (λ v. (g.dyn-1.0.entry v).1) c.args.budget _ _ (g.W.Write.contents c.args.writer.now) (g.W.Write.contents c.print_drivers_error.new.writer) (start_by c.args.profile.registry.entries c.args.profile.limits) _ _
+      talks_refused (λ v. (g.dyn-1.0.entry v).1) c.args.budget _ _ (g.W.Write.contents c.args.writer.now) (g.W.Write.contents c.print_drivers_error.new.writer) (start_by (list_begun c.args.profile.registry) c.args.profile.limits) _ _
       (NotListed c.in-Err.why) c.in-Err.ensures.given_back c.in-Err.ensures.why c.print_drivers_error.result c.print_drivers_error.ensures.whole c.print_drivers_error.ensures.status;
   cut =
-      stops_refused (λ v. (g.dyn-1.0.entry v).1) c.args.budget _ _ (g.W.Write.contents c.args.writer.now) (g.W.Write.contents c.print_drivers_error.new.writer) (start_by c.args.profile.registry.entries c.args.profile.limits) _ _
+      stops_refused (λ v. (g.dyn-1.0.entry v).1) c.args.budget _ _ (g.W.Write.contents c.args.writer.now) (g.W.Write.contents c.print_drivers_error.new.writer) (start_by (list_begun c.args.profile.registry) c.args.profile.limits) _ _
       (NotListed c.in-Err.why) c.in-Err.ensures.given_back c.in-Err.ensures.why c.print_drivers_error.result c.print_drivers_error.ensures.front;
 }

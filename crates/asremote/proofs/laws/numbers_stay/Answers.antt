@@ -3,6 +3,6 @@ use Rattle.asremote.proofs.laws.numbers_stay.Goals as goal
 
 pub returns : goal.returns
 returns c = record {
-  kept = λ R s after turns h number p there. turns_stay number p R s after turns h there;
-  gone = λ R s after turns h p begun gone. (turns_gone p R s after turns h (begun, gone)).1;
+  kept = λ s after turns h number p there. turns_stay number p s after turns h there;
+  gone = λ s after turns h p begun gone. (turns_gone p s after turns h (begun, gone)).1;
 }

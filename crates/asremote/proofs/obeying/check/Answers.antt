@@ -1,4 +1,5 @@
 use Rattle.std.proofs.Common.{refl}
+use Rattle.asrun_session.proofs.Lists.{same_list}
 use Rattle.asremote.specs.Talk.{Checked}
 use Rattle.asremote.proofs.Turning.{ok_both, err_turn}
 use Rattle.asremote.proofs.obeying.check.Goals as goal
@@ -11,6 +12,7 @@ returns-clause-obeyed g c = λ ps ticks. ok_both c.tell_reply.result _ _ _ (λ o
   comes = record {
     comes = record {
       checks = c.check-reply.ensures.checks;
+      list = same_list _ _ c.check-reply.ensures.registry;
       numbers = record { last = c.check-reply.ensures.last; builds = λ j i. c.check-reply.ensures.builds i j };
       silent = c.check-reply.ensures.silent;
       drivers = c.check-reply.ensures.drivers;
@@ -30,6 +32,7 @@ returns-clause-cut g c = λ ps ticks. err_turn c.tell_reply.result _ _ (λ front
   comes = record {
     comes = record {
       checks = c.check-reply.ensures.checks;
+      list = same_list _ _ c.check-reply.ensures.registry;
       numbers = record { last = c.check-reply.ensures.last; builds = λ j i. c.check-reply.ensures.builds i j };
       silent = c.check-reply.ensures.silent;
       drivers = c.check-reply.ensures.drivers;

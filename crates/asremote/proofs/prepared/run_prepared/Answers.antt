@@ -1,5 +1,9 @@
 use Rattle.std.proofs.Common.{refl, sym, ◌∙◌}
 use Rattle.std.proofs.lemmas.Result.{err_from_is_err_and}
+use Rattle.ang_engine.specs.Engines.{registrations}
+use Rattle.ang_engine.specs.Roles.{roles_of}
+use Rattle.ang_engine.proofs.Roles.{own_roles}
+use Rattle.asrun_session.proofs.Lists.{same_list}
 use Rattle.asremote.specs.Talk.{Called, Missed}
 use Rattle.asremote.proofs.Turning.{ok_both, err_turn}
 use Rattle.asremote.proofs.prepared.run_prepared.Goals as goal
@@ -36,6 +40,7 @@ returns-clause-obeyed g c = ok_both c.tell_reply.result _ _ _ (λ ok ended told.
         takes = c.call_prepared-reply.ensures.takes;
         gone = λ no. (c.call_prepared-reply.ensures.gone no, c.call_prepared-reply.ensures.unchanged no);
       };
+      list = same_list _ _ c.call_prepared-reply.ensures.registry;
       numbers = record { last = c.call_prepared-reply.ensures.last; builds = c.call_prepared-reply.ensures.builds };
       follow = c.call_prepared-reply.ensures.follow;
       within = record {
@@ -60,6 +65,7 @@ returns-clause-cut g c = err_turn c.tell_reply.result _ _ (λ front. record {
         takes = c.call_prepared-reply.ensures.takes;
         gone = λ no. (c.call_prepared-reply.ensures.gone no, c.call_prepared-reply.ensures.unchanged no);
       };
+      list = same_list _ _ c.call_prepared-reply.ensures.registry;
       numbers = record { last = c.call_prepared-reply.ensures.last; builds = c.call_prepared-reply.ensures.builds };
       follow = c.call_prepared-reply.ensures.follow;
       within = record {
@@ -71,3 +77,6 @@ returns-clause-cut g c = err_turn c.tell_reply.result _ _ (λ front. record {
   };
   front = front;
 }) c.tell_reply.ensures.front
+
+pub returns-clause-order : goal.returns-clause-order
+returns-clause-order g c = (c.call_prepared-reply.ensures.follow (roles_of (registrations c.args.engine.now)) (own_roles (registrations c.args.engine.now))).kinds

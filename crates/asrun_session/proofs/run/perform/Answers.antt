@@ -17,7 +17,8 @@ pub returns-in_err-write_text-in-Budget-clause-cut : goal.returns-in_err-write_t
 returns-in_err-write_text-in-Budget-clause-cut g c =
     let p = err_from_is_err_and c.from_residual-in_err-write_text-in-Budget.result c.from_residual-in_err-write_text-in-Budget.ensures.1 in
     rw (p.1, c.in-Budget.is) record {
-      done = record { deed = Set c.in-Budget.ticks; action = refl; does = refl; follow = follow_nothing _ _ _; front = c.in_err-write_text-in-Budget.ensures.front };
+      done = record { deed = Set c.in-Budget.ticks; action = refl; does = refl; follow = λ roles fit. follow_nothing _ roles _; front = c.in_err-write_text-in-Budget.ensures.front };
+      list = refl;
       within = within_none (λ v. (g.dyn-1.0.entry v).1) c.args.engine.now.machine.store;
       builds = (refl, refl);
     }
@@ -28,10 +29,11 @@ returns-in_ok-write_text-in-Budget-clause-done g c = rw c.in-Budget.is record {
     deed = Set c.in-Budget.ticks;
     action = refl;
     does = refl;
-    follow = follow_nothing _ _ _;
+    follow = λ roles fit. follow_nothing _ roles _;
     printed = c.in_ok-write_text-in-Budget.ensures.whole;
     ended = refl;
   };
+  list = refl;
   within = within_none (λ v. (g.dyn-1.0.entry v).1) c.args.engine.now.machine.store;
   builds = (refl, refl);
 }

@@ -1,6 +1,6 @@
 use Rattle.std.proofs.Common.{subst, sym}
 use Rattle.asrun_session.specs.Drivers.{AreListed, NotListed}
-use Rattle.asrun_session.specs.Whole.{start_by}
+use Rattle.asrun_session.specs.Whole.{start_by, list_begun}
 use Rattle.asrun_session.proofs.Taking.{ends_refused, stops_refused, read_refused}
 use Rattle.asrun_session.proofs.whole.run_drivers.Goals as goal
 
@@ -12,13 +12,13 @@ returns-in-Ok-clause-cut g c = rw c.in-Ok.ensures.kept at c.run_engine.ensures.c
 
 pub returns-in-Err-clause-done : goal.returns-in-Err-clause-done
 returns-in-Err-clause-done g c =
-    ends_refused (λ v. (g.dyn-1.0.entry v).1) (start_by c.args.profile.registry.entries c.args.profile.limits) _ _ (g.W.Write.contents c.args.writer.now)
+    ends_refused (λ v. (g.dyn-1.0.entry v).1) (start_by (list_begun c.args.profile.registry) c.args.profile.limits) _ _ (g.W.Write.contents c.args.writer.now)
     (g.W.Write.contents c.print_drivers_error.new.writer) (g.R.Read.remaining c.args.reader.now) c.args.budget (NotListed c.in-Err.why)
     c.print_drivers_error.result c.in-Err.ensures.given_back c.in-Err.ensures.why c.print_drivers_error.ensures.whole c.print_drivers_error.ensures.status
 
 pub returns-in-Err-clause-cut : goal.returns-in-Err-clause-cut
 returns-in-Err-clause-cut g c =
-    stops_refused (λ v. (g.dyn-1.0.entry v).1) (start_by c.args.profile.registry.entries c.args.profile.limits) _ _ (g.W.Write.contents c.args.writer.now)
+    stops_refused (λ v. (g.dyn-1.0.entry v).1) (start_by (list_begun c.args.profile.registry) c.args.profile.limits) _ _ (g.W.Write.contents c.args.writer.now)
     (g.W.Write.contents c.print_drivers_error.new.writer) (g.R.Read.remaining c.args.reader.now) c.args.budget (NotListed c.in-Err.why)
     c.print_drivers_error.result c.in-Err.ensures.given_back c.in-Err.ensures.why c.print_drivers_error.ensures.front
 

@@ -2,8 +2,7 @@ use Rattle.std.proofs.Common.{◌≡◌, ◌≤◌, [], false, sym, subst, lengt
 use Rattle.std.specs.Prelude.{All, max}
 use Rattle.ang_host.specs.Events.{DriversFollow}
 use Rattle.ang_engine_modules.specs.declared.reply.Reply.{Reply}
-use Rattle.ang_engine.specs.Roles.{roles_of}
-use Rattle.ang_engine.specs.Engines.{registrations, world_in, drivers_in, limits_in, held_in}
+use Rattle.ang_engine.specs.Engines.{list_in, registrations, world_in, drivers_in, limits_in, held_in}
 use Rattle.ang_engine.specs.Replies.{reply_in}
 use Rattle.ang_engine.specs.Outcomes.{IfRefusedAtOnce}
 use Rattle.ang_engine.specs.Step.{Takes, IsEntitled}
@@ -16,19 +15,18 @@ use Rattle.ang_engine.proofs.engine.Engine.apply.Goals as goal
 
 pub returns-clause-takes : goal.returns-clause-takes
 returns-clause-takes g c =
-    subst (λ (r : Reply). Takes (registrations c.args.self.now) (world_in (λ v. (g.dyn-1.0.entry v).1) c.args.self.now) c.args.command r (world_in (λ v. (g.dyn-1.0.entry v).1) c.finish.new.self))
+    subst (λ (r : Reply). Takes (list_in c.args.self.now) (world_in (λ v. (g.dyn-1.0.entry v).1) c.args.self.now) c.args.command r (world_in (λ v. (g.dyn-1.0.entry v).1) c.finish.new.self))
     (sym c.heard_reply.ensures.exact) c.finish.ensures.applied.takes
 
 pub returns-clause-entitled : goal.returns-clause-entitled
 returns-clause-entitled g c =
-    subst (λ (r : Reply). All (IsEntitled (registrations c.finish.new.self) (world_in (λ v. (g.dyn-1.0.entry v).1) c.finish.new.self)) r.events)
-    (sym c.heard_reply.ensures.exact)
-    (subst (λ R. All (IsEntitled R (world_in (λ v. (g.dyn-1.0.entry v).1) c.finish.new.self)) (reply_in c.finish.result).events) (sym c.finish.ensures.registrations) c.finish.ensures.applied.entitled)
+    subst (λ (r : Reply). All (IsEntitled (registrations c.args.self.now) (world_in (λ v. (g.dyn-1.0.entry v).1) c.finish.new.self)) r.events)
+    (sym c.heard_reply.ensures.exact) c.finish.ensures.applied.entitled
 
 pub returns-clause-follow : goal.returns-clause-follow
-returns-clause-follow g c =
-    subst (λ (r : Reply). DriversFollow (λ v. (g.dyn-1.0.entry v).1) (roles_of (registrations c.args.self.now)) (drivers_in c.args.self.now) r.events (drivers_in c.finish.new.self))
-    (sym c.heard_reply.ensures.exact) c.finish.ensures.applied.follow
+returns-clause-follow g c = λ roles fit.
+    subst (λ (r : Reply). DriversFollow (λ v. (g.dyn-1.0.entry v).1) roles (drivers_in c.args.self.now) r.events (drivers_in c.finish.new.self))
+    (sym c.heard_reply.ensures.exact) (c.finish.ensures.applied.follow roles fit)
 
 pub returns-clause-refused : goal.returns-clause-refused
 returns-clause-refused g c =

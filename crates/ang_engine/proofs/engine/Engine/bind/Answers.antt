@@ -1,7 +1,7 @@
 use Rattle.std.proofs.Common.{refl, ap, None}
 use Rattle.ang_heap.specs.Globals.{values_in}
 use Rattle.ang_heap.specs.Stores.{world_of}
-use Rattle.ang_engine.specs.Engines.{registrations, world_in}
+use Rattle.ang_engine.specs.Engines.{list_in, registrations, world_in}
 use Rattle.ang_engine.proofs.Kept.{same_places}
 use Rattle.ang_engine.proofs.Whole.{applied-bind}
 use Rattle.ang_engine.proofs.Limiting.{within_none, within_reply}
@@ -15,7 +15,7 @@ bind-done-requires g c = record { modules = (registrations c.args.self.now, c.re
 pub returns-clause-applied : goal.returns-clause-applied
 returns-clause-applied g c =
     let s = c.args.self.now.machine.store in
-    applied-bind (λ v. (g.dyn-1.0.entry v).1) (registrations c.args.self.now) (world_in (λ v. (g.dyn-1.0.entry v).1) c.args.self.now) _ s s
+    applied-bind (λ v. (g.dyn-1.0.entry v).1) (list_in c.args.self.now) (world_in (λ v. (g.dyn-1.0.entry v).1) c.args.self.now) _ s s
     c.as_slice.result.now c.args.name c.args.index c.as_slice-2.result.now c.args.exporter c.as_slice-3.result.now c.args.decl _ c.bind-done.result c.ended.result
     c.as_slice.ensures.same c.as_slice-2.ensures.same c.as_slice-3.ensures.same c.ended.ensures.exact c.answer.ensures.exact (c.bind-done.ensures.done (world_of (λ v. (g.dyn-1.0.entry v).1) s))
     c.requires.sound.kept c.requires.sound.counted refl

@@ -1,5 +1,5 @@
 use Rattle.std.proofs.Common.{refl, ap}
-use Rattle.ang_engine.specs.Engines.{registrations, world_in}
+use Rattle.ang_engine.specs.Engines.{list_in, world_in}
 use Rattle.ang_engine_modules.specs.declared.command.Command.TheVariants.{Build}
 use Rattle.ang_engine.proofs.Whole.{applied-memory}
 use Rattle.ang_engine.proofs.Limiting.{within_none, within_reply}
@@ -10,7 +10,7 @@ use Rattle.ang_engine.proofs.engine.Engine.build.Goals as goal
 
 pub returns-else-self-lt18446744073709551615-clause-applied : goal.returns-else-self-lt18446744073709551615-clause-applied
 returns-else-self-lt18446744073709551615-clause-applied g c =
-    applied-memory (λ v. (g.dyn-1.0.entry v).1) (registrations c.args.self.now) (world_in (λ v. (g.dyn-1.0.entry v).1) c.args.self.now) c.args.self.now.machine.store
+    applied-memory (λ v. (g.dyn-1.0.entry v).1) (list_in c.args.self.now) (world_in (λ v. (g.dyn-1.0.entry v).1) c.args.self.now) c.args.self.now.machine.store
     (Build c.args.name c.args.budget) _ refl c.answer.ensures.exact c.requires.sound.kept c.requires.sound.counted
 
 pub returns-else-self-lt18446744073709551615-clause-within : goal.returns-else-self-lt18446744073709551615-clause-within

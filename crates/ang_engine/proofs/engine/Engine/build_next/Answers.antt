@@ -1,5 +1,5 @@
 use Rattle.std.proofs.Common.{refl, ap, sym, subst}
-use Rattle.ang_engine.specs.Engines.{registrations, world_in}
+use Rattle.ang_engine.specs.Engines.{list_in, world_in}
 use Rattle.ang_engine_modules.specs.declared.command.Command.TheVariants.{Build}
 use Rattle.ang_engine.proofs.Whole.{applied-build, applied-memory, sound-asked}
 use Rattle.ang_host.specs.Logs.{listed_in}
@@ -12,12 +12,12 @@ use Rattle.ang_engine.proofs.engine.Engine.build_next.Goals as goal
 
 pub returns-in_default-clause-applied : goal.returns-in_default-clause-applied
 returns-in_default-clause-applied g c =
-    applied-memory (λ v. (g.dyn-1.0.entry v).1) (registrations c.args.self.now) (world_in (λ v. (g.dyn-1.0.entry v).1) c.args.self.now) c.args.self.now.machine.store
+    applied-memory (λ v. (g.dyn-1.0.entry v).1) (list_in c.args.self.now) (world_in (λ v. (g.dyn-1.0.entry v).1) c.args.self.now) c.args.self.now.machine.store
     (Build c.args.name c.args.budget) _ refl c.answer.ensures.exact c.requires.sound.kept c.requires.sound.counted
 
 pub returns-clause-applied : goal.returns-clause-applied
 returns-clause-applied g c =
-    applied-build (λ v. (g.dyn-1.0.entry v).1) (registrations c.args.self.now) (world_in (λ v. (g.dyn-1.0.entry v).1) c.args.self.now) _
+    applied-build (λ v. (g.dyn-1.0.entry v).1) (list_in c.args.self.now) (world_in (λ v. (g.dyn-1.0.entry v).1) c.args.self.now) _
     c.args.self.now.machine.store c.build-done.new.machine.store c.as_slice.result.now c.args.name c.args.budget _ c.build-done.result (listed_in c.build-done.new.events)
     c.as_slice.ensures.same c.build_reply.ensures.exact c.build-done.ensures.done c.build-done.ensures.asked c.build-done.ensures.refused
 

@@ -1,6 +1,7 @@
-use Rattle.std.proofs.Common.{refl, sym, subst, None}
+use Rattle.std.proofs.Common.{refl, sym, subst, None, ap}
 use Rattle.ang_heap.specs.Globals.{values_in}
-use Rattle.ang_engine.specs.Engines.{registrations, world_in}
+use Rattle.ang_registry.specs.Registrations.{Registrations}
+use Rattle.ang_engine.specs.Engines.{list_in, registrations, world_in}
 use Rattle.ang_engine_modules.specs.declared.command.Command.TheVariants.{Call}
 use Rattle.ang_engine_modules.specs.Sound.{HaveGlobals}
 use Rattle.ang_engine.specs.Sound.{AreSoundModules, AreNumbered}
@@ -16,12 +17,12 @@ use Rattle.ang_engine.proofs.engine.Engine.call.Goals as goal
 
 pub returns-in_default-clause-applied : goal.returns-in_default-clause-applied
 returns-in_default-clause-applied g c =
-    applied-memory (λ v. (g.dyn-1.0.entry v).1) (registrations c.args.self.now) (world_in (λ v. (g.dyn-1.0.entry v).1) c.args.self.now) c.args.self.now.machine.store
+    applied-memory (λ v. (g.dyn-1.0.entry v).1) (list_in c.args.self.now) (world_in (λ v. (g.dyn-1.0.entry v).1) c.args.self.now) c.args.self.now.machine.store
     (Call c.args.name c.args.decl c.args.args c.args.budget) _ refl c.answer.ensures.exact c.requires.sound.kept c.requires.sound.counted
 
 pub returns-clause-applied : goal.returns-clause-applied
 returns-clause-applied g c =
-    applied-call (λ v. (g.dyn-1.0.entry v).1) (registrations c.args.self.now) (world_in (λ v. (g.dyn-1.0.entry v).1) c.args.self.now) _
+    applied-call (λ v. (g.dyn-1.0.entry v).1) (list_in c.args.self.now) (world_in (λ v. (g.dyn-1.0.entry v).1) c.args.self.now) _
     c.args.self.now.machine.store c.call_named-done.new.self.machine.store c.as_slice.result.now c.args.name c.as_slice-2.result.now c.args.decl c.as_slice-3.result.now c.args.args c.args.budget _
     c.call_named-done.result (listed_in c.call_named-done.new.events) c.as_slice.ensures.same c.as_slice-2.ensures.same c.as_slice-3.ensures.same
     c.call_reply.ensures.exact c.call_named-done.ensures.done c.call_named-done.ensures.asked c.call_named-done.ensures.refused
@@ -30,7 +31,7 @@ pub returns-clause-sound : goal.returns-clause-sound
 returns-clause-sound g c =
     let gs = values_in c.args.self.now.machine.store.globals in
     let hs = values_in c.call_named-done.new.self.machine.store.globals in
-    sound-asked (λ v. (g.dyn-1.0.entry v).1) c.args.self.now c.call_named-done.new.self _ _ c.requires.sound c.call_named-done.ensures.registrations
+    sound-asked (λ v. (g.dyn-1.0.entry v).1) c.args.self.now c.call_named-done.new.self _ _ c.requires.sound (ap (λ (r : Registrations). r.entries) c.call_named-done.ensures.registry)
     (subst (λ x. AreSoundModules (registrations c.args.self.now) x) (sym c.call_named-done.ensures.modules) c.requires.sound.modules)
     (subst (λ x. HaveGlobals x hs) (sym c.call_named-done.ensures.modules) (run_globals c.args.self.now.modules gs hs c.call_named-done.ensures.globals c.requires.sound.globals))
     c.call_named-done.ensures.asked (subst (λ x. AreNumbered x) (sym c.call_named-done.ensures.modules) c.requires.sound.numbered)

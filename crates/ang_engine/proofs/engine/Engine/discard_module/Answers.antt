@@ -1,5 +1,5 @@
 use Rattle.std.proofs.Common.{refl, ap, sym, subst}
-use Rattle.ang_engine.specs.Engines.{registrations, world_in, last_build, builds_in}
+use Rattle.ang_engine.specs.Engines.{list_in, world_in, last_build, builds_in}
 use Rattle.ang_engine_modules.specs.declared.command.Command.TheVariants.{Discard}
 use Rattle.ang_engine.proofs.Whole.{applied-discard, applied-memory}
 use Rattle.ang_host.specs.Logs.{listed_in}
@@ -11,13 +11,13 @@ use Rattle.ang_engine.proofs.engine.Engine.discard_module.Goals as goal
 
 pub returns-in_default-clause-applied : goal.returns-in_default-clause-applied
 returns-in_default-clause-applied g c =
-    applied-memory (λ v. (g.dyn-1.0.entry v).1) (registrations c.args.self.now) (world_in (λ v. (g.dyn-1.0.entry v).1) c.args.self.now) c.args.self.now.machine.store
+    applied-memory (λ v. (g.dyn-1.0.entry v).1) (list_in c.args.self.now) (world_in (λ v. (g.dyn-1.0.entry v).1) c.args.self.now) c.args.self.now.machine.store
     (Discard c.args.name) _ refl c.answer.ensures.exact c.requires.sound.kept c.requires.sound.counted
 
 pub returns-clause-applied : goal.returns-clause-applied
 returns-clause-applied g c =
     let d = c.discard_named-done in
-    applied-discard (λ v. (g.dyn-1.0.entry v).1) (registrations c.args.self.now) (world_in (λ v. (g.dyn-1.0.entry v).1) c.args.self.now) _
+    applied-discard (λ v. (g.dyn-1.0.entry v).1) (list_in c.args.self.now) (world_in (λ v. (g.dyn-1.0.entry v).1) c.args.self.now) _
     c.args.self.now.machine.store d.new.self.machine.store c.as_slice.result.now c.args.name _ d.result (listed_in d.new.events)
     c.as_slice.ensures.same c.discard_reply.ensures.exact d.ensures.done d.ensures.asked d.ensures.refused
 

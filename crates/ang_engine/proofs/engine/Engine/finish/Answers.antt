@@ -1,4 +1,4 @@
-use Rattle.std.proofs.Common.{◌≤◌, [], length, refl, sym, ap, subst}
+use Rattle.std.proofs.Common.{◌≡◌, ◌≤◌, [], length, refl, sym, ap, subst}
 use Rattle.ang_host.specs.Boxes.{members}
 use Rattle.ang_meaning.specs.Counting.{IsCounted}
 use Rattle.ang_heap.specs.Globals.{values_in}
@@ -8,9 +8,10 @@ use Rattle.ang_engine_modules.specs.States.{places_of, states_in, build_at}
 use Rattle.ang_engine_modules.specs.World.{left_to}
 use Rattle.ang_engine_modules.proofs.Keeping.{same_modules}
 use Rattle.ang_engine.specs.Applied.{Applied}
-use Rattle.ang_engine.specs.Engines.{registrations, world_in, drivers_in, last_build, builds_in}
+use Rattle.ang_engine.specs.Engines.{list_in, registrations, world_in, drivers_in, last_build, builds_in}
 use Rattle.ang_engine.specs.Limited.{StaysWithin}
 use Rattle.ang_engine.specs.Replies.{reply_in}
+use Rattle.ang_engine.specs.Step.{list_after}
 use Rattle.ang_engine.specs.Sound.{IsBuiltBy, HaveDrivers}
 use Rattle.ang_engine.specs.Prepared.{HaveMoved, replaced}
 use Rattle.ang_engine.proofs.engine.Engine.finish.Goals as goal
@@ -34,7 +35,7 @@ dispatch-finished-requires g c =
 
 pub returns-clause-applied : goal.returns-clause-applied
 returns-clause-applied g c =
-    let R = registrations c.args.self.now in
+    let R = list_in c.args.self.now in
     let x = c.args.self.now.modules in
     let t = c.begin_command.new.store in
     let after = c.dispatch-finished.new.self in
@@ -56,8 +57,15 @@ returns-clause-sound g c =
 pub returns-clause-heard : goal.returns-clause-heard
 returns-clause-heard g c = c.dispatch-finished.ensures.heard
 
-pub returns-clause-registrations : goal.returns-clause-registrations
-returns-clause-registrations g c = c.dispatch-finished.ensures.registrations
+pub returns-clause-list : goal.returns-clause-list
+returns-clause-list g c =
+    let R = list_in c.args.self.now in
+    let x = c.args.self.now.modules in
+    let after = c.dispatch-finished.new.self in
+    subst (λ s. list_in after ≡ list_after R (left_to (states_in x) (world_of (λ v. (g.dyn-1.0.entry v).1) s)) c.args.command)
+    c.begin_command.ensures.set
+    (subst (λ k. list_in after ≡ list_after R (left_to (record { places = places_of x.places.items k; order = x.order.items }) (world_of (λ v. (g.dyn-1.0.entry v).1) c.begin_command.new.store)) c.args.command)
+    c.forget_failed.ensures.same c.dispatch-finished.ensures.list)
 
 pub returns-clause-no_trace : goal.returns-clause-no_trace
 returns-clause-no_trace g c = c.end_last-ticks.ensures.frames

@@ -1,7 +1,7 @@
 use Rattle.std.proofs.Common.{refl, None}
 use Rattle.ang_heap.specs.Globals.{values_in}
 use Rattle.ang_heap.specs.Stores.{world_of}
-use Rattle.ang_engine.specs.Engines.{registrations, world_in}
+use Rattle.ang_engine.specs.Engines.{list_in, registrations, world_in}
 use Rattle.ang_engine.specs.Sound.{IsSoundPlace}
 use Rattle.ang_engine_modules.proofs.Worlds.{zip_length}
 use Rattle.ang_engine.proofs.Kept.{nothing_built, added_sound, added_globals, added_counted}
@@ -21,7 +21,7 @@ returns-clause-applied g c =
     let s = c.args.self.now.machine.store in
     let w = world_of (λ v. (g.dyn-1.0.entry v).1) s in
     let a = c.add_module-done in
-    applied-done (λ v. (g.dyn-1.0.entry v).1) (registrations c.args.self.now) (world_in (λ v. (g.dyn-1.0.entry v).1) c.args.self.now) _ s (record s { globals = a.new.globals }) _ _
+    applied-done (λ v. (g.dyn-1.0.entry v).1) (list_in c.args.self.now) (world_in (λ v. (g.dyn-1.0.entry v).1) c.args.self.now) _ s (record s { globals = a.new.globals }) _ _
     a.result c.ended.result refl c.ended.ensures.exact c.answer.ensures.exact (a.ensures.done w)
     (record { drivers = c.requires.sound.kept.drivers; alive = c.requires.sound.kept.alive; none = c.requires.sound.kept.none; due = c.requires.sound.kept.due; tallied = c.requires.sound.kept.tallied })
     (added_counted c.args.self.now.modules a.new.list (values_in s.globals) (values_in a.new.globals) c.args.name a.result w a.ensures.taken a.ensures.globals_unchanged c.requires.sound.counted) refl

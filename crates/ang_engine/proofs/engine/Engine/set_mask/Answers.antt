@@ -1,7 +1,7 @@
 use Rattle.std.proofs.Common.{refl, None}
 use Rattle.ang_heap.specs.Globals.{values_in}
 use Rattle.ang_heap.specs.Stores.{world_of}
-use Rattle.ang_engine.specs.Engines.{registrations, world_in}
+use Rattle.ang_engine.specs.Engines.{list_in, registrations, world_in}
 use Rattle.ang_engine.proofs.Kept.{kept_sound, kept_globals}
 use Rattle.ang_engine.proofs.Whole.{applied-without}
 use Rattle.ang_engine.proofs.Limiting.{within_none, within_reply}
@@ -11,7 +11,7 @@ use Rattle.ang_engine.proofs.engine.Engine.set_mask.Goals as goal
 pub returns-clause-applied : goal.returns-clause-applied
 returns-clause-applied g c =
     let s = c.args.self.now.machine.store in
-    applied-without (λ v. (g.dyn-1.0.entry v).1) (registrations c.args.self.now) (world_in (λ v. (g.dyn-1.0.entry v).1) c.args.self.now) _ s s _ _
+    applied-without (λ v. (g.dyn-1.0.entry v).1) (list_in c.args.self.now) (world_in (λ v. (g.dyn-1.0.entry v).1) c.args.self.now) _ s s _ _
     c.set_mask-done.result c.ended.result refl c.ended.ensures.exact c.answer.ensures.exact (c.set_mask-done.ensures.done (world_of (λ v. (g.dyn-1.0.entry v).1) s))
     c.requires.sound.kept c.requires.sound.counted refl
 

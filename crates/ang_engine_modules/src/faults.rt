@@ -21,6 +21,8 @@ fn is_failed_start(why: Refusal) -> bool
         | Refusal::NoFunction
         | Refusal::NoImport
         | Refusal::SignatureDiffers
+        | Refusal::NoGroup
+        | Refusal::InUse
         | Refusal::NotCallable
         | Refusal::BadArguments
         | Refusal::Memory => false,
