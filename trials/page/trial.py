@@ -10,6 +10,7 @@ import traceback
 
 from browser import Browser
 from controls import try_controls, try_overflow
+from groups import try_groups
 from masks import try_modules, try_registrations, try_views
 from running import try_profiles, try_runs, try_share, try_traces
 from safety import try_safety
@@ -17,7 +18,7 @@ from served import Served
 from speed import try_newcomer, try_speed
 
 PARTS = {
-    "registrations": try_registrations, "views": try_views, "modules": try_modules, "runs": try_runs, "traces": try_traces,
+    "registrations": try_registrations, "groups": try_groups, "views": try_views, "modules": try_modules, "runs": try_runs, "traces": try_traces,
     "share": try_share,
     "profiles": try_profiles, "controls": try_controls, "overflow": try_overflow, "speed": try_speed,
     "newcomer": try_newcomer, "safety": try_safety,
