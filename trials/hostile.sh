@@ -4,7 +4,7 @@
 #     trials/hostile.sh [ASRUN [ASREMOTE [PART..]]]
 #
 # ASRUN and ASREMOTE are the programs: those that `rt ci`, or `rt run` in their crates, leave at crates/asrun/out/asrun and
-# crates/asremote/out/asremote, if none are named. All of it runs with 8 MiB of stack (`ulimit -s 8192`) if nothing else is
+# crates/asremote/out/asremote, if none are named; their files have to be called asrun and asremote. All of it runs with 8 MiB of stack (`ulimit -s 8192`) if nothing else is
 # said. The parts, all of them if none is named:
 #
 #     deep      the deepest section of each kind, and the least stack with which it still builds; and deeper ones, which are
@@ -41,4 +41,5 @@ for program in "$asrun" "$asremote"; do
 done
 ulimit -c 0
 ulimit -s 8192
+[ "$(basename "$asrun") $(basename "$asremote")" = "asrun asremote" ] || { echo "hostile.sh: the programs have to be called asrun and asremote" >&2; exit 2; }
 exec python3 trials/hostile.py "$asrun" "$asremote" "$@"

@@ -166,33 +166,33 @@ module _ (V : RegistrationList) (names : Names) where
       member_judged class f own bases l l a a (constructor x ps left u ss right)
       (λ before h. constructor_left f l l before x ps left u ss right (still_none f.constructors l.constructors.now (length (filter is_constructor_tree before)) none h.constructors) refl h)
       (λ before h. let i = length (filter is_constructor_tree before) in let c = class.number in
-      adds_same a a [] (judged V names (a_constructor c i class.text.now x own bases u ss) ++ [])
-      (ap (λ o. judged_constructor V names c class.text.now x (base_name V names c class.text.now own bases) (base_of V names c) u ss o ++ [])
+      adds_same a a [] (judged V names (a_constructor c i class.text.now x own bases u ss right) ++ [])
+      (ap (λ o. judged_constructor V names c class.text.now x (base_name V names c class.text.now own bases) (base_of V names c) u ss right o ++ [])
       (constructor_found c i f None is.family (none_left f.constructors l.constructors.now i none h.constructors))) (adds_none a))
 
   pub constructor_judged : (class : OfClass) (f : Family) (own : Token) (bases : List BaseName) (l k : MembersLeft) (a c : Found) (m : ScriptConstructor) (w : Within) (s : BodyContext)
       (x : Token) (ps : Params) (left : Token) (u : Option SuperTree) (ss : Stmts) (right : Token)
       → IsOf V names class f own bases → l.constructors.now ≡ m ∷ k.constructors.now → k.methods.now ≡ l.methods.now
       → w ≡ within_of V names class.number false → s ≡ context_in V names class.text.now (Some w)
-      → Noted a c (of_member class.text.now (constructor_typing s w m.function x class.base_name class.base u ss))
+      → Noted a c (of_member class.text.now (constructor_typing s w m.function x class.base_name class.base u ss right))
       → JudgesMembers V names class f own bases l k a c (constructor x ps left u ss right ∷ [])
   constructor_judged class f own bases l k a c m w s x ps left u ss right is split methods in_class in_context n =
       let d = class.number in
       let v = within_of V names d false in
-      let first : Noted a c (of_member class.text.now (constructor_typing (context_in V names class.text.now (Some w)) w m.function x class.base_name class.base u ss)) =
-      subst (λ (q : BodyContext). Noted a c (of_member class.text.now (constructor_typing q w m.function x class.base_name class.base u ss))) in_context n in
-      let second : Noted a c (of_member class.text.now (constructor_typing (context_in V names class.text.now (Some v)) v m.function x class.base_name class.base u ss)) =
-      subst (λ (q : Within). Noted a c (of_member class.text.now (constructor_typing (context_in V names class.text.now (Some q)) q m.function x class.base_name class.base u ss))) in_class first in
-      let third : Noted a c (of_member class.text.now (constructor_typing (context_in V names class.text.now (Some v)) v m.function x (base_name V names d class.text.now own bases) class.base u ss)) =
-      subst (λ (q : Token). Noted a c (of_member class.text.now (constructor_typing (context_in V names class.text.now (Some v)) v m.function x q class.base u ss))) is.name second in
-      let j : Judgement = of_member class.text.now (constructor_typing (context_in V names class.text.now (Some v)) v m.function x (base_name V names d class.text.now own bases) (base_of V names d) u ss) in
+      let first : Noted a c (of_member class.text.now (constructor_typing (context_in V names class.text.now (Some w)) w m.function x class.base_name class.base u ss right)) =
+      subst (λ (q : BodyContext). Noted a c (of_member class.text.now (constructor_typing q w m.function x class.base_name class.base u ss right))) in_context n in
+      let second : Noted a c (of_member class.text.now (constructor_typing (context_in V names class.text.now (Some v)) v m.function x class.base_name class.base u ss right)) =
+      subst (λ (q : Within). Noted a c (of_member class.text.now (constructor_typing (context_in V names class.text.now (Some q)) q m.function x class.base_name class.base u ss right))) in_class first in
+      let third : Noted a c (of_member class.text.now (constructor_typing (context_in V names class.text.now (Some v)) v m.function x (base_name V names d class.text.now own bases) class.base u ss right)) =
+      subst (λ (q : Token). Noted a c (of_member class.text.now (constructor_typing (context_in V names class.text.now (Some v)) v m.function x q class.base u ss right))) is.name second in
+      let j : Judgement = of_member class.text.now (constructor_typing (context_in V names class.text.now (Some v)) v m.function x (base_name V names d class.text.now own bases) (base_of V names d) u ss right) in
       let noted : Noted a c j =
-      subst (λ (q : Option ℕ). Noted a c (of_member class.text.now (constructor_typing (context_in V names class.text.now (Some v)) v m.function x (base_name V names d class.text.now own bases) q u ss))) is.base third in
+      subst (λ (q : Option ℕ). Noted a c (of_member class.text.now (constructor_typing (context_in V names class.text.now (Some v)) v m.function x (base_name V names d class.text.now own bases) q u ss right))) is.base third in
       member_judged class f own bases l k a c (constructor x ps left u ss right)
       (λ before h. constructor_left f l k before x ps left u ss right (rest_left f.constructors l.constructors.now k.constructors.now m (length (filter is_constructor_tree before)) split h.constructors) methods h)
       (λ before h. let i = length (filter is_constructor_tree before) in
-      adds_same a c (j ∷ []) (judged V names (a_constructor d i class.text.now x own bases u ss) ++ [])
-      (ap (λ o. judged_constructor V names d class.text.now x (base_name V names d class.text.now own bases) (base_of V names d) u ss o ++ [])
+      adds_same a c (j ∷ []) (judged V names (a_constructor d i class.text.now x own bases u ss right) ++ [])
+      (ap (λ o. judged_constructor V names d class.text.now x (base_name V names d class.text.now own bases) (base_of V names d) u ss right o ++ [])
       (constructor_found d i f (Some m) is.family (first_left f.constructors l.constructors.now k.constructors.now m i split h.constructors))) (adds_noted a c j noted))
 
   -- ---- the whole class

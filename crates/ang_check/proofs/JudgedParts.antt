@@ -185,7 +185,7 @@ module _ (V : RegistrationList) (names : Names) where
   member_of_none c text x bases e before (method access y z ps constant attributes b) =
       ap (λ o. judged_method V names c text z b (option_and_then (λ (f : Family). slice_get f.methods (length (filter is_method_tree before))) o) ++ []) e
   member_of_none c text x bases e before (constructor z ps left u ss right) =
-      ap (λ o. judged_constructor V names c text z (base_name V names c text x bases) (base_of V names c) u ss
+      ap (λ o. judged_constructor V names c text z (base_name V names c text x bases) (base_of V names c) u ss right
       (option_and_then (λ (f : Family). slice_get f.constructors (length (filter is_constructor_tree before))) o) ++ []) e
 
   members_of_none : (c : ℕ) (text : List ℕ) (x : Token) (bases : List BaseName) → slice_get names.families c ≡ None → (before members : List MemberTree)

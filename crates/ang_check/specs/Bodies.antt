@@ -42,7 +42,7 @@ pub data Part : Type 0 where
   a_function : ℕ → List ℕ → Token → Body → Part
   a_global : ℕ → List ℕ → TypeName → Init → Part
   a_method : ℕ → ℕ → List ℕ → Token → Body → Part
-  a_constructor : ℕ → ℕ → List ℕ → Token → Token → List BaseName → Option SuperTree → Stmts → Part
+  a_constructor : ℕ → ℕ → List ℕ → Token → Token → List BaseName → Option SuperTree → Stmts → Token → Part
   a_default : ℕ → List ℕ → Token → List BaseName → Part
 
 -- the initializers of a declaration of globals, before which `first` globals stand
@@ -62,7 +62,7 @@ abbrev pub member_parts : ℕ → List ℕ → Token → List BaseName → List 
 member_parts c text own bases before (fields a y names semicolon) = []
 member_parts c text own bases before (method a y x ps constant attributes b) = a_method c (length (filter is_method_tree before)) text x b ∷ []
 member_parts c text own bases before (constructor x ps left s ss right) =
-    a_constructor c (length (filter is_constructor_tree before)) text x own bases s ss ∷ []
+    a_constructor c (length (filter is_constructor_tree before)) text x own bases s ss right ∷ []
 
 -- A class without a constructor has a part of its own, which stands in front of its members.
 abbrev pub class_parts : ℕ → List ℕ → Token → List BaseName → List MemberTree → List Part
@@ -154,17 +154,17 @@ module _ (V : RegistrationList) (names : Names) where
   abbrev pub constructor_at : ℕ → ℕ → Option ScriptConstructor
   constructor_at c k = option_and_then (λ (f : Family). slice_get f.constructors k) (slice_get names.families c)
 
-  abbrev pub judged_constructor : ℕ → List ℕ → Token → Token → Option ℕ → Option SuperTree → Stmts → Option ScriptConstructor → List Judgement
-  judged_constructor c text x base b u ss None = []
-  judged_constructor c text x base b u ss (Some k) =
-      let w = within_of c false in of_member text (constructor_typing (context_in text (Some w)) w k.function x base b u ss) ∷ []
+  abbrev pub judged_constructor : ℕ → List ℕ → Token → Token → Option ℕ → Option SuperTree → Stmts → Token → Option ScriptConstructor → List Judgement
+  judged_constructor c text x base b u ss close None = []
+  judged_constructor c text x base b u ss close (Some k) =
+      let w = within_of c false in of_member text (constructor_typing (context_in text (Some w)) w k.function x base b u ss close) ∷ []
 
   abbrev pub judged : Part → List Judgement
   judged (a_function n text x b) = judged_function text x b (slice_get names.functions n)
   judged (a_global n text y i) = judged_global text y i (slice_get names.globals n)
   judged (a_method c m text x b) = judged_method c text x b (method_at c m)
-  judged (a_constructor c k text x own bases u ss) =
-      judged_constructor c text x (base_name c text own bases) (base_of c) u ss (constructor_at c k)
+  judged (a_constructor c k text x own bases u ss close) =
+      judged_constructor c text x (base_name c text own bases) (base_of c) u ss close (constructor_at c k)
   judged (a_default c text x bases) = of_default text (implicit_super names x.place (base_name c text x bases) (base_of c)) ∷ []
 
   unfoldable pub judgements : List Source → List Judgement
@@ -284,9 +284,10 @@ module _ (V : RegistrationList) (names : Names) (sources : List Source) (p : t.P
     pub bases : List BaseName
     pub super : Option SuperTree
     pub tree : Stmts
-    pub written : Contains (parts_of sources) (a_constructor c m text name own bases super tree)
+    pub close : Token
+    pub written : Contains (parts_of sources) (a_constructor c m text name own bases super tree close)
     pub typed : let w = within_of V names c false in
-        IsBody x.body (constructor_typing (context_in V names text (Some w)) w x.function name (base_name V names c text own bases) (base_of V names c) super tree)
+        IsBody x.body (constructor_typing (context_in V names text (Some w)) w x.function name (base_name V names c text own bases) (base_of V names c) super tree close)
 
   -- Each body of the names has the function at its number that was typed of its own tree.
   pub record HasBodies : Type 0 where

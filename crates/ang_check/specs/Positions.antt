@@ -1,15 +1,10 @@
 -- Where the statements of a constructor stand.
-use Rattle.std.specs.Prelude.{ℕ, List, [], ◌∷◌, ◌++◌, map, Option, Some, None, Ok}
+use Rattle.std.specs.Prelude.{ℕ, List, [], ◌∷◌, ◌++◌, Option, Some, None}
 use Rattle.ang_kinds.specs.declared.position.Position.{Position}
 use Rattle.ang_lex.specs.declared.token.Token.{Token}
 use Rattle.ang_tree.specs.Stmt.{Stmts}
 use Rattle.ang_tree.specs.Declarations.{SuperTree}
-use Rattle.ang_names_known.specs.declared.names.ScriptFunction.{ScriptFunction}
-use Rattle.ang_check_operators.specs.Refusals.{Typing, ◌>>=◌}
-use Rattle.ang_check_context.specs.declared.scope.Within.{Within}
-use Rattle.ang_check_context.specs.Scope.{BodyContext}
 use Rattle.ang_check_stmt.specs.Positions.{token_position, positions_of}
-use Rattle.ang_check.specs.Typing.{base_typing, parameter_local, this_local}
 
 -- the call of the base class's constructor: at `super`, or else at the constructor's own name
 abbrev pub base_position : Token → Option SuperTree → Position
@@ -24,9 +19,3 @@ base_positions (Some k) x u = base_position x u ∷ []
 -- That call, the statements, and, at the closing `}`, what gives the object back.
 abbrev pub constructor_positions : Option ℕ → Token → Option SuperTree → Stmts → Token → List Position
 constructor_positions base x u ss close = (base_positions base x u ++ positions_of ss) ++ (token_position close ∷ [])
-
--- of a constructor whose base class's is chosen as it is typed
-abbrev pub typed_positions : BodyContext → Within → ScriptFunction → Token → Token → Option ℕ → Option SuperTree → Stmts → Token → Typing (List Position)
-typed_positions s w f x base b u ss close = do
-  first ← base_typing s (this_local w ∷ map parameter_local f.params) x base b u
-  Ok (constructor_positions first.0 x u ss close)

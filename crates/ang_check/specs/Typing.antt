@@ -3,6 +3,7 @@
 use Rattle.std.specs.Prelude.{ℕ, Bool, true, false, ◌||◌, if◌then◌else◌, length, List, [], ◌∷◌, map, Option, Some, None, Ok, Err}
 use Rattle.ang_kinds.specs.declared.error.ErrorKind.TheVariants as kind
 use Rattle.ang_kinds.specs.declared.place.Place.{Place}
+use Rattle.ang_kinds.specs.declared.position.Position.{Position}
 use Rattle.ang_kinds.specs.declared.types.Pass.TheVariants as pass
 use Rattle.ang_lex.specs.declared.token.Token.{Token}
 use Rattle.ang_tree.specs.declared.type_name.TypeName.{TypeName}
@@ -27,6 +28,7 @@ use Rattle.ang_check_uses.specs.declared.uses.Called.TheVariants as calls
 use Rattle.ang_check_uses.specs.declared.uses.Resolution.{Resolution}
 use Rattle.ang_check_uses.specs.declared.uses.Resolution.TheVariants as resolution
 use Rattle.ang_check_stmt.specs.Paths.{body_ends}
+use Rattle.ang_check_stmt.specs.Positions.{inner_positions}
 use Rattle.ang_names_known.specs.Lookup.{is_read_only, default_of}
 use Rattle.ang_names_known.specs.Spaces.{family_type}
 use Rattle.ang_check_operators.specs.Operands.{Operand}
@@ -38,6 +40,7 @@ use Rattle.ang_check_context.specs.Scope.{BodyContext, scope_of}
 use Rattle.ang_check_typing.specs.Calls.{arguments_for}
 use Rattle.ang_check_typing.specs.Typing.{typing_of_args}
 use Rattle.ang_check_uses.specs.Uses.{best_of_those, makers_of, why}
+use Rattle.ang_check.specs.Positions.{constructor_positions}
 
 -- ---- parameters
 
@@ -69,8 +72,8 @@ is_void (type.Object n c) = false
 is_void (type.Handle n c) = false
 
 -- Every path through a function with a result has to end.
-abbrev pub ending : ArgType → Token → Bool → List TypedParameter → t.Stmts → Typing t.TypedFunction
-ending ty x ends ps ss = if ends || is_void ty then Ok (record { parameters = ps; result = ty; body = ss }) else Err (refused kind.NoReturn x)
+abbrev pub ending : ArgType → Token → Bool → List TypedParameter → List Position → t.Stmts → Typing t.TypedFunction
+ending ty x ends ps qs ss = if ends || is_void ty then Ok (record { parameters = ps; result = ty; body = ss; positions = qs }) else Err (refused kind.NoReturn x)
 
 abbrev pub frame_of : BodyContext → ArgType → List LocalVariable → FunctionContext
 frame_of s ty ps = record { context = s; returns = returns.Value ty; parameters = length ps }
@@ -80,14 +83,14 @@ unfoldable pub function_typing : BodyContext → ScriptFunction → Token → Bo
 function_typing s f x b =
     let ps = map parameter_local f.params in do
       ss ← block_typing (frame_of s f.result.ty ps) false ps b
-      ending f.result.ty x (body_ends b) (typed_parameters f) ss
+      ending f.result.ty x (body_ends b) (typed_parameters f) (inner_positions b) ss
 
 -- a method, whose first local is `this`
 unfoldable pub method_body_typing : BodyContext → Within → ScriptFunction → Token → Body → Typing t.TypedFunction
 method_body_typing s w f x b =
     let ps = this_local w ∷ map parameter_local f.params in do
       ss ← block_typing (frame_of s f.result.ty ps) false ps b
-      ending f.result.ty x (body_ends b) (this_parameter w ∷ typed_parameters f) ss
+      ending f.result.ty x (body_ends b) (this_parameter w ∷ typed_parameters f) (inner_positions b) ss
 
 -- ---- constructors
 
@@ -142,24 +145,29 @@ abbrev pub with_last : t.Stmts → t.Stmt → t.Stmts
 with_last t.end s = t.then s t.end
 with_last (t.then r ss) s = t.then r (with_last ss s)
 
-abbrev pub constructed : Within → ScriptFunction → Base → t.Stmts → t.TypedFunction
-constructed w f base ss = record {
+-- the base class's constructor, the statements, and the object is given back
+abbrev pub constructor_body : Within → Base → t.Stmts → t.Stmts
+constructor_body w base ss = base_call w base.0 base.1 (with_last ss (t.return (Some (own_object (own_type w)))))
+
+abbrev pub constructed : Within → ScriptFunction → Base → List Position → t.Stmts → t.TypedFunction
+constructed w f base qs ss = record {
   parameters = this_parameter w ∷ typed_parameters f;
   result = own_type w;
-  body = base_call w base.0 base.1 (with_last ss (t.return (Some (own_object (own_type w)))));
+  body = constructor_body w base ss;
+  positions = qs;
 }
 
 -- a constructor returns as a `void` function, and gives its object
 abbrev pub maker_frame : BodyContext → Within → List LocalVariable → FunctionContext
 maker_frame s w ps = record { context = s; returns = returns.Own (own_type w); parameters = length ps }
 
--- A constructor: `super`, then its statements, then it gives its object back.
-unfoldable pub constructor_typing : BodyContext → Within → ScriptFunction → Token → Token → Option ℕ → Option SuperTree → Stmts → Typing t.TypedFunction
-constructor_typing s w f x base b u ss =
+-- A constructor: `super`, then its statements, then, at its closing `}`, it gives its object back.
+unfoldable pub constructor_typing : BodyContext → Within → ScriptFunction → Token → Token → Option ℕ → Option SuperTree → Stmts → Token → Typing t.TypedFunction
+constructor_typing s w f x base b u ss close =
     let ps = this_local w ∷ map parameter_local f.params in do
       first ← base_typing s ps x base b u
       xs ← stmts_typing (maker_frame s w ps) false (length ps) ps ss
-      Ok (constructed w f first xs)
+      Ok (constructed w f first (constructor_positions first.0 x u ss close) xs)
 
 -- ---- globals
 

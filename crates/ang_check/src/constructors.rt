@@ -1,5 +1,5 @@
 //! Bodies of constructors, and the call of the base class's with which each begins.
-ghost use Rattle.std.specs.Prelude.{◌≡◌, ◌<◌, ◌∷◌, [], Some, option_map, IfOk, Ok, map as list_map};
+ghost use Rattle.std.specs.Prelude.{◌≡◌, ◌<◌, ◌∷◌, [], Some, option_map, IfOk, map as list_map};
 ghost use Rattle.ang_tree.specs.View as trees;
 ghost use Rattle.ang_typed.specs.Typed as tree;
 ghost use Rattle.ang_typed.specs.declared.expression.TypedCallee.TheVariants as callee;
@@ -388,6 +388,26 @@ fn constructor_positions(
     Ok(found)
 }
 
+/// The statements of a constructor: the call of the base class's, where one is written, its own, and what gives its object
+/// back.
+///
+/// The only error is want of memory.
+fn constructor_body(
+    alloc: Global,
+    within: Within,
+    base: BaseCall,
+    body: TypedBlock,
+) -> Result<TypedBlock, AllocError>
+    requires few { within.family < 256 }
+    ensures exact { IfOk result (λ b. view_block b
+        ≡ spec.constructor_body within (view_base base) (view_block body)) }
+{
+    let TypedBlock { statements } = body;
+    let statements = with_return(alloc, own_type(within), statements)?;
+    let statements = with_base(alloc, within, base, statements)?;
+    Ok(TypedBlock { statements })
+}
+
 /// A constructor of these parts.
 ///
 /// The only error is want of memory.
@@ -401,17 +421,15 @@ fn constructed(
 ) -> Result<TypedFunction, AllocError>
     requires few { within.family < 256 }
     ensures exact { IfOk result (λ f. view_function f
-        ≡ spec.constructed within function.now (view_base base) (view_block body)) }
-    ensures positions { IfOk result (λ f. f.positions ≡ positions.items) }
+        ≡ spec.constructed within function.now (view_base base) positions.items
+        (view_block body)) }
 {
-    let TypedBlock { statements } = body;
-    let statements = with_return(alloc, own_type(within), statements)?;
-    let statements = with_base(alloc, within, base, statements)?;
+    let body = constructor_body(alloc, within, base, body)?;
     let parameters = member_parameters(alloc, within, function)?;
     Ok(TypedFunction {
         parameters: List::from_vec(parameters),
         result: own_type(within),
-        body: TypedBlock { statements },
+        body,
         positions: List::from_vec(positions),
     })
 }
@@ -430,10 +448,6 @@ pub fn constructor_typing<'a>(
     requires few { within.family < 256 }
     ensures exact { Gives view_function result (spec.constructor_typing context.entry within
         function.now written.now.name base_name.now base
-        (option_map trees.view_super written.now.super_call)
-        (trees.view_stmts written.now.statements.items)) }
-    ensures positions { IfOk result (λ f. Ok f.positions ≡ places.typed_positions
-        context.entry within function.now written.now.name base_name.now base
         (option_map trees.view_super written.now.super_call)
         (trees.view_stmts written.now.statements.items) written.now.close) }
 {

@@ -3,7 +3,6 @@ ghost use Rattle.std.specs.Prelude.{◌≡◌, ◌<◌, ◌++◌, ◌∷◌, ◌
 ghost use Rattle.ang_tree.specs.View.{view_body, view_init};
 ghost use Rattle.ang_typed.specs.View.{view_block, view_function, view_global};
 ghost use Rattle.ang_check_operators.specs.Refusals.{Gives};
-ghost use Rattle.ang_check_stmt.specs.Positions.{inner_positions};
 ghost use Rattle.ang_check_stmt.specs.Typing.{block_typing};
 ghost use Rattle.ang_check.specs.Typing as spec;
 
@@ -159,8 +158,7 @@ fn ending(
     positions: Vec<Position>,
 ) -> Result<TypedFunction, TypingError>
     ensures exact { Gives view_function result
-        (spec.ending ty name.now ends parameters.items (view_block body)) }
-    ensures positions { IfOk result (λ f. f.positions ≡ positions.items) }
+        (spec.ending ty name.now ends parameters.items positions.items (view_block body)) }
 {
     if may_end(ends, ty) {
         Ok(TypedFunction {
@@ -211,7 +209,6 @@ pub fn function_typing<'a>(
 ) -> Result<TypedFunction, TypingError>
     ensures exact { Gives view_function result
         (spec.function_typing context.entry function.now name.now (view_body body.now)) }
-    ensures positions { IfOk result (λ f. f.positions ≡ inner_positions (view_body body.now)) }
 {
     let parameters = parameters_of(alloc, function)?;
     let positions = positions_of(alloc, body.statements.as_slice())?;
@@ -240,7 +237,6 @@ pub fn method_typing<'a>(
     requires few { within.family < 256 }
     ensures exact { Gives view_function result (spec.method_body_typing context.entry within
         function.now name.now (view_body body.now)) }
-    ensures positions { IfOk result (λ f. f.positions ≡ inner_positions (view_body body.now)) }
 {
     let parameters = member_parameters(alloc, within, function)?;
     let positions = positions_of(alloc, body.statements.as_slice())?;

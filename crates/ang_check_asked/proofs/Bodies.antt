@@ -2,6 +2,7 @@
 use Rattle.std.specs.Prelude.{ℕ, Bool, false, ◌||◌, length, List, [], ◌∷◌, map, Option, Some, None}
 use Rattle.std.proofs.Common.{refl}
 use Rattle.ang_kinds.specs.declared.place.Place.{Place}
+use Rattle.ang_kinds.specs.declared.position.Position.{Position}
 use Rattle.ang_lex.specs.declared.token.Token.{Token}
 use Rattle.ang_tree.specs.declared.type_name.TypeName.{TypeName}
 use Rattle.ang_tree.specs.Declarations.{SuperTree}
@@ -31,8 +32,8 @@ use Rattle.ang_check_asked.proofs.Expressions.{args_use}
 use Rattle.ang_check_asked.proofs.Statements.{BodyUses, here, none_here, then_here, block_use, statements_use}
 use Rattle.ang_check_asked.proofs.Variables.{initializer_uses}
 
-ending_silent : (ty : ArgType) (x : Token) (ends : Bool) (ps : List TypedParameter) (ss : t.Stmts) → Silent (ending ty x ends ps ss)
-ending_silent ty x ends ps ss = either_silent (ends || is_void ty) _ _ tt refl
+ending_silent : (ty : ArgType) (x : Token) (ends : Bool) (ps : List TypedParameter) (qs : List Position) (ss : t.Stmts) → Silent (ending ty x ends ps qs ss)
+ending_silent ty x ends ps qs ss = either_silent (ends || is_void ty) _ _ tt refl
 
 default_base_silent : (place : Place) (base : Token) (d : Default) → Silent (default_base place base d)
 default_base_silent place base default.Missing = refl
@@ -50,14 +51,14 @@ module _ (s : BodyContext) where
   function_use f x b =
       let ps = map parameter_local f.params in
       then_here s (block_typing (frame_of s f.result.ty ps) false ps b) _ (block_use (frame_of s f.result.ty ps) b false ps)
-      (λ ss. none_here s _ (ending_silent f.result.ty x _ (typed_parameters f) ss))
+      (λ ss. none_here s _ (ending_silent f.result.ty x _ (typed_parameters f) _ ss))
 
   pub method_use : (w : Within) (f : ScriptFunction) (x : Token) (b : Body) → BodyUses s (method_body_typing s w f x b)
   unfolding method_body_typing
   method_use w f x b =
       let ps = this_local w ∷ map parameter_local f.params in
       then_here s (block_typing (frame_of s f.result.ty ps) false ps b) _ (block_use (frame_of s f.result.ty ps) b false ps)
-      (λ ss. none_here s _ (ending_silent f.result.ty x _ (this_parameter w ∷ typed_parameters f) ss))
+      (λ ss. none_here s _ (ending_silent f.result.ty x _ (this_parameter w ∷ typed_parameters f) _ ss))
 
   -- ---- `super`
 
@@ -85,10 +86,10 @@ module _ (s : BodyContext) where
   base_use ps x base b None = none_here s (implicit_super s.names x.place base b) (implicit_silent s.names x.place base b)
   base_use ps x base b (Some u) = super_use ps b u
 
-  pub constructor_use : (w : Within) (f : ScriptFunction) (x base : Token) (b : Option ℕ) (u : Option SuperTree) (ss : Stmts)
-      → BodyUses s (constructor_typing s w f x base b u ss)
+  pub constructor_use : (w : Within) (f : ScriptFunction) (x base : Token) (b : Option ℕ) (u : Option SuperTree) (ss : Stmts) (close : Token)
+      → BodyUses s (constructor_typing s w f x base b u ss close)
   unfolding constructor_typing
-  constructor_use w f x base b u ss =
+  constructor_use w f x base b u ss close =
       let ps = this_local w ∷ map parameter_local f.params in
       then_here s (base_typing s ps x base b u) _ (base_use ps x base b u)
       (λ first. then_here s (stmts_typing (maker_frame s w ps) false (length ps) ps ss) _

@@ -1,6 +1,7 @@
 -- What holds of each item of a list.
-use Rattle.std.specs.Prelude.{List, [], ◌∷◌, ◌++◌, All, Option, Some, None, IfSome, option_to_list}
+use Rattle.std.specs.Prelude.{suc, Contains, List, [], ◌∷◌, ◌++◌, All, Option, Some, None, IfSome, option_to_list}
 use Rattle.std.specs.List.{cons_option, filter_map, flat_map}
+use Rattle.std.proofs.Common.{arith, refl}
 use Rattle.std.proofs.lemmas.List.Elements.{All-nil, All-cons}
 use Rattle.ang_tree.specs.Stmt.{Every}
 use Rattle.ang_names_known.specs.Items.{each_after, list_or}
@@ -40,3 +41,16 @@ every_or P (x ∷ xs) ys h k = h
 pub all_of_each : {A : Type 0} (P : A → Type 0) (xs : List A) → Every P xs → All P xs
 all_of_each P [] h = All-nil P
 all_of_each P (x ∷ xs) h = All-cons P x xs h.0 (all_of_each P xs h.1)
+
+-- ---- of a list's own items
+
+first_in : {A : Type 0} (x : A) (xs : List A) → Contains (x ∷ xs) x
+first_in x xs = (0, omega arith, refl)
+
+later_in : {A : Type 0} (y x : A) (xs : List A) → Contains xs x → Contains (y ∷ xs) x
+later_in y x xs c = (suc c.0, omega (arith, c.1), c.2)
+
+pub every_flat_in : {A B : Type 0} (P : B → Type 0) (f : A → List B) (xs : List A) → ((a : A) → Contains xs a → Every P (f a)) → Every P (flat_map f xs)
+every_flat_in P f [] g = tt
+every_flat_in P f (x ∷ xs) g =
+    every_joined P (f x) (flat_map f xs) (g x (first_in x xs)) (every_flat_in P f xs (λ a c. g a (later_in x a xs c)))

@@ -13,3 +13,10 @@ pub mod Declared
 pub mod Scripts
 pub mod SixKinds
 pub mod Told
+pub mod Trying
+pub mod TryingUses
+pub mod TryingTrees
+pub mod TryingBodies
+pub mod Wider
+pub mod Beyond
+pub mod Registering

@@ -70,20 +70,20 @@ module _ (V : RegistrationList) (names : Names) where
       let w = within_of V names c m.read_only in
       let s = context_in V names text (Some w) in (use_again s (method_body_typing s w m.function x b) (method_use s w m.function x b), tt)
 
-  constructor_again : (c : ℕ) (text : List ℕ) (x base : Token) (b : Option ℕ) (u : Option SuperTree) (ss : Stmts) (k : Option ScriptConstructor)
-      → Every Again (judged_constructor V names c text x base b u ss k)
-  constructor_again c text x base b u ss None = tt
-  constructor_again c text x base b u ss (Some k) =
+  constructor_again : (c : ℕ) (text : List ℕ) (x base : Token) (b : Option ℕ) (u : Option SuperTree) (ss : Stmts) (close : Token) (k : Option ScriptConstructor)
+      → Every Again (judged_constructor V names c text x base b u ss close k)
+  constructor_again c text x base b u ss close None = tt
+  constructor_again c text x base b u ss close (Some k) =
       let w = within_of V names c false in
       let s = context_in V names text (Some w) in
-      (use_again s (constructor_typing s w k.function x base b u ss) (constructor_use s w k.function x base b u ss), tt)
+      (use_again s (constructor_typing s w k.function x base b u ss close) (constructor_use s w k.function x base b u ss close), tt)
 
   part_again : (p : Part) → Every Again (judged V names p)
   part_again (a_function n text x b) = function_again text x b (slice_get names.functions n)
   part_again (a_global n text y i) = global_again text y i (slice_get names.globals n)
   part_again (a_method c m text x b) = method_again c text x b (method_at V names c m)
-  part_again (a_constructor c k text x own bases u ss) =
-      constructor_again c text x (base_name V names c text own bases) (base_of V names c) u ss (constructor_at V names c k)
+  part_again (a_constructor c k text x own bases u ss close) =
+      constructor_again c text x (base_name V names c text own bases) (base_of V names c) u ss close (constructor_at V names c k)
   part_again (a_default c text x bases) =
       let s = context_in V names text None in
       let base = implicit_super names x.place (base_name V names c text x bases) (base_of V names c) in

@@ -17,12 +17,13 @@ use Rattle.ang_names_known.specs.Spaces.{Space, type_of_name, is_family_type}
 use Rattle.ang_names_listed.specs.declared.role.TypePosition.{TypePosition}
 use Rattle.ang_names_listed.specs.declared.role.TypePosition.TheVariants as role
 use Rattle.ang_lex.specs.Text.{text_of}
+use Rattle.ang_check_asked.specs.Asked.{refuses_use}
 use Rattle.ang_names_listed.specs.Types.{TypeOrError, ◌and_then◌, without_handle, object_type, written_type, no_void, no_object, taken_in, changed, passed, crossing, is_by_value, cast_to, admitted, type_in}
 
--- where a name that means this is refused as an unknown type
+-- where a name that means this is refused as an unknown type; each other refusal is none of a use
 abbrev pub IfUnknown : Named → ErrorKind → Type 0
 IfUnknown d UnknownType = d ≡ named.Unknown
-IfUnknown d _ = Unit {0}
+IfUnknown d why = refuses_use why ≡ false
 
 abbrev Refuses : Named → TypeOrError → Type 0
 Refuses d x = IfErr x (IfUnknown d)
@@ -33,7 +34,7 @@ then_refused d (Err why) f h g = h
 
 without_refused : (d : Named) (t : ArgType) (h : Option Handle) → Refuses d (without_handle t h)
 without_refused d t None = tt
-without_refused d t (Some h) = tt
+without_refused d t (Some h) = refl
 
 object_refused : (d : Named) (constant : Bool) (h : Option Handle) → Refuses d (object_type d constant h)
 object_refused named.Unknown constant h = refl
@@ -54,7 +55,7 @@ module _ (d : Named) where
   either_type false x y h k = k
 
   void_refused : (t : ArgType) → Refuses d (no_void t)
-  void_refused type.Void = tt
+  void_refused type.Void = refl
   void_refused type.Null = tt
   void_refused (type.Plain p) = tt
   void_refused (type.Enumeration n) = tt
@@ -66,7 +67,7 @@ module _ (d : Named) where
   value_refused type.Null = tt
   value_refused (type.Plain p) = tt
   value_refused (type.Enumeration n) = tt
-  value_refused (type.Object n c) = tt
+  value_refused (type.Object n c) = refl
   value_refused (type.Handle n c) = tt
 
   taken_refused : (t : ArgType) → Refuses d (taken_in t)
@@ -74,16 +75,16 @@ module _ (d : Named) where
   taken_refused type.Null = tt
   taken_refused (type.Plain p) = tt
   taken_refused (type.Enumeration n) = tt
-  taken_refused (type.Object n c) = either_type c (Ok (type.Object n c)) (Err ByValue) tt tt
+  taken_refused (type.Object n c) = either_type c (Ok (type.Object n c)) (Err ByValue) tt refl
   taken_refused (type.Handle n c) = tt
 
   changed_refused : (t : ArgType) → Refuses d (changed t)
-  changed_refused type.Void = tt
-  changed_refused type.Null = tt
-  changed_refused (type.Plain p) = tt
-  changed_refused (type.Enumeration n) = tt
+  changed_refused type.Void = refl
+  changed_refused type.Null = refl
+  changed_refused (type.Plain p) = refl
+  changed_refused (type.Enumeration n) = refl
   changed_refused (type.Object n c) = tt
-  changed_refused (type.Handle n c) = tt
+  changed_refused (type.Handle n c) = refl
 
   passed_refused : (p : Pass) (t : ArgType) → Refuses d (passed p t)
   passed_refused pass.Value t = value_refused t
@@ -93,17 +94,17 @@ module _ (d : Named) where
 
   crossing_refused : (by_value : Bool) (t : ArgType) → Refuses d (crossing by_value t)
   crossing_refused by_value type.Void = tt
-  crossing_refused by_value type.Null = tt
-  crossing_refused by_value (type.Plain p) = either_type by_value (Ok (type.Plain p)) (Err BadImport) tt tt
-  crossing_refused by_value (type.Enumeration n) = either_type by_value (Ok (type.Enumeration n)) (Err BadImport) tt tt
-  crossing_refused by_value (type.Object n c) = tt
-  crossing_refused by_value (type.Handle n c) = either_type (is_family_type n) (Err BadImport) (Ok (type.Handle n c)) tt tt
+  crossing_refused by_value type.Null = refl
+  crossing_refused by_value (type.Plain p) = either_type by_value (Ok (type.Plain p)) (Err BadImport) tt refl
+  crossing_refused by_value (type.Enumeration n) = either_type by_value (Ok (type.Enumeration n)) (Err BadImport) tt refl
+  crossing_refused by_value (type.Object n c) = refl
+  crossing_refused by_value (type.Handle n c) = either_type (is_family_type n) (Err BadImport) (Ok (type.Handle n c)) refl tt
 
   cast_refused : (t : ArgType) → Refuses d (cast_to t)
-  cast_refused type.Void = tt
-  cast_refused type.Null = tt
-  cast_refused (type.Plain p) = tt
-  cast_refused (type.Enumeration n) = tt
+  cast_refused type.Void = refl
+  cast_refused type.Null = refl
+  cast_refused (type.Plain p) = refl
+  cast_refused (type.Enumeration n) = refl
   cast_refused (type.Object n c) = tt
   cast_refused (type.Handle n c) = tt
 

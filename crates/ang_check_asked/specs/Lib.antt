@@ -1,2 +1,4 @@
 pub mod Asked
+pub mod Beyond
+pub mod Registered
 pub mod Rows

@@ -8,11 +8,10 @@ use Rattle.ang_view.specs.Hidden.{hidden, hidden_entry, is_hidden, seen_with}
 use Rattle.ang_view.specs.Registration.{RegistrationList, entry_at, is_seen, seen, seen_entry}
 use Rattle.ang_view.proofs.Seen.{entry_at-seen}
 use Rattle.ang_names_known.specs.Items.{is_empty}
-use Rattle.ang_names_known.specs.Lookup.{is_declared}
 use Rattle.ang_check_uses.specs.Uses.{functions_of, resolution_of}
 use Rattle.ang_check_contest.specs.Scopes.{Scope}
 use Rattle.ang_check_denials.specs.Added.{adds, is_joined, named_with}
-use Rattle.ang_check_denials.specs.Denials.{helps, is_bare, is_call, is_function_entry, is_taken, means_entry, stays}
+use Rattle.ang_check_denials.specs.Denials.{helps, is_bare, is_call, is_function_entry, is_own, is_taken, means_entry, stays}
 use Rattle.ang_check_denials.proofs.Meaning.{adds_means}
 
 -- ---- names that stay the script's
@@ -33,15 +32,15 @@ taken_or false w true = refl
 taken_or false w false = refl
 
 stays_is : (s : Scope) (r : Refused) (a : Asks) (o : Option Entry) (joined : Bool) → joined ≡ is_joined s r.error.name a
-    → stays s r a o ≡ (if joined && is_function_entry o then false else is_taken s.names r a)
+    → stays s r a o ≡ (if joined && is_function_entry o then false else is_taken s r a)
 stays_is s r a o joined e =
-    let own = is_declared s.names.declared r.error.name || r.is_there in
+    let own = is_own s r a in
     ap (λ t. is_bare a && (own && not t)) (regrouped (is_call a) (is_function_entry o) (is_empty (functions_of s r.error.name)))
     ∙ sym (ap (λ j. is_bare a && (own && not (j && is_function_entry o))) e)
     ∙ taken_or (is_bare a) own (joined && is_function_entry o)
 
 -- as it is told from whether the name is taken
-stays_as : (s : Scope) (r : Refused) (a : Asks) (o : Option Entry) (joined taken told : Bool) → joined ≡ is_joined s r.error.name a → taken ≡ is_taken s.names r a
+stays_as : (s : Scope) (r : Refused) (a : Asks) (o : Option Entry) (joined taken told : Bool) → joined ≡ is_joined s r.error.name a → taken ≡ is_taken s r a
     → told ≡ (if joined && is_function_entry o then false else taken) → told ≡ stays s r a o
 stays_as s r a o joined taken told j t e =
     e ∙ ap (λ b. if joined && is_function_entry o then false else b) t ∙ sym (stays_is s r a o joined j)
@@ -98,12 +97,12 @@ taken_helps_not R m s r a x e =
 
 -- the same by what is told of the name
 pub kept_helps_not : (R : RegistrationList) (m : ℕ) (s : Scope) (r : Refused) (a : Asks) (x : ℕ) (joined taken told : Bool) → joined ≡ is_joined s r.error.name a
-    → taken ≡ is_taken s.names r a → told ≡ (if joined && is_function_entry (entry_at R x) then false else taken) → told ≡ true → helps R m s r a x ≡ false
+    → taken ≡ is_taken s r a → told ≡ (if joined && is_function_entry (entry_at R x) then false else taken) → told ≡ true → helps R m s r a x ≡ false
 kept_helps_not R m s r a x joined taken told j t e kept =
     taken_helps_not R m s r a x (sym (stays_as s r a (entry_at R x) joined taken told j t e) ∙ kept)
 
 pub free_helps_is : (R : RegistrationList) (m : ℕ) (s : Scope) (r : Refused) (a : Asks) (x : ℕ) (joined taken told : Bool) → joined ≡ is_joined s r.error.name a
-    → taken ≡ is_taken s.names r a → told ≡ (if joined && is_function_entry (entry_at R x) then false else taken) → told ≡ false → s.view ≡ seen R m → x < 1024
+    → taken ≡ is_taken s r a → told ≡ (if joined && is_function_entry (entry_at R x) then false else taken) → told ≡ false → s.view ≡ seen R m → x < 1024
     → is_hidden R m x ≡ true → adds R s r.error.name x (named_with R m s x r.error.name) a ≡ helps R m s r a x
 free_helps_is R m s r a x joined taken told j t e free view lt there =
     helps_is R m s r a x view lt there (sym (stays_as s r a (entry_at R x) joined taken told j t e) ∙ free)

@@ -16,9 +16,11 @@ use Rattle.ang_check_uses.specs.declared.uses.Called.{Called}
 use Rattle.ang_check_uses.specs.declared.uses.Called.TheVariants as calls
 use Rattle.ang_check_uses.specs.declared.uses.Resolution.{Resolution}
 use Rattle.ang_check_uses.specs.declared.uses.Resolution.TheVariants as resolution
-use Rattle.ang_names_known.specs.declared.names.Names.{Names}
+use Rattle.ang_names_known.specs.declared.space.Named.{Named}
+use Rattle.ang_names_known.specs.declared.space.Named.TheVariants as named
 use Rattle.ang_names_known.specs.Lookup.{is_declared}
 use Rattle.ang_names_known.specs.Items.{is_empty}
+use Rattle.ang_names_known.specs.Spaces.{space_of_names, type_of_name}
 use Rattle.ang_check_uses.specs.Uses.{resolution_of, functions_of}
 use Rattle.ang_check_contest.specs.Scopes.{Scope}
 
@@ -76,13 +78,35 @@ is_function_entry (Some x) = is_function x.kind
 abbrev pub joins : Scope → Refused → Asks → Option Entry → Bool
 joins s r a x = is_call a && (is_function_entry x && not (is_empty (functions_of s r.error.name)))
 
--- A name that the script declares, or has there as a local or a member, stays the script's, but that a function joins functions of it.
-abbrev pub stays : Scope → Refused → Asks → Option Entry → Bool
-stays s r a x = is_bare a && ((is_declared s.names.declared r.error.name || r.is_there) && not (joins s r a x))
+-- a type is found
+abbrev pub is_known : Named → Bool
+is_known named.Unknown = false
+is_known (named.Object n) = true
+is_known (named.Enumeration n) = true
 
--- the use is one of a bare name that the script has
-abbrev pub is_taken : Names → Refused → Asks → Bool
-is_taken names r a = is_bare a && (is_declared names.declared r.error.name || r.is_there)
+-- The use means a type that is seen, by its name, whatever local or member has the name too: a call of such a name, and a declaration that
+-- makes an object.
+abbrev pub is_of_type : Scope → List ℕ → Asks → Bool
+is_of_type s name asks.Value = false
+is_of_type s name asks.Type = false
+is_of_type s name asks.Enumeration = false
+is_of_type s name (asks.Call args) = is_known (type_of_name (space_of_names s.view s.names) name)
+is_of_type s name (asks.Make n args) = true
+is_of_type s name (asks.Default n) = true
+is_of_type s name (asks.Property n) = false
+is_of_type s name (asks.Method n c args) = false
+
+-- the script declares the name, or has it there as a local or a member, where the use means no seen type
+abbrev pub is_own : Scope → Refused → Asks → Bool
+is_own s r a = is_declared s.names.declared r.error.name || (r.is_there && not (is_of_type s r.error.name a))
+
+-- A bare name that is the script's own stays so, but that a function joins functions of it.
+abbrev pub stays : Scope → Refused → Asks → Option Entry → Bool
+stays s r a x = is_bare a && (is_own s r a && not (joins s r a x))
+
+-- the use is one of a bare name that is the script's own
+abbrev pub is_taken : Scope → Refused → Asks → Bool
+is_taken s r a = is_bare a && is_own s r a
 
 -- ---- the rows
 

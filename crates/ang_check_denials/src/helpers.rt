@@ -3,7 +3,7 @@ ghost use Rattle.std.specs.Prelude.{◌≡◌, ◌<◌, ◌≤◌, ◌||◌, ◌
 ghost use Rattle.ang_view.specs.Hidden.{numbers_of};
 ghost use Rattle.ang_view.specs.Registration.{entry_at, seen};
 ghost use Rattle.ang_types.specs.Rivals.{AreRivals};
-ghost use Rattle.ang_names_known.specs.Lookup as lookup;
+ghost use Rattle.ang_names_known.specs.Spaces as spaces;
 ghost use Rattle.ang_check_denials.specs.Added as added;
 ghost use Rattle.ang_check_denials.specs.Denials as spec;
 ghost use Rattle.ang_check_denials.specs.Names as names;
@@ -15,7 +15,7 @@ use crate::sought::help_row;
 use ang_check_contest::Scope;
 use ang_index::Index;
 use ang_kinds::EntityNo;
-use ang_names_known::Names;
+use ang_names_known::{Named, Space};
 use ang_types::{Asks, Refused};
 use ang_view::{EntryKind, View};
 use std::alloc::{AllocError, Global};
@@ -35,12 +35,42 @@ fn is_bare(asks: &Asks) -> bool
     }
 }
 
-/// Whether the name is one that the script has: it declares it, or it is there as a local or a member.
-fn is_own(names: &Names, refused: &Refused) -> bool
-    ensures exact { result ≡ (lookup.is_declared names.now.declared refused.now.error.name
-        || refused.now.is_there) }
+/// What the name means as a type.
+fn type_named(scope: &Scope<'_>, name: &[u8]) -> Named
+    ensures exact { result
+        ≡ spaces.type_of_name (spaces.space_of_names scope.now.view scope.now.names) name.now }
 {
-    names.is_declared(refused.error.name.as_slice()) || refused.is_there
+    let space = Space::of_names(scope.view(), scope.names());
+    space.named(name)
+}
+
+fn is_known(named: Named) -> bool
+    ensures exact { result ≡ spec.is_known named }
+{
+    match named {
+        Named::Unknown => false,
+        Named::Object(_) | Named::Enumeration(_) => true,
+    }
+}
+
+/// Whether the use means a type that is seen, whatever local or member has its name too.
+fn is_of_type(scope: &Scope<'_>, name: &[u8], asks: &Asks) -> bool
+    ensures exact { result ≡ spec.is_of_type scope.now name.now asks.now }
+{
+    match asks {
+        Asks::Call(_) => is_known(type_named(scope, name)),
+        Asks::Make(_, _) | Asks::Default(_) => true,
+        Asks::Value | Asks::Type | Asks::Enumeration | Asks::Property(_) | Asks::Method(_, _, _) =>
+            false,
+    }
+}
+
+/// Whether the name is the script's own: it declares it, or has it there as a local or a member, where no seen type is meant.
+fn is_own(scope: &Scope<'_>, refused: &Refused, asks: &Asks) -> bool
+    ensures exact { result ≡ spec.is_own scope.now refused.now asks.now }
+{
+    let name = refused.error.name.as_slice();
+    scope.names().is_declared(name) || (refused.is_there && !is_of_type(scope, name, asks))
 }
 
 fn is_function_entry(whole: &View, number: u32) -> bool
@@ -52,11 +82,11 @@ fn is_function_entry(whole: &View, number: u32) -> bool
     }
 }
 
-/// Whether the name is used as a bare one, and the script has it.
-fn is_taken(names: &Names, refused: &Refused, asks: &Asks) -> bool
-    ensures exact { result ≡ spec.is_taken names.now refused.now asks.now }
+/// Whether the name is used as a bare one, and is the script's own.
+fn is_taken(scope: &Scope<'_>, refused: &Refused, asks: &Asks) -> bool
+    ensures exact { result ≡ spec.is_taken scope.now refused.now asks.now }
 {
-    is_bare(asks) && is_own(names, refused)
+    is_bare(asks) && is_own(scope, refused, asks)
 }
 
 /// Whether the name stays the script's, which has it if it is taken, though an entry is added.
@@ -71,7 +101,7 @@ fn stays(masked: &Masked<'_>, joined: bool, taken: bool, number: u32) -> bool
 }
 
 /// Whether a use means a hidden entry once it is added, with its types, to what is seen.
-#[tactic(auto, using(crate::proofs::Helping::free_helps_is, crate::proofs::Helping::seen_helps_not, crate::proofs::Helping::kept_helps_not))]
+#[tactic(auto, using(crate::proofs::Helping::seen_helps_not, crate::proofs::Helping::kept_helps_not))]
 fn helps(
     alloc: Global,
     masked: &Masked<'_>,
@@ -83,7 +113,7 @@ fn helps(
     number: u32,
 ) -> Result<bool, AllocError>
     requires view { scope.now.view ≡ seen masked.now.list masked.now.mask }
-    requires taken { taken ≡ spec.is_taken scope.now.names refused.now asks.now }
+    requires taken { taken ≡ spec.is_taken scope.now refused.now asks.now }
     requires rivals { AreRivals beside.now.rivals scope.now.ancestors
         (added.candidates_for scope.now refused.now.error.name asks.now) beside.now.types.items }
     requires types { beside.now.types.items ≡ added.types_of asks.now }
@@ -141,7 +171,7 @@ fn helper_at(
     number: u32,
 ) -> Result<Option<u32>, AllocError>
     requires view { scope.now.view ≡ seen masked.now.list masked.now.mask }
-    requires taken { taken ≡ spec.is_taken scope.now.names refused.now asks.now }
+    requires taken { taken ≡ spec.is_taken scope.now refused.now asks.now }
     requires rivals { AreRivals beside.now.rivals scope.now.ancestors
         (added.candidates_for scope.now refused.now.error.name asks.now) beside.now.types.items }
     requires types { beside.now.types.items ≡ added.types_of asks.now }
@@ -198,7 +228,7 @@ fn helpers_among(
         return Ok(numbers);
     }
     let beside = beside_of(alloc, masked, scope, refused.error.name.as_slice(), asks)?;
-    let taken = is_taken(scope.names(), refused, asks);
+    let taken = is_taken(scope, refused, asks);
     for number in row {
         let helper = helper_at(
             alloc, masked, scope, refused, asks, &beside, taken, count, *number,

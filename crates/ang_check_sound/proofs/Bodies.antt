@@ -4,6 +4,7 @@ use Rattle.std.proofs.Common.{refl, sym, ◌∙◌, subst, arith}
 use Rattle.std.proofs.lemmas.List.{length-map}
 use Rattle.ang_kinds.specs.declared.error.ErrorKind.TheVariants as kind
 use Rattle.ang_kinds.specs.declared.place.Place.{Place}
+use Rattle.ang_kinds.specs.declared.position.Position.{Position}
 use Rattle.ang_kinds.specs.declared.types.Pass.TheVariants as pass
 use Rattle.ang_lex.specs.declared.token.Token.{Token}
 use Rattle.ang_tree.specs.declared.type_name.TypeName.{TypeName}
@@ -57,8 +58,8 @@ pub record IsOf (ps : List TypedParameter) (ty : ArgType) (g : t.TypedFunction) 
 abbrev pub IsGlobal : ScriptGlobal → t.Global → Type 0
 IsGlobal g x = x.ty ≡ g.written.ty
 
-ending_declared : (ty : ArgType) (x : Token) (ends : Bool) (ps : List TypedParameter) (ss : t.Stmts) → IfOk (ending ty x ends ps ss) (IsOf ps ty)
-ending_declared ty x ends ps ss = either_holds (IsOf ps ty) (ends || is_void ty) _ _ (record { parameters = refl; result = refl }) tt
+ending_declared : (ty : ArgType) (x : Token) (ends : Bool) (ps : List TypedParameter) (qs : List Position) (ss : t.Stmts) → IfOk (ending ty x ends ps qs ss) (IsOf ps ty)
+ending_declared ty x ends ps qs ss = either_holds (IsOf ps ty) (ends || is_void ty) _ _ (record { parameters = refl; result = refl }) tt
 
 pub function_declared : (s : BodyContext) (f : ScriptFunction) (x : Token) (b : Body)
     → IfOk (function_typing s f x b) (IsOf (typed_parameters f) f.result.ty)
@@ -66,7 +67,7 @@ unfolding function_typing
 function_declared s f x b =
     let ps = map parameter_local f.params in
     holds (λ (ss : t.Stmts). Unit {0}) (IsOf (typed_parameters f) f.result.ty) (block_typing (frame_of s f.result.ty ps) false ps b) _ (any _)
-    (λ ss h. ending_declared f.result.ty x _ (typed_parameters f) ss)
+    (λ ss h. ending_declared f.result.ty x _ (typed_parameters f) _ ss)
 
 pub method_declared : (s : BodyContext) (w : Within) (f : ScriptFunction) (x : Token) (b : Body)
     → IfOk (method_body_typing s w f x b) (IsOf (with_this w f) f.result.ty)
@@ -74,12 +75,12 @@ unfolding method_body_typing
 method_declared s w f x b =
     let ps = this_local w ∷ map parameter_local f.params in
     holds (λ (ss : t.Stmts). Unit {0}) (IsOf (with_this w f) f.result.ty) (block_typing (frame_of s f.result.ty ps) false ps b) _ (any _)
-    (λ ss h. ending_declared f.result.ty x _ (with_this w f) ss)
+    (λ ss h. ending_declared f.result.ty x _ (with_this w f) _ ss)
 
-pub constructor_declared : (s : BodyContext) (w : Within) (f : ScriptFunction) (x base : Token) (b : Option ℕ) (u : Option SuperTree) (ss : Stmts)
-    → IfOk (constructor_typing s w f x base b u ss) (λ g. g.parameters ≡ with_this w f)
+pub constructor_declared : (s : BodyContext) (w : Within) (f : ScriptFunction) (x base : Token) (b : Option ℕ) (u : Option SuperTree) (ss : Stmts) (close : Token)
+    → IfOk (constructor_typing s w f x base b u ss close) (λ g. g.parameters ≡ with_this w f)
 unfolding constructor_typing
-constructor_declared s w f x base b u ss =
+constructor_declared s w f x base b u ss close =
     let ps = this_local w ∷ map parameter_local f.params in
     holds (λ (first : Base). Unit {0}) (λ (g : t.TypedFunction). g.parameters ≡ with_this w f) (base_typing s ps x base b u) _ (any _)
     (λ first h. holds (λ (xs : t.Stmts). Unit {0}) (λ (g : t.TypedFunction). g.parameters ≡ with_this w f)
@@ -92,9 +93,9 @@ global_declared s g y i =
 
 -- ---- soundness
 
-ending_sound : (M : Module) (ty : ArgType) (x : Token) (ends : Bool) (ps : List TypedParameter) (ss : t.Stmts) → SoundStatements M false (length ps) ss
-    → IfOk (ending ty x ends ps ss) (SoundFunction M)
-ending_sound M ty x ends ps ss h = either_holds (SoundFunction M) (ends || is_void ty) _ _ h tt
+ending_sound : (M : Module) (ty : ArgType) (x : Token) (ends : Bool) (ps : List TypedParameter) (qs : List Position) (ss : t.Stmts) → SoundStatements M false (length ps) ss
+    → IfOk (ending ty x ends ps qs ss) (SoundFunction M)
+ending_sound M ty x ends ps qs ss h = either_holds (SoundFunction M) (ends || is_void ty) _ _ h tt
 
 -- a parameter as a local for each
 as_many : (f : ScriptFunction) → length (map parameter_local f.params) ≡ length (typed_parameters f)
@@ -112,7 +113,7 @@ module _ (s : BodyContext) (built : IsBuiltContext s) (outside : s.within ≡ No
       let ps = map parameter_local f.params in
       holds (SoundStatements (Here s) false (length ps)) (SoundFunction (Here s)) (block_typing (frame_of s f.result.ty ps) false ps b) _
       (block_sound (frame_of s f.result.ty ps) built tt b false ps (no_this (length ps)))
-      (λ ss h. ending_sound (Here s) f.result.ty x _ (typed_parameters f) ss (subst (λ n. SoundStatements (Here s) false n ss) (as_many f) h))
+      (λ ss h. ending_sound (Here s) f.result.ty x _ (typed_parameters f) _ ss (subst (λ n. SoundStatements (Here s) false n ss) (as_many f) h))
 
   -- an initializer has no locals
   pub global_sound : (g : ScriptGlobal) (y : TypeName) (i : Init) → IfOk (global_typing s g y i) (λ x. SoundOption (Here s) 0 x.initializer)
@@ -200,17 +201,17 @@ module _ (s : BodyContext) (built : IsBuiltContext s) (w : Within) (inside : s.w
       let ps = this_local w ∷ map parameter_local f.params in
       holds (SoundStatements (Here s) false (length ps)) (SoundFunction (Here s)) (block_typing (frame_of s f.result.ty ps) false ps b) _
       (block_sound (frame_of s f.result.ty ps) built tt b false ps (has_this (length (map parameter_local f.params))))
-      (λ ss h. ending_sound (Here s) f.result.ty x _ (with_this w f) ss (subst (λ n. SoundStatements (Here s) false (suc n) ss) (as_many f) h))
+      (λ ss h. ending_sound (Here s) f.result.ty x _ (with_this w f) _ ss (subst (λ n. SoundStatements (Here s) false (suc n) ss) (as_many f) h))
 
-  pub constructor_sound : (f : ScriptFunction) (x base : Token) (b : Option ℕ) (u : Option SuperTree) (ss : Stmts)
-      → IfOk (constructor_typing s w f x base b u ss) (SoundFunction (Here s))
+  pub constructor_sound : (f : ScriptFunction) (x base : Token) (b : Option ℕ) (u : Option SuperTree) (ss : Stmts) (close : Token)
+      → IfOk (constructor_typing s w f x base b u ss close) (SoundFunction (Here s))
   unfolding constructor_typing
-  constructor_sound f x base b u ss =
+  constructor_sound f x base b u ss close =
       let ps = this_local w ∷ map parameter_local f.params in
       let n = length (map parameter_local f.params) in
       holds (IsBase s built (suc n)) (SoundFunction (Here s)) (base_typing s ps x base b u) _ (base_sound s built ps x base b u (has_this n))
       (λ first hf. holds (SoundStatements (Here s) false (suc n)) (SoundFunction (Here s)) (stmts_typing (maker_frame s w ps) false (length ps) ps ss) _
       (statements_sound (maker_frame s w ps) built (subst (CanReturn (returns.Own (own_type w))) (sym inside) tt) ss false (length ps) ps (has_this n))
-      (λ xs h. subst (λ m. SoundStatements (Here s) false (suc m) (constructed w f first xs).body) (as_many f)
+      (λ xs h. subst (λ m. SoundStatements (Here s) false (suc m) (constructed w f first [] xs).body) (as_many f)
       (base_called s built (suc n) w first.0 first.1 _ (omega arith) hf
       (with_last_sound (Here s) (suc n) xs (t.return (Some (own_object (own_type w)))) h (λ m more. let alive : 0 < m = omega (arith, more) in alive)))))

@@ -23,5 +23,9 @@ pub mod Standing
 pub mod Built
 pub mod Program
 pub mod Soundness
+pub mod Counted
 pub mod DeclaredTypes
 pub mod SeenUses
+pub mod PlacesTrees
+pub mod PlacesParts
+pub mod PlacesProgram

@@ -59,7 +59,7 @@ module _ (V : RegistrationList) (names : Names) (total : ℕ) where
   AreNumbered i g j (a_function n text x b ∷ ps) = (n ≡ i) × IsPartOf V names (a_function n text x b) × AreNumbered (i + 1) g j ps
   AreNumbered i g j (a_global n text y init ∷ ps) = (n ≡ g) × IsPartOf V names (a_global n text y init) × AreNumbered i (g + 1) j ps
   AreNumbered i g j (a_method c m text x b ∷ ps) = IsMethod V names j c m text x × AreNumbered i g (j + 1) ps
-  AreNumbered i g j (a_constructor c m text x own bases u ss ∷ ps) = IsConstructor V names j c m text x × AreNumbered i g (j + 1) ps
+  AreNumbered i g j (a_constructor c m text x own bases u ss close ∷ ps) = IsConstructor V names j c m text x × AreNumbered i g (j + 1) ps
   AreNumbered i g j (a_default c text x bases ∷ ps) = IsPartOf V names (a_default c text x bases) × AreNumbered i g j ps
 
 -- ---- members that are listed
@@ -112,7 +112,8 @@ module _ (parts : List Part) (c : ℕ) where
     pub bases : List BaseName
     pub super : Option SuperTree
     pub tree : Stmts
-    pub written : Contains parts (a_constructor c m text name own bases super tree)
+    pub close : Token
+    pub written : Contains parts (a_constructor c m text name own bases super tree close)
 
   abbrev pub IsConstructorWritten : ℕ → ScriptConstructor → Type 0
   IsConstructorWritten m y = ConstructorPart m
@@ -267,7 +268,7 @@ module _ (V : RegistrationList) (names : Names) (E : Space) (all : List (ScriptF
   constructors_written parts before (constructor z params left u ss right ∷ rest) listed inside =
       let tree = constructor z params left u ss right in
       let new : ListedMember = record { name = z; access = access.Public; kind = member.Constructor params.items } in (
-        record { text = text; name = z; own = x; bases = bases; super = u; tree = ss; written = inside _ (has_first _ _) },
+        record { text = text; name = z; own = x; bases = bases; super = u; tree = ss; close = right; written = inside _ (has_first _ _) },
         subst (λ n. EachFrom (IsConstructorWritten parts c) n (constructors_from (listed ++ new ∷ []) (flat_map members_by rest)))
             (sym (counted is_constructor_tree before tree refl))
             (constructors_written parts (before ++ tree ∷ []) rest (listed ++ new ∷ []) (λ p h. inside p (has_later _ _ p h))),

@@ -310,7 +310,7 @@ module _ (V : RegistrationList) (names : Names) where
   each_belongs many i g j (a_function n text x b ∷ ps) h = (h.1, each_belongs many (i + 1) g j ps h.2)
   each_belongs many i g j (a_global n text y init ∷ ps) h = (h.1, each_belongs many i (g + 1) j ps h.2)
   each_belongs many i g j (a_method c m text x b ∷ ps) h = ((h.0.method, h.0.there, h.0.name, h.0.place), each_belongs many i g (j + 1) ps h.1)
-  each_belongs many i g j (a_constructor c m text x own bases u ss ∷ ps) h =
+  each_belongs many i g j (a_constructor c m text x own bases u ss close ∷ ps) h =
       ((h.0.constructor, h.0.there, h.0.name, h.0.place), each_belongs many i g (j + 1) ps h.1)
   each_belongs many i g j (a_default c text x bases ∷ ps) h = (h.0, each_belongs many i g j ps h.1)
 
@@ -318,8 +318,8 @@ module _ (V : RegistrationList) (names : Names) where
   one_judged (a_function n text x b) h = ap (λ (f : Option ScriptFunction). length (judged_function V names text x b f)) h.1
   one_judged (a_global n text y i) h = ap (λ (g : Option ScriptGlobal). length (judged_global V names text y i g)) h.1
   one_judged (a_method c m text x b) h = ap (λ (y : Option ScriptMethod). length (judged_method V names c text x b y)) h.1
-  one_judged (a_constructor c m text x own bases u ss) h =
-      ap (λ (k : Option ScriptConstructor). length (judged_constructor V names c text x (base_name V names c text own bases) (base_of V names c) u ss k)) h.1
+  one_judged (a_constructor c m text x own bases u ss close) h =
+      ap (λ (k : Option ScriptConstructor). length (judged_constructor V names c text x (base_name V names c text own bases) (base_of V names c) u ss close k)) h.1
   one_judged (a_default c text x bases) h = refl
 
   each_judged : (ps : List Part) → Every (IsPartOf V names) ps → length (flat_map (judged V names) ps) ≡ length ps

@@ -180,14 +180,14 @@ module _ (V : RegistrationList) (names : Names) where
       let w = within_of V names c z.read_only in
       member_more total i g j text (method_body_typing (context_in V names text (Some w)) w z.function x b) js listed clean r
 
-  by_constructor : (total i g j c : ℕ) (text : List ℕ) (x base : Token) (bn : Option ℕ) (u : Option SuperTree) (ss : Stmts) (o : Option ScriptConstructor) (y : ScriptConstructor)
+  by_constructor : (total i g j c : ℕ) (text : List ℕ) (x base : Token) (bn : Option ℕ) (u : Option SuperTree) (ss : Stmts) (close : Token) (o : Option ScriptConstructor) (y : ScriptConstructor)
       (js : List Judgement) → o ≡ Some y → list_any (has_number (number_of V names j)) (bodies_of names) ≡ true
-      → Clean (judged_constructor V names c text x base bn u ss o ++ js)
-      → Given total i g (j + 1) js → Given total i g j (judged_constructor V names c text x base bn u ss o ++ js)
-  by_constructor total i g j c text x base bn u ss None y js e listed clean r = cc
-  by_constructor total i g j c text x base bn u ss (Some z) y js e listed clean r =
+      → Clean (judged_constructor V names c text x base bn u ss close o ++ js)
+      → Given total i g (j + 1) js → Given total i g j (judged_constructor V names c text x base bn u ss close o ++ js)
+  by_constructor total i g j c text x base bn u ss close None y js e listed clean r = cc
+  by_constructor total i g j c text x base bn u ss close (Some z) y js e listed clean r =
       let w = within_of V names c false in
-      member_more total i g j text (constructor_typing (context_in V names text (Some w)) w z.function x base bn u ss) js listed clean r
+      member_more total i g j text (constructor_typing (context_in V names text (Some w)) w z.function x base bn u ss close) js listed clean r
 
   all_given : (total i g j : ℕ) (ps : List Part) → AreNumbered V names total i g j ps → Clean (J ps) → Given total i g j (J ps)
   all_given total i g j [] h clean = record {
@@ -209,10 +209,10 @@ module _ (V : RegistrationList) (names : Names) where
   all_given total i g j (a_method c m text x b ∷ ps) h clean =
       by_method total i g j c text x b (method_at V names c m) h.0.method (J ps) h.0.there (method_listed j c m text x h.0) clean
       (all_given total i g (j + 1) ps h.1 (none_behind (judged V names (a_method c m text x b)) (J ps) clean))
-  all_given total i g j (a_constructor c m text x own bases u ss ∷ ps) h clean =
-      by_constructor total i g j c text x (base_name V names c text own bases) (base_of V names c) u ss (constructor_at V names c m) h.0.constructor (J ps)
+  all_given total i g j (a_constructor c m text x own bases u ss close ∷ ps) h clean =
+      by_constructor total i g j c text x (base_name V names c text own bases) (base_of V names c) u ss close (constructor_at V names c m) h.0.constructor (J ps)
       h.0.there (constructor_listed j c m text x h.0) clean
-      (all_given total i g (j + 1) ps h.1 (none_behind (judged V names (a_constructor c m text x own bases u ss)) (J ps) clean))
+      (all_given total i g (j + 1) ps h.1 (none_behind (judged V names (a_constructor c m text x own bases u ss close)) (J ps) clean))
   all_given total i g j (a_default c text x bases ∷ ps) h clean =
       default_more total i g j text _ (J ps) clean
       (all_given total i g j ps h.1 (none_behind (judged V names (a_default c text x bases)) (J ps) clean))
@@ -229,10 +229,10 @@ module _ (V : RegistrationList) (names : Names) where
         (y : ScriptMethod) × (h : t.TypedFunction) × (k : ℕ) × (method_at V names c m ≡ Some y)
         × (method_body_typing (context_in V names text (Some (within_of V names c y.read_only))) (within_of V names c y.read_only) y.function x b ≡ Ok h)
         × (y.body ≡ Some k) × (slice_get (functions ++ members) k ≡ Some h)
-    Sits (a_constructor c m text x own bases u ss) =
+    Sits (a_constructor c m text x own bases u ss close) =
         (y : ScriptConstructor) × (h : t.TypedFunction) × (constructor_at V names c m ≡ Some y)
         × (constructor_typing (context_in V names text (Some (within_of V names c false))) (within_of V names c false) y.function x
-        (base_name V names c text own bases) (base_of V names c) u ss ≡ Ok h)
+        (base_name V names c text own bases) (base_of V names c) u ss close ≡ Ok h)
         × (slice_get (functions ++ members) y.body ≡ Some h)
     Sits (a_default c text x bases) = Unit {0}
 
@@ -284,18 +284,18 @@ module _ (V : RegistrationList) (names : Names) where
           (y, next.0, number_of V names j, h.0.there, next.1, h.0.body, next.2),
           all_sit total i g (j + 1) ps h.1 (none_behind (judged V names (a_method c m text x code)) (J ps) clean) next.3,
         )
-    all_sit total i g j (a_constructor c m text x own bases u ss ∷ ps) h clean b =
+    all_sit total i g j (a_constructor c m text x own bases u ss close ∷ ps) h clean b =
         let y = h.0.constructor in
         let w = within_of V names c false in
         let base = base_name V names c text own bases in
-        let typing = constructor_typing (context_in V names text (Some w)) w y.function x base (base_of V names c) u ss in
+        let typing = constructor_typing (context_in V names text (Some w)) w y.function x base (base_of V names c) u ss close in
         let js : List Judgement = of_member text typing ∷ J ps in
-        let same : J (a_constructor c m text x own bases u ss ∷ ps) ≡ js =
-        ap (λ (o : Option ScriptConstructor). judged_constructor V names c text x base (base_of V names c) u ss o ++ J ps) h.0.there in
+        let same : J (a_constructor c m text x own bases u ss close ∷ ps) ≡ js =
+        ap (λ (o : Option ScriptConstructor). judged_constructor V names c text x base (base_of V names c) u ss close o ++ J ps) h.0.there in
         let next = next_member j text typing (J ps) (subst Clean same clean)
         (subst (λ (l : List Judgement). Behind t.TypedFunction j members (filter_map member_given l)) same b) in (
           (y, next.0, h.0.there, next.1, subst (λ k. slice_get (functions ++ members) k ≡ Some next.0) (sym h.0.body) next.2),
-          all_sit total i g (j + 1) ps h.1 (none_behind (judged V names (a_constructor c m text x own bases u ss)) (J ps) clean) next.3,
+          all_sit total i g (j + 1) ps h.1 (none_behind (judged V names (a_constructor c m text x own bases u ss close)) (J ps) clean) next.3,
         )
     all_sit total i g j (a_default c text x bases ∷ ps) h clean b = (
       tt,
@@ -368,7 +368,7 @@ module _ (V : RegistrationList) (names : Names) (sources : List Source) (p : t.P
       let written = at_number (IsFamilyWritten (parts_of sources)) c names.families family.0 has.written family.1 in
       let part = at_number (IsConstructorWritten (parts_of sources) c) m family.0.constructors x written.constructors family.2 in
       let s = each_has (Sits V names functions members count) (parts_of sources)
-      (a_constructor c m part.text part.name part.own part.bases part.super part.tree) sit part.written in
+      (a_constructor c m part.text part.name part.own part.bases part.super part.tree part.close) sit part.written in
       let same : s.0 ≡ x = same_Some s.0 x (sym s.2 ∙ e) in
       record {
         text = part.text;
@@ -377,10 +377,11 @@ module _ (V : RegistrationList) (names : Names) (sources : List Source) (p : t.P
         bases = part.bases;
         super = part.super;
         tree = part.tree;
+        close = part.close;
         written = part.written;
         typed = subst (λ (y : ScriptConstructor). (h : t.TypedFunction)
             × (constructor_typing (context_in V names part.text (Some (within_of V names c false))) (within_of V names c false) y.function part.name
-            (base_name V names c part.text part.own part.bases) (base_of V names c) part.super part.tree ≡ Ok h)
+            (base_name V names c part.text part.own part.bases) (base_of V names c) part.super part.tree part.close ≡ Ok h)
             × (slice_get p.functions y.body ≡ Some h)) same (s.1, s.3, at_tree s.0.body s.1 s.4);
       }
 
@@ -416,11 +417,11 @@ module _ (V : RegistrationList) (names : Names) (sources : List Source) (p : t.P
         let b = constructor_is c m y (ap (option_and_then (λ (g : Family). slice_get g.constructors m)) e ∙ at) in
         let w = within_of V names c false in
         let base = base_name V names c b.text b.own b.bases in
-        let typing = constructor_typing (context_in V names b.text (Some w)) w y.function b.name base (base_of V names c) b.super b.tree in (
+        let typing = constructor_typing (context_in V names b.text (Some w)) w y.function b.name base (base_of V names c) b.super b.tree b.close in (
           b.typed.0,
           in_tree y.body b.typed.0 b.typed.2,
           typed_as (with_this w y.function) typing b.typed.0 b.typed.1
-              (constructor_declared (context_in V names b.text (Some w)) w y.function b.name base (base_of V names c) b.super b.tree),
+              (constructor_declared (context_in V names b.text (Some w)) w y.function b.name base (base_of V names c) b.super b.tree b.close),
         );
   }
 

@@ -2,6 +2,7 @@
 use Rattle.std.specs.Prelude.{◌≡◌, ℕ, zero, suc, ◌+◌, ◌≤◌, ◌<◌, ◌||◌, All, Bool, true, false, List, [], ◌∷◌, ◌++◌, length, map, option_and_then, Option, Some, None, IfSome, is_some, Ok, Err, IfOk, slice_get}
 use Rattle.std.specs.List.{filter_map, flat_map}
 use Rattle.std.proofs.Common.{ap, sym, subst, arith}
+use Rattle.ang_kinds.specs.declared.position.Position.{Position}
 use Rattle.ang_kinds.specs.declared.types.Pass.{Pass}
 use Rattle.ang_lex.specs.declared.token.Token.{Token}
 use Rattle.ang_view.specs.declared.entry.EntryKind.{EntryKind}
@@ -39,6 +40,7 @@ use Rattle.ang_check_context.specs.declared.scope.Within.{Within}
 use Rattle.ang_check_context.specs.Names.{own_type}
 use Rattle.ang_check_context.specs.Scope.{BodyContext}
 use Rattle.ang_check_stmt.specs.Paths.{body_ends}
+use Rattle.ang_check_stmt.specs.Positions.{inner_positions}
 use Rattle.ang_check_stmt.specs.Typing.{initializer_typing, block_typing, stmts_typing}
 use Rattle.ang_check.specs.Typing.{typed_parameter, typed_parameters, parameter_local, this_local, this_parameter, is_void, ending, frame_of, maker_frame, base_typing, function_typing, method_body_typing, constructor_typing, global_typing}
 use Rattle.ang_check.specs.Bodies.{Part, a_function, a_global, a_method, a_constructor, a_default, parts_of, Judgement, of_function, of_global, of_member, of_default, context_in, within_of, base_of, base_name, judged_function, judged_global, method_at, judged_method, constructor_at, judged_constructor, judged, judgements, given, function_given, member_given, global_given, body_refusals, typed_class, method_heading, import_heading, program_of}
@@ -116,15 +118,15 @@ module _ (V : RegistrationList) (few : length V ≤ first_family) where
   parameters_seen : (f : ScriptFunction) → FunctionHas (IsSeenType V) f → Every (IsSeenTyped V) (typed_parameters f)
   parameters_seen f h = every_mapped (ParameterHas (IsSeenType V)) (IsSeenTyped V) typed_parameter f.params (λ p k. k) h.params
 
-  ending_seen : (ty : ArgType) (x : Token) (ends : Bool) (ps : List TypedParameter) (ss : t.Stmts) → AreSeenTypes V ps ty → IfOk (ending ty x ends ps ss) (HasSeenTypes V)
-  ending_seen ty x ends ps ss h = either_holds (HasSeenTypes V) (ends || is_void ty) _ _ h tt
+  ending_seen : (ty : ArgType) (x : Token) (ends : Bool) (ps : List TypedParameter) (qs : List Position) (ss : t.Stmts) → AreSeenTypes V ps ty → IfOk (ending ty x ends ps qs ss) (HasSeenTypes V)
+  ending_seen ty x ends ps qs ss h = either_holds (HasSeenTypes V) (ends || is_void ty) _ _ h tt
 
   function_seen : (c : BodyContext) (f : ScriptFunction) (x : Token) (b : Body) → FunctionHas (IsSeenType V) f → IfOk (function_typing c f x b) (HasSeenTypes V)
   unfolding function_typing
   function_seen c f x b h =
       let ps = map parameter_local f.params in
       let typing = block_typing (frame_of c f.result.ty ps) false ps b in
-      holds (λ ss. Unit {0}) (HasSeenTypes V) typing _ (any typing) (λ ss k. ending_seen f.result.ty x (body_ends b) (typed_parameters f) ss (parameters_seen f h, h.result))
+      holds (λ ss. Unit {0}) (HasSeenTypes V) typing _ (any typing) (λ ss k. ending_seen f.result.ty x (body_ends b) (typed_parameters f) (inner_positions b) ss (parameters_seen f h, h.result))
 
   method_seen : (c : BodyContext) (w : Within) (f : ScriptFunction) (x : Token) (b : Body) → FunctionHas (IsSeenType V) f → IfOk (method_body_typing c w f x b) (HasSeenTypes V)
   unfolding method_body_typing
@@ -132,12 +134,12 @@ module _ (V : RegistrationList) (few : length V ≤ first_family) where
       let ps = this_local w ∷ map parameter_local f.params in
       let typing = block_typing (frame_of c f.result.ty ps) false ps b in
       holds (λ ss. Unit {0}) (HasSeenTypes V) typing _ (any typing)
-      (λ ss k. ending_seen f.result.ty x (body_ends b) (this_parameter w ∷ typed_parameters f) ss ((own_seen w, parameters_seen f h), h.result))
+      (λ ss k. ending_seen f.result.ty x (body_ends b) (this_parameter w ∷ typed_parameters f) (inner_positions b) ss ((own_seen w, parameters_seen f h), h.result))
 
-  constructor_seen : (c : BodyContext) (w : Within) (f : ScriptFunction) (x base : Token) (b : Option ℕ) (u : Option SuperTree) (ss : Stmts) → FunctionHas (IsSeenType V) f
-      → IfOk (constructor_typing c w f x base b u ss) (HasSeenTypes V)
+  constructor_seen : (c : BodyContext) (w : Within) (f : ScriptFunction) (x base : Token) (b : Option ℕ) (u : Option SuperTree) (ss : Stmts) (close : Token) → FunctionHas (IsSeenType V) f
+      → IfOk (constructor_typing c w f x base b u ss close) (HasSeenTypes V)
   unfolding constructor_typing
-  constructor_seen c w f x base b u ss h =
+  constructor_seen c w f x base b u ss close h =
       let ps = this_local w ∷ map parameter_local f.params in
       let first = base_typing c ps x base b u in
       let rest = stmts_typing (maker_frame c w ps) false (length ps) ps ss in
@@ -166,11 +168,11 @@ module _ (V : RegistrationList) (few : length V ≤ first_family) where
     one_method c text x b (Some m) h =
         let w = within_of V names c m.read_only in (method_seen (context_in V names text (Some w)) w m.function x b h, tt)
 
-    one_constructor : (c : ℕ) (text : List ℕ) (x base : Token) (n : Option ℕ) (u : Option SuperTree) (ss : Stmts) (o : Option ScriptConstructor) → IfSome o (ConstructorHas (IsSeenType V))
-        → Every (GivesSeenTypes V) (judged_constructor V names c text x base n u ss o)
-    one_constructor c text x base n u ss None h = tt
-    one_constructor c text x base n u ss (Some k) h =
-        let w = within_of V names c false in (constructor_seen (context_in V names text (Some w)) w k.function x base n u ss h, tt)
+    one_constructor : (c : ℕ) (text : List ℕ) (x base : Token) (n : Option ℕ) (u : Option SuperTree) (ss : Stmts) (close : Token) (o : Option ScriptConstructor) → IfSome o (ConstructorHas (IsSeenType V))
+        → Every (GivesSeenTypes V) (judged_constructor V names c text x base n u ss close o)
+    one_constructor c text x base n u ss close None h = tt
+    one_constructor c text x base n u ss close (Some k) h =
+        let w = within_of V names c false in (constructor_seen (context_in V names text (Some w)) w k.function x base n u ss close h, tt)
 
     method_of : (m : ℕ) (o : Option Family) → IfSome o (FamilyHas (IsSeenType V)) → IfSome (option_and_then (λ (f : Family). slice_get f.methods m) o) (MethodHas (IsSeenType V))
     method_of m None h = tt
@@ -185,8 +187,8 @@ module _ (V : RegistrationList) (few : length V ≤ first_family) where
     part_seen (a_global n text y i) = one_global text y i (slice_get names.globals n) (every_get (GlobalHas (IsSeenType V)) names.globals n seen.globals)
     part_seen (a_method c m text x b) =
         one_method c text x b (method_at V names c m) (method_of m (slice_get names.families c) (every_get (FamilyHas (IsSeenType V)) names.families c seen.families))
-    part_seen (a_constructor c m text x own bases u ss) =
-        one_constructor c text x (base_name V names c text own bases) (base_of V names c) u ss (constructor_at V names c m)
+    part_seen (a_constructor c m text x own bases u ss close) =
+        one_constructor c text x (base_name V names c text own bases) (base_of V names c) u ss close (constructor_at V names c m)
         (constructor_of m (slice_get names.families c) (every_get (FamilyHas (IsSeenType V)) names.families c seen.families))
     part_seen (a_default c text x bases) = (tt, tt)
 

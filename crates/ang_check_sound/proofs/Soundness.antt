@@ -88,20 +88,20 @@ module _ (V : RegistrationList) (names : Names) (built : (text : List ℕ) (with
       let s = context_in V names text (Some w) in
       member_then text (method_body_typing s w y.function x b) js (method_sound s (built text (Some w)) w refl y.function x b) e r
 
-  one_constructor : (c : ℕ) (text : List ℕ) (x base : Token) (n : Option ℕ) (u : Option SuperTree) (ss : Stmts) (o : Option ScriptConstructor) (js : List Judgement)
-      → Clean (judged_constructor V names c text x base n u ss o ++ js) → AreSound js → AreSound (judged_constructor V names c text x base n u ss o ++ js)
-  one_constructor c text x base n u ss None js e r = r
-  one_constructor c text x base n u ss (Some k) js e r =
+  one_constructor : (c : ℕ) (text : List ℕ) (x base : Token) (n : Option ℕ) (u : Option SuperTree) (ss : Stmts) (close : Token) (o : Option ScriptConstructor) (js : List Judgement)
+      → Clean (judged_constructor V names c text x base n u ss close o ++ js) → AreSound js → AreSound (judged_constructor V names c text x base n u ss close o ++ js)
+  one_constructor c text x base n u ss close None js e r = r
+  one_constructor c text x base n u ss close (Some k) js e r =
       let w = within_of V names c false in
       let s = context_in V names text (Some w) in
-      member_then text (constructor_typing s w k.function x base n u ss) js (constructor_sound s (built text (Some w)) w refl k.function x base n u ss) e r
+      member_then text (constructor_typing s w k.function x base n u ss close) js (constructor_sound s (built text (Some w)) w refl k.function x base n u ss close) e r
 
   one_sound : (p : Part) (js : List Judgement) → Clean (judged V names p ++ js) → AreSound js → AreSound (judged V names p ++ js)
   one_sound (a_function n text x b) js e r = one_function text x b (slice_get names.functions n) js e r
   one_sound (a_global n text y i) js e r = one_global text y i (slice_get names.globals n) js e r
   one_sound (a_method c m text x b) js e r = one_method c text x b (method_at V names c m) js e r
-  one_sound (a_constructor c k text x own bases u ss) js e r =
-      one_constructor c text x (base_name V names c text own bases) (base_of V names c) u ss (constructor_at V names c k) js e r
+  one_sound (a_constructor c k text x own bases u ss close) js e r =
+      one_constructor c text x (base_name V names c text own bases) (base_of V names c) u ss close (constructor_at V names c k) js e r
   one_sound (a_default c text x bases) js e r =
       default_then text (implicit_super names x.place (base_name V names c text x bases) (base_of V names c)) js e r
 

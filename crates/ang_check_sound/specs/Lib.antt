@@ -3,3 +3,4 @@ pub mod Checked
 pub mod Parts
 pub mod Built
 pub mod Seen
+pub mod Placed

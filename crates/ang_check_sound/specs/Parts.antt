@@ -22,7 +22,7 @@ IsPartOf V names (a_global n text y i) =
     (g : ScriptGlobal) × (slice_get names.globals n ≡ Some g) × (g.written ≡ written_in (space_of_names V names) role.Variable text y)
 IsPartOf V names (a_method c m text x b) =
     (y : ScriptMethod) × (method_at V names c m ≡ Some y) × (y.function.name ≡ text_of text x) × (y.function.place ≡ x.place)
-IsPartOf V names (a_constructor c m text x own bases u ss) =
+IsPartOf V names (a_constructor c m text x own bases u ss close) =
     (k : ScriptConstructor) × (constructor_at V names c m ≡ Some k) × (k.function.name ≡ text_of text x) × (k.function.place ≡ x.place)
 IsPartOf V names (a_default c text x bases) =
     (f : Family) × (slice_get names.families c ≡ Some f) × (f.is_class ≡ true) × (f.constructors ≡ []) × (f.place ≡ x.place)

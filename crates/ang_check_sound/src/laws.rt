@@ -18,6 +18,7 @@ ghost use Rattle.ang_source.specs.Sound.{Sound, SoundProgram};
 ghost use Rattle.ang_check_sound.specs.Views.{Entitled};
 ghost use Rattle.ang_check_sound.specs.Checked.{module_in, HasNames};
 ghost use Rattle.ang_check_sound.specs.Parts.{IsPartOf};
+ghost use Rattle.ang_check_sound.specs.Placed.{StandsIn, ArePlaced, AreCounted};
 ghost use Rattle.ang_check_sound.specs.Built.{IsBuiltContext, HasThis};
 ghost use Rattle.ang_check_sound.specs.Seen.{SeesUses};
 
@@ -88,6 +89,22 @@ pub fn each_use_is_seen()
         → length V ≤ first_family
         → names ≡ names_of V (declarations_of sources)
         → body_refusals V names sources ≡ [] → SeesUses V (program_of V names sources) }
+{}
+
+/// Each function, method, constructor and global stands at a token of its section, and so does each statement of its body, in
+/// the same section.
+pub fn program_has_places()
+    ensures placed { (V : RegistrationList) (names : Names) (sources : List Source)
+        → names ≡ names_of V (declarations_of sources)
+        → body_refusals V names sources ≡ [] →
+        ArePlaced (StandsIn sources) names (program_of V names sources) }
+{}
+
+/// Each body has as many places as statements.
+pub fn each_statement_has_a_place()
+    ensures counted { (V : RegistrationList) (names : Names) (sources : List Source)
+        → names ≡ names_of V (declarations_of sources)
+        → body_refusals V names sources ≡ [] → AreCounted (program_of V names sources) }
 {}
 
 /// What the view of a mask has is registered, and the mask sees it.

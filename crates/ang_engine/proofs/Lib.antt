@@ -30,3 +30,4 @@ pub mod Checks
 pub mod Moved
 pub mod Lists
 pub mod LeavingGroups
+pub mod Traced

@@ -24,14 +24,14 @@ ghost use Rattle.ang_engine_modules.specs.Sound.{HasSameName, HaveGlobals};
 ghost use Rattle.ang_engine.specs.Prepared.{HaveMoved, replaced};
 ghost use Rattle.ang_engine.specs.Sound.{IsBuiltBy, IsSoundPlace, HaveDrivers, AreSoundModules, AreNumbered};
 ghost use Rattle.ang_engine_modules.specs.declared.command.Command.TheVariants as command;
-ghost use Rattle.ang_engine.specs.Step.{Leads, emptied, build};
+ghost use Rattle.ang_engine.specs.Step.{Leads, emptied, build, is_budget};
 ghost use Rattle.ang_engine_modules.specs.World.{module_at, module_in, left_to};
 
-use crate::budget::may_run;
 use crate::ending::end_globals;
 use ang_engine_build::{NoProgram, Program, build_sections, narrow};
 use ang_engine_modules::{
-    LoadedModule, Module, ModuleList, Modules, Refusal, WholeModule, find, put_globals,
+    KeptFailure, LoadedModule, Module, ModuleList, Modules, Refusal, WholeModule, find, put_failed,
+    put_globals,
 };
 use ang_host::{Driver, EventBuffer};
 use ang_kinds::{Denial, Error, Fault, List, Mask};
@@ -53,6 +53,16 @@ pub enum BuildRefused {
     Errors(List<Error>, List<Denial>),
     /// An initializer failed.
     Initializer(Fault),
+}
+
+/// The greatest budget, in ticks.
+const MOST_TICKS: u64 = 2_147_483_647;
+
+/// Whether a budget is within its bounds.
+pub fn may_run(budget: u64) -> bool
+    ensures exact { result ≡ is_budget budget }
+{
+    1 <= budget && budget <= MOST_TICKS
 }
 
 /// What a build is refused by that comes to no program.
@@ -210,6 +220,7 @@ fn load(
 fn start(
     alloc: Global,
     code: &mut Modules,
+    failed: &mut Option<KeptFailure>,
     machine: &mut Machine,
     events: &mut EventBuffer,
     home: u32,
@@ -250,7 +261,7 @@ fn start(
         Ok(()) => Ok(()),
         Err(fault) => {
             end_globals(alloc, machine, events, home as usize);
-            code.unload_failed(alloc, home);
+            put_failed(failed, code.unload_failed(alloc, home));
             Err(BuildRefused::Initializer(fault))
         }
     }
@@ -333,7 +344,16 @@ fn build_module(
     let number = list.builds + 1;
     list.builds = number;
     match compile_place(alloc, registry, &mut list.places[home as usize], number) {
-        Ok(loaded) => start(alloc, &mut list.code, machine, events, home, loaded, budget),
+        Ok(loaded) => start(
+            alloc,
+            &mut list.code,
+            &mut list.failed,
+            machine,
+            events,
+            home,
+            loaded,
+            budget,
+        ),
         Err(why) => Err(refused_by(why)),
     }
 }

@@ -131,7 +131,7 @@ fn check_named(
 }
 
 impl Engine {
-    ghost use Rattle.ang_engine.specs.Engines.{registrations, world_in, drivers_in, limits_in, held_in, builds_in, last_build};
+    ghost use Rattle.ang_engine.specs.Engines.{list_in, registrations, world_in, drivers_in, limits_in, held_in, builds_in, last_build};
     ghost use Rattle.ang_engine.specs.Trace.{trace_in, ticks_in};
 
     /// Judges the sections that wait in a module as its build would, over what its mask sees now, and
@@ -166,7 +166,7 @@ impl Engine {
         ensures trace { trace_in self.new ≡ trace_in self.old }
         ensures ticks { ticks_in self.new ≡ ticks_in self.old }
         ensures sound { IsSound ⟦<dyn Driver as Driver>⟧ self.new }
-        ensures registry { self.new.registry ≡ self.old.registry }
+        ensures list { list_in self.new ≡ list_in self.old }
     {
         let alloc = self.alloc;
         let done = check_named(alloc, &self.registry, &mut self.modules, name);

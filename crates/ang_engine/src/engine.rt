@@ -21,8 +21,7 @@ ghost use Rattle.ang_engine.specs.Step.{Takes, IsEntitled, list_after};
 ghost use Rattle.ang_engine.specs.Sound.{IsSound, HaveDrivers};
 
 use crate::binding::bind;
-use crate::budget::may_run;
-use crate::building::build;
+use crate::building::{build, may_run};
 use crate::calling::number_of;
 use crate::ending::{end_all, end_globals};
 use crate::groups::remove_group;
@@ -30,10 +29,9 @@ use crate::refused::{NewError, NewRefused};
 use crate::replies::{
     Finished, Unheard, answer, build_reply, call_reply, discard_reply, heard_reply, unheard_reply,
 };
-use crate::trace::budget_of;
 use ang_engine_modules::{
     Command, MOST_MODULES, ModuleList, Modules, Outcome, Refusal, Reply, add_module, add_section,
-    end_last, ended, find, no_events, remove_module, set_mask, unbind,
+    budget_of, end_last, ended, find, forget_failed, no_events, remove_module, set_mask, unbind,
 };
 use ang_heap::{Globals, Heap, Held, Limits, Store, begin_command, held, set_limits};
 use ang_host::{Driver, Drivers, EventBuffer};
@@ -113,7 +111,8 @@ impl Engine {
     ghost use Rattle.ang_engine.specs.Engines.{list_in, registrations, world_in, drivers_in, limits_in, held_in, builds_in, last_build};
     ghost use Rattle.ang_engine.specs.Replies.{reply_in, WasUnheard};
     ghost use Rattle.ang_engine_modules.specs.Ended.{is_fault, may_have_run};
-    ghost use Rattle.ang_engine.specs.Trace.{trace_in, ticks_in, budget_of};
+    ghost use Rattle.ang_engine.specs.Trace.{trace_in, ticks_in};
+    ghost use Rattle.ang_engine_modules.specs.Commands.{budget_of};
     ghost use Rattle.ang_engine.specs.Prepared.{HaveMoved, HasMovedPrepared, replaced};
 
     /// An engine without modules, and without limits. Each driver has to be idle, as those of
@@ -150,6 +149,7 @@ impl Engine {
                 modules: ModuleList {
                     places: Vec::new(alloc),
                     code: Modules::new(alloc),
+                    failed: None,
                     order,
                     builds: 0,
                 },
@@ -269,7 +269,7 @@ impl Engine {
         ensures builds { builds_in self.new ≡ builds_in self.old }
         ensures last { last_build self.new ≡ last_build self.old }
         ensures sound { IsSound ⟦<dyn Driver as Driver>⟧ self.new }
-        ensures registry { self.new.registry ≡ self.old.registry }
+        ensures list { list_in self.new ≡ list_in self.old }
     {
         set_limits(&mut self.machine.store, limits);
     }
@@ -310,7 +310,7 @@ impl Engine {
         let budget = budget_of(&command);
         begin_command(&mut self.machine.store);
         self.machine.last.left = budget;
-        self.modules.code.forget_failed();
+        forget_failed(&mut self.modules.failed);
         let finished = self.dispatch(command, heard);
         let ticks = end_last(&mut self.machine.last, budget, finished.outcome);
         self.ticks = ticks;

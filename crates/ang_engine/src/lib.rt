@@ -2,7 +2,6 @@
 #![tactic(auto)]
 
 mod binding;
-mod budget;
 mod building;
 mod calling;
 mod checking;

@@ -17,11 +17,11 @@ ghost use Rattle.ang_engine.specs.Limited.{StaysWithin};
 ghost use Rattle.ang_engine.specs.Step.{Takes, IsEntitled};
 ghost use Rattle.ang_engine.specs.Sound.{IsSound};
 
-use crate::budget::may_run;
+use crate::building::may_run;
 use crate::calling::{callable_number, choose_by_number, run_chosen};
 use crate::engine::{Engine, room_for_ends};
 use crate::replies::{Finished, Unheard, answer, call_reply, heard_reply, unheard_reply};
-use ang_engine_modules::{Outcome, Refusal, Reply, build_at, end_last, find};
+use ang_engine_modules::{Outcome, Refusal, Reply, build_at, end_last, find, forget_failed};
 use ang_heap::begin_command;
 use ang_host::{Driver, EventBuffer};
 use ang_kinds::Value;
@@ -124,7 +124,7 @@ impl Engine {
         ensures due { (world_in ⟦<dyn Driver as Driver>⟧ self.new).spent ≡ true
             → SomeRanOut (states_of ⟦<dyn Driver as Driver>⟧ (drivers_in self.new)) }
         ensures sound { IsSound ⟦<dyn Driver as Driver>⟧ self.new }
-        ensures registry { self.new.registry ≡ self.old.registry }
+        ensures list { list_in self.new ≡ list_in self.old }
         ensures builds { builds_in self.new ≡ builds_in self.old }
         ensures last { last_build self.new ≡ last_build self.old }
         ensures no_trace { is_fault result.outcome ≡ false → trace_in self.new ≡ [] }
@@ -155,7 +155,7 @@ impl Engine {
         ensures due { (world_in ⟦<dyn Driver as Driver>⟧ self.new).spent ≡ true
             → SomeRanOut (states_of ⟦<dyn Driver as Driver>⟧ (drivers_in self.new)) }
         ensures sound { IsSound ⟦<dyn Driver as Driver>⟧ self.new }
-        ensures registry { self.new.registry ≡ self.old.registry }
+        ensures list { list_in self.new ≡ list_in self.old }
         ensures builds { builds_in self.new ≡ builds_in self.old }
         ensures last { last_build self.new ≡ last_build self.old }
         ensures no_trace { is_fault result.outcome ≡ false → trace_in self.new ≡ [] }
@@ -189,7 +189,7 @@ impl Engine {
     {
         begin_command(&mut self.machine.store);
         self.machine.last.left = budget;
-        self.modules.code.forget_failed();
+        forget_failed(&mut self.modules.failed);
         let finished = self.dispatch_prepared(heard, prepared, args, budget);
         self.ticks = end_last(&mut self.machine.last, budget, finished.outcome);
         finished

@@ -1,33 +1,19 @@
 //! Where the last command faulted, and the ticks that it used.
-ghost use Rattle.std.specs.Prelude.{◌≡◌, ◌≤◌, Some, IsNone, IfSome, option_map, length, slice_get};
+ghost use Rattle.std.specs.Prelude.{◌≡◌, ◌≤◌, ℕ, List, Some, IsNone, IfSome, option_map, length, slice_get};
 ghost use Rattle.ang_code.specs.declared.instruction.Frame.{Frame};
+ghost use Rattle.ang_view.specs.Registration.{RegistrationList};
 ghost use Rattle.ang_engine_modules.specs.declared.modules.LoadedModule.{LoadedModule};
 ghost use Rattle.ang_engine_modules.specs.Traced.{frame_of, frame_in};
-ghost use Rattle.ang_engine.specs.Trace.{budget_of};
+ghost use Rattle.ang_engine_build.specs.Build.{Compiled, build_of};
+ghost use Rattle.ang_engine_build.specs.Placed.{IsTokenPlace};
+ghost use Rattle.ang_engine.specs.Engines.{resolved_in};
 
 use crate::engine::Engine;
-use ang_engine_modules::{Command, TraceFrame, frame_count, trace_at};
+use ang_engine_modules::{TraceFrame, frame_count, trace_at};
 use ang_host::Driver;
 
-/// The ticks that a command may take.
-pub fn budget_of(command: &Command) -> u64
-    ensures exact { result ≡ budget_of command.now }
-{
-    match command {
-        Command::NewModule { .. } => 0,
-        Command::SetMask { .. } => 0,
-        Command::AddSection { .. } => 0,
-        Command::Build { budget, .. } => *budget,
-        Command::Bind { .. } => 0,
-        Command::Unbind { .. } => 0,
-        Command::Call { budget, .. } => *budget,
-        Command::Discard { .. } => 0,
-        Command::RemoveGroup { .. } => 0,
-    }
-}
-
 impl Engine {
-    ghost use Rattle.ang_engine.specs.Trace.{trace_in, loaded_in, ticks_in};
+    ghost use Rattle.ang_engine.specs.Trace.{trace_in, traced_module, ticks_in};
     ghost use Rattle.ang_engine.specs.Sound.{IsSound};
 
     /// How many bodies were running where the last command ended with a fault: the one that faulted, and those
@@ -51,11 +37,19 @@ impl Engine {
         ensures past { length (trace_in self.now) ≤ depth → IsNone (option_map frame_of result) }
         ensures named { (frame : Frame) (l : LoadedModule)
             → slice_get (trace_in self.now) depth ≡ Some frame
-            → loaded_in self.now frame.of.home ≡ Some l
+            → traced_module self.now frame.of.home ≡ Some l
             → option_map frame_of result ≡ frame_in l frame.of.number }
+        ensures placed { (frame : Frame) (l : LoadedModule) (sight : RegistrationList)
+            (sections : List (List ℕ))
+            → slice_get (trace_in self.now) depth ≡ Some frame
+            → traced_module self.now frame.of.home ≡ Some l
+            → build_of sight sections ≡ Compiled (resolved_in l)
+            → IfSome result (λ f. IsTokenPlace sections f.declared
+            × IfSome f.place (IsTokenPlace sections)) }
         ensures section { IfSome result (λ f. IfSome f.place (λ p. p.sect ≡ f.declared.sect)) }
     {
-        trace_at(&self.modules.code, &self.machine.last, depth)
+        let modules = &self.modules;
+        trace_at(&modules.code, &modules.failed, &self.machine.last, depth)
     }
 
     /// How many ticks of its budget the last command used; 0 where it ran nothing. After a fault it is those

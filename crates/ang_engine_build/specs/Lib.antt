@@ -5,3 +5,4 @@ pub mod Answer
 pub mod Named
 pub mod Narrowed
 pub mod Declares
+pub mod Placed

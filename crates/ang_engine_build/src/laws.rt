@@ -9,9 +9,11 @@ ghost use Rattle.ang_names_known.specs.declared.names.Family.{Family};
 ghost use Rattle.ang_names_known.specs.Spaces.{AreFamilies};
 ghost use Rattle.ang_names_listed.specs.Sources.{Source};
 ghost use Rattle.ang_names.specs.Ranks.{can_hold};
+ghost use Rattle.ang_check_sound.specs.Placed.{ArePlaced, AreCounted};
 ghost use Rattle.ang_engine_build.specs.Build.{Resolved, Compiled, build_of};
 ghost use Rattle.ang_engine_build.specs.Declares.{DeclareSame};
 ghost use Rattle.ang_engine_build.specs.Named.{HasNamesOf};
+ghost use Rattle.ang_engine_build.specs.Placed.{IsPlaced};
 ghost use Rattle.ang_engine_build.specs.Script.{sources_of};
 
 /// The tree of a built program is sound over its view: its locals are alive, its functions and globals are
@@ -33,6 +35,17 @@ pub fn programs_have_their_names()
     ensures named { (V : RegistrationList) (sections : List (List ℕ)) (r : Resolved)
         → build_of V sections ≡ Compiled r
         → HasNamesOf V sections r }
+{}
+
+/// What its names declare stands at tokens of its sections, and so does each statement of its bodies, in the section of the
+/// body's name; and each body has as many places as statements.
+pub fn programs_have_places()
+    ensures placed { (V : RegistrationList) (sections : List (List ℕ)) (r : Resolved)
+        → build_of V sections ≡ Compiled r
+        → ArePlaced (IsPlaced sections) r.names r.tree }
+    ensures counted { (V : RegistrationList) (sections : List (List ℕ)) (r : Resolved)
+        → build_of V sections ≡ Compiled r
+        → AreCounted r.tree }
 {}
 
 /// Its classes and interfaces are few enough for each to have a number as a type, and what stands above one is

@@ -24,3 +24,6 @@ pub mod Adding
 pub mod Numbering
 pub mod Unbinding
 pub mod Tracing
+pub mod Standing
+pub mod Statements
+pub mod Frames

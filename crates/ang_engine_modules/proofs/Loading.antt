@@ -32,7 +32,7 @@ use Rattle.ang_engine_modules.proofs.Bodies.{gives_as}
 -- ---- the code of one place
 
 none_compiled : IsCompiled nothing []
-none_compiled = record { bodies = []; lowered = refl; code = tt }
+none_compiled = record { bodies = []; lowered = refl; positions = refl; code = tt }
 
 pub blank : (m : ℕ) (c : ModuleCode) → c.name.items ≡ [] → c.bodies.items ≡ [] → c.imports.items ≡ [] → c.entities.items ≡ [] → c.classes.items ≡ [] → c.slots.items ≡ []
     → IsCodeOf m (Some c) unbuilt

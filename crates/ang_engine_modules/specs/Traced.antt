@@ -1,12 +1,14 @@
 -- What the bodies of a module are declared as, by number: those of functions, then those of methods and
 -- constructors, then the initializers of globals (docs/CLAIMS.md, "A run of a built module").
-use Rattle.std.specs.Prelude.{ℕ, ◌==◌, ◌+◌, ◌-◌, nat_le, nat_lt, if◌then◌else◌, Bool, true, false, List, [], length, Option, Some, None, is_some, option_map, position, reverse, slice_get}
+use Rattle.std.specs.Prelude.{ℕ, ◌==◌, ◌+◌, ◌-◌, nat_le, nat_lt, if◌then◌else◌, Bool, true, false, List, [], length, Option, Some, None, is_some, option_map, position, reverse, slice_get, slice_index_or, Contains, ◌≡◌}
 use Rattle.std.specs.List.{prefix_len}
 use Rattle.std.specs.Option.{option_or, option_and_then}
 use Rattle.ang_kinds.specs.declared.place.Place.{Place}
 use Rattle.ang_kinds.specs.declared.position.Position.{Position}
 use Rattle.ang_code.specs.declared.instruction.Mark.{Mark}
 use Rattle.ang_code.specs.declared.instruction.RoutineCode.{RoutineCode}
+use Rattle.ang_typed.specs.View.{view_typed}
+use Rattle.ang_lower.specs.Positions.{of_module}
 use Rattle.ang_names_known.specs.declared.names.Family.{Family}
 use Rattle.ang_names_known.specs.declared.names.ScriptConstructor.{ScriptConstructor}
 use Rattle.ang_names_known.specs.declared.names.ScriptFunction.{ScriptFunction}
@@ -14,11 +16,11 @@ use Rattle.ang_names_known.specs.declared.names.ScriptGlobal.{ScriptGlobal}
 use Rattle.ang_names_known.specs.declared.names.ScriptMethod.{ScriptMethod}
 use Rattle.ang_code.specs.declared.instruction.Frame.{Frame as RunFrame}
 use Rattle.ang_vm.specs.declared.last.LastRun.{LastRun}
-use Rattle.ang_vm_stack.specs.declared.table.ModuleCode.{ModuleCode}
 use Rattle.ang_engine_modules.specs.declared.failed.FailedModule.{FailedModule}
 use Rattle.ang_engine_modules.specs.declared.modules.LoadedModule.{LoadedModule}
 use Rattle.ang_engine_modules.specs.declared.traced.TraceFrame.{TraceFrame}
-use Rattle.ang_engine_modules.specs.Numbers.{initialized_from}
+use Rattle.ang_engine_modules.specs.Loaded.{loaded_at}
+use Rattle.ang_gen.specs.Initialized.{initialized_from}
 
 -- a body: the name of its module; the class of a method or a constructor, else nothing; the name of the function, or
 -- of the global whose initializer it is; and the place of that name
@@ -114,6 +116,16 @@ frame_in l n =
 abbrev pub place_in : ℕ → Position → Place
 place_in section p = record { sect = section; line = p.line + 1; column = p.column + 1 }
 
+-- the places of the statements of body n of a module; an initializer has none
+abbrev pub places_of : LoadedModule → ℕ → List Position
+places_of l n = slice_index_or (of_module (view_typed l.tree)) n []
+
+-- in a section, one of those places
+pub record StandsIn (l : LoadedModule) (n section : ℕ) (p : Place) : Type 0 where
+  pub at : Position
+  pub among : Contains (places_of l n) at
+  pub is : p ≡ place_in section at
+
 -- the marks of a body, if there is one
 abbrev pub marks_in : Option RoutineCode → List Mark
 marks_in None = []
@@ -140,10 +152,17 @@ statement_place marks at section = option_map (λ m. place_in section m.position
 
 -- ---- a module whose initializer failed
 
--- what is kept of it, where it was built
-abbrev pub failed_of : ℕ → Option LoadedModule → ModuleCode → Option FailedModule
-failed_of home None code = None
-failed_of home (Some l) code = Some (record { home = home; loaded = l; code = code })
+abbrev pub failed_at : ℕ → LoadedModule → FailedModule
+failed_at home l = record { home = home; loaded = l }
+
+-- what the one that failed was loaded with, where it has this number
+abbrev pub failed_in : Option FailedModule → ℕ → Option LoadedModule
+failed_in None home = None
+failed_in (Some f) home = if f.home == home then Some f.loaded else None
+
+-- what a trace names of the module of this number: what it is loaded with, or else was when it failed
+abbrev pub traced_in : List (Option LoadedModule) → Option FailedModule → ℕ → Option LoadedModule
+traced_in code failed home = option_or (loaded_at code home) (failed_in failed home)
 
 -- ---- the frames of a run that faulted
 

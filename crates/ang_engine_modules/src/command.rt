@@ -1,4 +1,7 @@
 //! What a host tells the engine to do.
+ghost use Rattle.std.specs.Prelude.{◌≡◌};
+ghost use Rattle.ang_engine_modules.specs.Commands.{budget_of};
+
 use ang_kinds::{List, Mask, Value};
 
 /// One command to the engine (docs/HOST.md, "Commands").
@@ -87,4 +90,21 @@ pub enum Command {
         /// The group's name.
         name: List<u8>,
     },
+}
+
+/// The ticks that a command may take.
+pub fn budget_of(command: &Command) -> u64
+    ensures exact { result ≡ budget_of command.now }
+{
+    match command {
+        Command::NewModule { .. } => 0,
+        Command::SetMask { .. } => 0,
+        Command::AddSection { .. } => 0,
+        Command::Build { budget, .. } => *budget,
+        Command::Bind { .. } => 0,
+        Command::Unbind { .. } => 0,
+        Command::Call { budget, .. } => *budget,
+        Command::Discard { .. } => 0,
+        Command::RemoveGroup { .. } => 0,
+    }
 }

@@ -2,10 +2,10 @@
 ghost use Rattle.std.specs.Prelude.{◌≡◌, ◌≤◌, [], false, Some, IsNone, IfSome, option_map, length, slice_get};
 ghost use Rattle.ang_code.specs.declared.instruction.Frame.{Frame};
 ghost use Rattle.ang_engine_modules.specs.declared.modules.LoadedModule.{LoadedModule};
-ghost use Rattle.ang_engine_modules.specs.Loaded.{loaded_at};
-ghost use Rattle.ang_engine_modules.specs.Traced.{frame_of, frame_in, frames_of};
+ghost use Rattle.ang_engine_modules.specs.Traced.{frame_of, frame_in, frames_of, traced_in, StandsIn};
 ghost use Rattle.ang_engine_modules.specs.Ended.{is_fault, may_have_run};
 
+use crate::failed::KeptFailure;
 use crate::faults::{is_fault, may_have_run};
 use crate::modules::Modules;
 use crate::reply::Outcome;
@@ -56,14 +56,23 @@ fn frame_at(last: &LastRun, depth: usize) -> Option<Frame>
 
 /// What the body of that frame is declared as, and the statement in which it stood, where its module is loaded, or
 /// has failed by this command.
-pub fn trace_at<'a>(code: &'a Modules, last: &LastRun, depth: usize) -> Option<TraceFrame<'a>>
+pub fn trace_at<'a>(
+    code: &'a Modules,
+    failed: &'a Option<KeptFailure>,
+    last: &LastRun,
+    depth: usize,
+) -> Option<TraceFrame<'a>>
     ensures past { length (frames_of last.now) ≤ depth → IsNone (option_map frame_of result) }
     ensures named { (frame : Frame) (l : LoadedModule)
         → slice_get (frames_of last.now) depth ≡ Some frame
-        → loaded_at code.now frame.of.home ≡ Some l
+        → traced_in code.now failed.now frame.of.home ≡ Some l
         → option_map frame_of result ≡ frame_in l frame.of.number }
+    ensures stands { (frame : Frame) (l : LoadedModule)
+        → slice_get (frames_of last.now) depth ≡ Some frame
+        → traced_in code.now failed.now frame.of.home ≡ Some l
+        → IfSome result (λ f. IfSome f.place (StandsIn l frame.of.number f.declared.sect)) }
     ensures section { IfSome result (λ f. IfSome f.place (λ p. p.sect ≡ f.declared.sect)) }
 {
     let frame = frame_at(last, depth)?;
-    code.trace_frame(frame.of, frame.at)
+    code.trace_frame(failed, frame.of, frame.at)
 }

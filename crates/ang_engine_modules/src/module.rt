@@ -1,7 +1,7 @@
 //! The modules of an engine.
 ghost use Rattle.std.specs.Prelude.{◌≤◌, length};
 
-use crate::Modules;
+use crate::{KeptFailure, Modules};
 use ang_kinds::{List, Mask};
 
 /// How many modules one engine can have.
@@ -38,6 +38,8 @@ pub struct ModuleList {
     pub places: Vec<Option<Module>>,
     /// What is built of them.
     pub code: Modules,
+    /// The module whose initializer the last command failed at, for its trace.
+    pub failed: Option<KeptFailure>,
     /// The numbers of those that are there, in the order in which they were made.
     pub order: Vec<u32>,
     /// How many builds were begun, of modules that are gone too: the number of the last one.

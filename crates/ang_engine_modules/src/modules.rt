@@ -1,5 +1,5 @@
 //! The modules of an engine.
-ghost use Rattle.std.specs.Prelude.{◌≡◌, ◌<◌, ◌++◌, ◌∷◌, List as ListOf, [], None, Some, IfOk, IfSome, OnOk, OnErr, option_map, length, reverse, slice_set, map as list_map};
+ghost use Rattle.std.specs.Prelude.{◌≡◌, ◌<◌, ◌++◌, ◌∷◌, List as ListOf, [], None, Some, IfOk, IfSome, OnOk, OnErr, option_map, length, reverse, slice_index_or, slice_set, map as list_map};
 ghost use Rattle.std.specs.List.{AllByRecursion, list_any};
 ghost use Rattle.ang_engine_modules.specs.Keeping.{place_keeps_some};
 ghost use Rattle.std.specs.Option.{option_copied};
@@ -16,19 +16,18 @@ ghost use Rattle.ang_engine_modules.specs.Executed.{first_globals, call_of, init
 ghost use Rattle.ang_engine_modules.specs.Ends.{Ends, Answers, completed};
 ghost use Rattle.ang_engine_modules.specs.declared.modules.LoadedModule.{LoadedModule};
 ghost use Rattle.ang_engine_modules.specs.Loaded.{loaded_at, modules_of, linked_in, unbound_in};
-ghost use Rattle.ang_engine_modules.specs.Traced.{frame_of, frame_in};
+ghost use Rattle.ang_engine_modules.specs.Traced.{frame_of, frame_in, failed_at, traced_in, StandsIn};
 ghost use Rattle.ang_engine_modules.specs.Modules.{module_at, result_at, LinkFits, TakesSoMany, AreDriversThere, AgreesWith, IsAskedIn};
 
-use crate::failed::{FailedModule, failed_frame, failed_module, marks_at, put_failed};
+use crate::failed::{KeptFailure, failed_frame, failed_module, marks_at};
 use crate::globals::defaults;
 use crate::groups::some_keep;
-use crate::kept::KeptTree;
 use crate::links::{bind_import, unbind_codes, unbind_places};
 use crate::runs::{body_count, run_initializers};
 use crate::tables::{code_of, no_code};
 use crate::traced::{TraceFrame, trace_frame};
 use crate::whole::WholeModule;
-use ang_gen::generate;
+use ang_gen::{KeptTree, generate};
 use ang_host::{Driver, EventBuffer};
 use ang_kinds::{Fault, List, Value};
 use ang_meaning::{Routine, Slot};
@@ -64,8 +63,6 @@ pub struct LoadedModule {
 pub struct Modules {
     table: Table,
     loaded: Vec<Option<LoadedModule>>,
-    /// The module whose initializer the last command failed at, for its trace. No contract speaks of it.
-    failed: Option<FailedModule>,
 }
 
 impl Model for Modules {
@@ -108,6 +105,7 @@ fn push_place(
 /// Puts code into the place of a module, where there is one, and answers the code that it replaces.
 fn replace_code(codes: &mut Vec<ModuleCode>, home: u32, code: ModuleCode) -> ModuleCode
     ensures put { codes.new.items ≡ slice_set codes.old.items home code }
+    ensures replaced { result ≡ slice_index_or codes.old.items home code }
 {
     let place = home as usize;
     if place < codes.len() {
@@ -139,6 +137,7 @@ fn put_loaded(loaded: &mut Vec<Option<LoadedModule>>, home: u32, item: Option<Lo
 /// Takes what a module is loaded with out of its place, where there is one.
 fn take_loaded(loaded: &mut Vec<Option<LoadedModule>>, home: u32) -> Option<LoadedModule>
     ensures taken { loaded.new.items ≡ slice_set loaded.old.items home None }
+    ensures item { result ≡ loaded_at loaded.old.items home }
 {
     let place = home as usize;
     if place < loaded.len() {
@@ -157,7 +156,6 @@ impl Modules {
                 modules: Vec::new(alloc),
             },
             loaded: Vec::new(alloc),
-            failed: None,
         }
     }
 
@@ -219,24 +217,19 @@ impl Modules {
         unbind_places(alloc, home, &mut self.loaded);
     }
 
-    /// The same where an initializer of the module has failed: what it was loaded with and its code are kept for
-    /// its trace, until `forget_failed` is called. It takes no memory.
-    pub fn unload_failed(&mut self, alloc: Global, home: u32)
+    /// The same where an initializer of the module has failed: answers what it was loaded with and its code, for its
+    /// trace. It takes no memory.
+    pub fn unload_failed(&mut self, alloc: Global, home: u32) -> Option<KeptFailure>
         ensures unloaded { self.new ≡ unbound_in home (slice_set self.old home None) }
+        ensures kept { result ≡ option_map (failed_at home) (loaded_at self.old home) }
     {
         let codes = &mut self.table.modules;
         let code = replace_code(codes, home, no_code(alloc));
         let loaded = take_loaded(&mut self.loaded, home);
-        put_failed(&mut self.failed, failed_module(home, loaded, code));
+        let failed = failed_module(home, loaded, code);
         unbind_codes(home, codes);
         unbind_places(alloc, home, &mut self.loaded);
-    }
-
-    /// What was kept of a module that failed is given up.
-    pub fn forget_failed(&mut self)
-        ensures same { self.new ≡ self.old }
-    {
-        put_failed(&mut self.failed, None);
+        failed
     }
 
     /// Binds an import of a module to a function of another one, or of the same. An earlier binding
@@ -280,16 +273,23 @@ impl Modules {
         some_keep(self.loaded.as_slice(), group)
     }
 
-    /// What a body is declared as whose module is built, or has failed and is kept; with the place of the
-    /// statement of which its instruction before instruction `at` is. `None` where there is no such body.
-    pub fn trace_frame(&self, body: Routine, at: usize) -> Option<TraceFrame<'_>>
-        ensures named { (l : LoadedModule) → loaded_at self.now body.home ≡ Some l
+    /// What a body is declared as whose module is built, or has failed; with the place of the statement of which its
+    /// instruction before instruction `at` is. `None` where there is no such body.
+    pub fn trace_frame<'a>(
+        &'a self,
+        failed: &'a Option<KeptFailure>,
+        body: Routine,
+        at: usize,
+    ) -> Option<TraceFrame<'a>>
+        ensures named { (l : LoadedModule) → traced_in self.now failed.now body.home ≡ Some l
             → option_map frame_of result ≡ frame_in l body.number }
+        ensures stands { (l : LoadedModule) → traced_in self.now failed.now body.home ≡ Some l
+            → IfSome result (λ f. IfSome f.place (StandsIn l body.number f.declared.sect)) }
         ensures section { IfSome result (λ f. IfSome f.place (λ p. p.sect ≡ f.declared.sect)) }
     {
         match self.loaded(body.home) {
             Some(loaded) => trace_frame(loaded, marks_at(&self.table, body), body.number, at),
-            None => failed_frame(self.failed.as_ref(), body, at),
+            None => failed_frame(failed, body, at),
         }
     }
 

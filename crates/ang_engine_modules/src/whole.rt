@@ -1,8 +1,8 @@
 //! A module that was compiled and is not loaded yet.
 ghost use Rattle.std.specs.Prelude.{◌≡◌, None, IfOk, map as list_map};
 
-use crate::kept::KeptTree;
 use crate::modules::LoadedModule;
+use ang_gen::KeptTree;
 use ang_kinds::List;
 use ang_meaning::Routine;
 use ang_names_known::Names;

@@ -14,3 +14,5 @@ pub mod Turns
 pub mod Rising
 pub mod Counted
 pub mod Composed
+pub mod Marked
+pub mod Initialized

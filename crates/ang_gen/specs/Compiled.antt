@@ -8,12 +8,15 @@ use Rattle.ang_code.specs.declared.instruction.RoutineCode.{RoutineCode}
 use Rattle.ang_source.specs.Sound.{SoundProgram}
 use Rattle.ang_lower.specs.Plain.{plain_body}
 use Rattle.ang_lower.specs.Lowered.{lowered_module}
+use Rattle.ang_lower.specs.Positions.{listed, of_module}
 use Rattle.ang_gen.specs.Programs.{IsBodyCode}
 
--- There are core bodies that are lowered from the module's tree, and each code is that of the body at its place.
+-- There are core bodies that are lowered from the module's tree, whose statements stand where the tree's do, and each code is that of the body
+-- at its place.
 pub record IsCompiled (p : t.Program) (codes : List RoutineCode) : Type 0 where
   pub bodies : List CoreBody
   pub lowered : map plain_body bodies ≡ lowered_module p
+  pub positions : listed bodies ≡ of_module p
   pub code : AllZip IsBodyCode bodies codes
 
 -- Code by which no run is lost: that of a tree which is sound over some view of the host.

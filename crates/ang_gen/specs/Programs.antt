@@ -11,6 +11,7 @@ use Rattle.ang_code.specs.declared.instruction.RoutineCode.{RoutineCode}
 use Rattle.ang_code.specs.Machine.{Texts}
 use Rattle.ang_gen.specs.Code.{body_code}
 use Rattle.ang_gen.specs.Heights.{BelowBody}
+use Rattle.ang_gen.specs.Marks.{AreAmong}
 
 abbrev pub parameter_count : CoreBody → ℕ
 parameter_count b = length b.params.items
@@ -20,13 +21,14 @@ pub record IsHeight (height : ℕ) (b : CoreBody) : Type 0 where
   pub enough : BelowBody (parameter_count b + height) (parameter_count b) b.statement
   pub least : (h : ℕ) → BelowBody (parameter_count b + h) (parameter_count b) b.statement → height ≤ h
 
--- the code of one body, whose frame is counted in 64 bits
+-- the code of one body, whose frame is counted in 64 bits, and whose marks stand where its statements do
 pub record IsBodyCode (b : CoreBody) (code : RoutineCode) : Type 0 where
   pub params : code.params.items ≡ b.params.items
   pub result : code.result ≡ b.result
   pub text : code.text.items ≡ body_code (parameter_count b) b.statement
   pub height : IsHeight code.height b
   pub counted : parameter_count b + code.height < 2 ^ 64
+  pub marks : AreAmong b.positions.items code.marks.items
 
 -- a routine among those of all modules
 abbrev pub items_in : {A : Type 0} → Option (Vec A Global) → List A

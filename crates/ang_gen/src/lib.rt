@@ -1,6 +1,8 @@
 //! Generates the machine's instructions: the code of a module's bodies does what the module means
 //! (docs/CLAIMS.md, "What a script means" and "Code").
 //!
+//! What runs read of the resolved tree is kept beside it (`KeptTree`).
+//!
 //! `specs/` has the code of a body and of a module, and what it means that code does what bodies do;
 //! `laws` says that it does, and that a module's code behaves as its source.
 #![tactic(auto)]
@@ -22,14 +24,17 @@ pub mod body_laws;
 mod code;
 mod expression;
 mod height;
+mod kept;
 pub mod laws;
 mod marks;
 mod module_code;
 mod room;
 mod statement;
 mod text;
+mod tree_record;
 
 pub use code::Code;
+pub use kept::KeptTree;
 pub use module_code::generate_module;
 
 /// Generates the code of a module: of its functions and then of its initializers, each in the order of

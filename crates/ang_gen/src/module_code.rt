@@ -2,6 +2,7 @@
 ghost use Rattle.std.specs.Prelude.{◌≡◌, ◌<◌, ◌^◌, [], IfOk, IfSome};
 ghost use Rattle.std.specs.List.{AllZip};
 ghost use Rattle.ang_gen.specs.Code.{body_code};
+ghost use Rattle.ang_gen.specs.Marks.{AreAmong};
 ghost use Rattle.ang_gen.specs.Peaks.{statement_peak, body_peak};
 ghost use Rattle.ang_gen.specs.Programs.{IsBodyCode};
 
@@ -14,16 +15,19 @@ use ang_core::{CoreBody, CoreStatement};
 use ang_kinds::Position;
 use std::alloc::{AllocError, Global};
 
-// The instructions of a whole body with `params` parameters, into a text that is empty so far, and their marks.
+// The instructions of a whole body with `params` parameters, into a text that is empty so far, and their marks, where these are
+// its statements' places.
 fn body_text(
     alloc: Global,
     mut text: InstructionBuffer,
     params: usize,
     s: &CoreStatement,
+    positions: &[Position],
 ) -> Result<(Vec<Instruction>, Vec<Mark>), AllocError>
     requires empty { text ≡ [] }
     requires room { statement_peak params s.now < 2 ^ 64 }
     ensures exact { IfOk result (λ code. code.0.items ≡ body_code params s.now) }
+    ensures among { IfOk result (λ code. AreAmong positions.now code.1.items) }
 {
     text.put(Instruction::Return(declared_by(s)))?;
     text.put(Instruction::PushBits(0))?;
@@ -35,7 +39,7 @@ fn body_text(
         again: end,
     };
     write_statement(&mut text, exits, params, s)?;
-    text.into_code(alloc)
+    text.into_code(alloc, positions)
 }
 
 // The greatest number of values in the frame of a whole body with `params` parameters.
@@ -54,7 +58,7 @@ fn frame_of(
     alloc: Global,
     params: usize,
     s: &CoreStatement,
-    positions: &[Position],
+    statements: usize,
 ) -> Result<(usize, InstructionBuffer), AllocError>
     ensures peak { IfOk result (λ found. found.0 ≡ body_peak params s.now) }
     ensures counted { IfOk result (λ found. found.0 < 2 ^ 64) }
@@ -62,7 +66,7 @@ fn frame_of(
 {
     let peak = frame_peak(params, s);
     let room = peak.unwrap_or(usize::MAX);
-    let text = InstructionBuffer::with_room(alloc, room, positions)?;
+    let text = InstructionBuffer::with_room(alloc, room, statements)?;
     Ok((room, text))
 }
 
@@ -73,8 +77,9 @@ fn generate_body(alloc: Global, body: &CoreBody) -> Result<RoutineCode, AllocErr
     ensures code { IfOk result (λ code. IsBodyCode body.now code) }
 {
     let count = body.params.len();
-    let (peak, text) = frame_of(alloc, count, &body.statement, body.positions.as_slice())?;
-    let (text, marks) = body_text(alloc, text, count, &body.statement)?;
+    let positions = body.positions.as_slice();
+    let (peak, text) = frame_of(alloc, count, &body.statement, positions.len())?;
+    let (text, marks) = body_text(alloc, text, count, &body.statement, positions)?;
     let params = body.params.clone()?;
     Ok(RoutineCode {
         params,

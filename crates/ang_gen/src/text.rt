@@ -4,6 +4,7 @@
 ghost use Rattle.std.specs.Prelude.{◌≡◌, ◌<◌, ◌^◌, List, ◌∷◌, ◌++◌, [], length, IfOk, OnOk, OnErr};
 ghost use Rattle.ang_code.specs.declared.instruction.Instruction.{Instruction};
 ghost use Rattle.ang_code.specs.declared.instruction.Instruction.TheVariants.{LoopBack};
+ghost use Rattle.ang_gen.specs.Marks.{AreAmong};
 
 use crate::marks::StatementMarks;
 use ang_code::{Instruction, Mark};
@@ -29,20 +30,20 @@ impl Model for InstructionBuffer {
 }
 
 impl InstructionBuffer {
-    /// The text that is empty so far, with room for that many instructions, of a body whose statements stand there.
+    /// The text that is empty so far, with room for that many instructions, of a body with that many statements.
     ///
     /// # Errors
     /// Want of memory: there is no room for them.
     pub fn with_room(
         alloc: Global,
         room: usize,
-        positions: &[Position],
+        statements: usize,
     ) -> Result<InstructionBuffer, AllocError>
         ensures empty { IfOk result (λ text. text ≡ []) }
         ensures room { IfOk result (λ text. room < 2 ^ 63) }
     {
         let reversed = Vec::with_capacity(alloc, room)?;
-        let marks = StatementMarks::new(alloc, positions)?;
+        let marks = StatementMarks::new(alloc, statements);
         Ok(InstructionBuffer { reversed, marks })
     }
 
@@ -80,7 +81,7 @@ impl InstructionBuffer {
     ///
     /// # Errors
     /// Want of memory.
-    pub fn begin_statement(&mut self) -> Result<Option<Position>, AllocError>
+    pub fn begin_statement(&mut self) -> Result<Option<u32>, AllocError>
         ensures same { self.new ≡ self.old }
     {
         let written = self.reversed.len();
@@ -91,25 +92,31 @@ impl InstructionBuffer {
     ///
     /// # Errors
     /// Want of memory.
-    pub fn end_statement(&mut self, outer: Option<Position>) -> Result<(), AllocError>
+    pub fn end_statement(&mut self, outer: Option<u32>) -> Result<(), AllocError>
         ensures same { self.new ≡ self.old }
     {
         let written = self.reversed.len();
         self.marks.end(written, outer)
     }
 
-    /// The instructions in their order, with room for no more, and which of them are those of which statement.
+    /// The instructions in their order, with room for no more, and which of them are those of which statement, where these are
+    /// the statements' places.
     ///
     /// # Errors
     /// Want of memory.
-    pub fn into_code(self, alloc: Global) -> Result<(Vec<Instruction>, Vec<Mark>), AllocError>
+    pub fn into_code(
+        self,
+        alloc: Global,
+        positions: &[Position],
+    ) -> Result<(Vec<Instruction>, Vec<Mark>), AllocError>
         ensures same { IfOk result (λ code. code.0.items ≡ self) }
+        ensures among { IfOk result (λ code. AreAmong positions.now code.1.items) }
     {
         let InstructionBuffer {
             mut reversed,
             marks,
         } = self;
-        let marks = marks.in_order(alloc, reversed.len())?;
+        let marks = marks.in_order(alloc, reversed.len(), positions)?;
         reversed.reverse();
         reversed.shrink_to_fit();
         Ok((reversed, marks))

@@ -13,4 +13,5 @@ pub mod Headings
 pub mod Methods
 pub mod Modules
 pub mod Placing
+pub mod HandedOn
 pub mod Worked

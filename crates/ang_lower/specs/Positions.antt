@@ -3,10 +3,6 @@ use Rattle.std.specs.Prelude.{ℕ, suc, ◌+◌, List, [], ◌∷◌, ◌++◌, 
 use Rattle.std.specs.List.{flat_map}
 use Rattle.ang_kinds.specs.declared.position.Position.{Position}
 use Rattle.ang_typed.specs.Typed as t
-use Rattle.ang_typed.specs.View.{view_block}
-use Rattle.ang_typed.specs.declared.program.TypedFunction.{TypedFunction}
-use Rattle.ang_typed.specs.declared.program.Global.{Global}
-use Rattle.ang_typed.specs.declared.program.Typed.{Typed}
 use Rattle.ang_core.specs.declared.tree.CoreBody.{CoreBody}
 use Rattle.ang_lower.specs.Tree as stmt
 
@@ -85,18 +81,18 @@ abbrev mutual
 
 -- ---- the bodies of a module, by number
 
-abbrev pub of_function : TypedFunction → List Position
-of_function f = core_of (view_block f.body) f.positions
+abbrev pub of_function : t.TypedFunction → List Position
+of_function f = core_of f.body f.positions
 
 -- an initializer has no block
 abbrev pub of_initializer : {A : Type 0} → Option A → List (List Position)
 of_initializer None = []
 of_initializer (Some e) = [] ∷ []
 
-abbrev pub of_global : Global → List (List Position)
+abbrev pub of_global : t.Global → List (List Position)
 of_global g = of_initializer g.initializer
 
-abbrev pub of_module : Typed → List (List Position)
+abbrev pub of_module : t.Program → List (List Position)
 of_module m = map of_function m.functions ++ flat_map of_global m.globals
 
 -- those that core bodies list

@@ -91,7 +91,7 @@ fn function_body(alloc: Global, function: &TypedFunction) -> Result<CoreBody, Al
     ensures exact { IfOk result (λ b. plain_body b
         ≡ spec.lowered_function (view_function function.now)) }
     ensures positions { IfOk result
-        (λ b. b.positions.items ≡ places.of_function function.now) }
+        (λ b. b.positions.items ≡ places.of_function (view_function function.now)) }
 {
     let parameters = function.parameters.as_slice();
     let positions = core_positions(alloc, &function.body, function.positions.as_slice())?;
@@ -138,7 +138,8 @@ fn add_functions(
         ≡ list_map plain_body bodies.old.items
         ++ list_map spec.lowered_function (list_map view_function functions.now)) }
     ensures positions { OnOk result (places.listed bodies.new.items
-        ≡ places.listed bodies.old.items ++ list_map places.of_function functions.now) }
+        ≡ places.listed bodies.old.items
+        ++ list_map places.of_function (list_map view_function functions.now)) }
 {
     for function in functions {
         let body = function_body(alloc, function)?;
@@ -158,7 +159,7 @@ fn add_global(
         ≡ list_map plain_body bodies.old.items
         ++ spec.lowered_initializer number (view_global global.now).initializer) }
     ensures positions { OnOk result (places.listed bodies.new.items
-        ≡ places.listed bodies.old.items ++ places.of_global global.now) }
+        ≡ places.listed bodies.old.items ++ places.of_global (view_global global.now)) }
 {
     match &global.initializer {
         Some(value) => {
@@ -179,7 +180,8 @@ fn add_globals(
         ≡ list_map plain_body bodies.old.items
         ++ spec.lowered_globals 0 (list_map view_global globals.now)) }
     ensures positions { OnOk result (places.listed bodies.new.items
-        ≡ places.listed bodies.old.items ++ flat_map places.of_global globals.now) }
+        ≡ places.listed bodies.old.items
+        ++ flat_map places.of_global (list_map view_global globals.now)) }
 {
     for (number, global) in globals.iter().enumerate() {
         add_global(alloc, number, global, bodies)?;
@@ -191,7 +193,7 @@ fn bodies_of(alloc: Global, program: &Typed) -> Result<Vec<CoreBody>, AllocError
     ensures exact { IfOk result (λ bodies. list_map plain_body bodies.items
         ≡ spec.lowered_module (view_typed program.now)) }
     ensures positions { IfOk result
-        (λ bodies. places.listed bodies.items ≡ places.of_module program.now) }
+        (λ bodies. places.listed bodies.items ≡ places.of_module (view_typed program.now)) }
 {
     let mut bodies = Vec::new(alloc);
     add_functions(alloc, program.functions.as_slice(), &mut bodies)?;
@@ -217,7 +219,7 @@ pub fn lower(alloc: Global, program: &Typed) -> Result<Vec<CoreBody>, AllocError
     ensures lowered { IfOk result (λ bodies. LowersProgram (view_typed program.now) bodies.items) }
     ensures sound { IfOk result (λ bodies. KeepsSound (view_typed program.now) bodies.items) }
     ensures positions { IfOk result
-        (λ bodies. places.listed bodies.items ≡ places.of_module program.now) }
+        (λ bodies. places.listed bodies.items ≡ places.of_module (view_typed program.now)) }
 {
     let bodies = bodies_of(alloc, program)?;
     Ok(bodies)

@@ -1,7 +1,7 @@
 //! What holds of lowered bodies, whatever made them.
-ghost use Rattle.std.specs.Prelude.{◌≡◌, ℕ, List, Some, length, slice_get};
+ghost use Rattle.std.specs.Prelude.{◌≡◌, ◌≤◌, ℕ, List, Some, Contains, length, slice_get};
 ghost use Rattle.ang_kinds.specs.declared.position.Position.{Position};
-ghost use Rattle.ang_typed.specs.Typed.{Program, Stmts};
+ghost use Rattle.ang_typed.specs.Typed.{Program, Stmts, statement_count};
 ghost use Rattle.ang_meaning.specs.declared.routine.Routine.{Routine};
 ghost use Rattle.ang_meaning.specs.World.{World};
 ghost use Rattle.ang_meaning.specs.Environment.{Environment};
@@ -89,4 +89,11 @@ pub fn each_use_is_of_the_view()
 pub fn each_has_a_place()
     ensures places { (ss : Stmts) (n : ℕ) (ps : List Position)
         → length (core_of ss ps) ≡ in_blocks (lowered_block (lowered_all n ss)) }
+{}
+
+/// And that is one of the resolved body's, where there is one for each of its statements.
+pub fn no_place_is_made_up()
+    ensures among { (ss : Stmts) (ps : List Position) (q : Position)
+        → statement_count ss ≤ length ps
+        → Contains (core_of ss ps) q → Contains ps q }
 {}

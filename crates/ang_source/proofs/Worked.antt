@@ -59,7 +59,7 @@ abbrev parameter : Pass → TypedParameter
 parameter by = record { ty = type.Plain I32; pass = by }
 
 abbrev function : List TypedParameter → List t.Stmt → t.TypedFunction
-function ps ss = record { parameters = ps; result = type.Plain I32; body = t.stmts ss }
+function ps ss = record { parameters = ps; result = type.Plain I32; body = t.stmts ss; positions = [] }
 
 abbrev returns : t.Expr → t.Stmt
 returns e = t.return (Some e)

@@ -58,6 +58,7 @@ number_of = record {
   parameters = record { ty = branch; pass = pass.Value } ∷ [];
   result = type.Plain I32;
   body = t.then (t.return (Some (field_of (field_of (t.read (t.named (variable.Local 0)) branch) leaf) (type.Plain I32)))) t.end;
+  positions = [];
 }
 
 abbrev program : t.Program

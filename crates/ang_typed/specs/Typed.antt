@@ -1,6 +1,7 @@
 -- The resolved tree of a module, without where it lies in memory: source text with its meaning settled. (docs/ARCHITECTURE.md.)
-use Rattle.std.specs.Prelude.{ℕ, Bool, List, [], ◌∷◌, Option}
+use Rattle.std.specs.Prelude.{ℕ, suc, ◌+◌, Bool, List, [], ◌∷◌, Option}
 use Rattle.ang_kinds.specs.declared.mask.EntityNo.{EntityNo}
+use Rattle.ang_kinds.specs.declared.position.Position.{Position}
 use Rattle.ang_kinds.specs.declared.primitive.Primitive.{Primitive}
 use Rattle.ang_types.specs.declared.arg_type.ArgType.{ArgType}
 use Rattle.ang_typed.specs.declared.expression.HostEntity.{HostEntity}
@@ -88,12 +89,32 @@ abbrev pub stmts : List Stmt → Stmts
 stmts [] = end
 stmts (s ∷ ss) = then s (stmts ss)
 
+-- how many statements there are, those inside statements among them
+abbrev mutual
+  pub inner_count : Stmt → ℕ
+  inner_count (block ss) = statement_count ss
+  inner_count (locals ls) = 0
+  inner_count (expression e) = 0
+  inner_count break = 0
+  inner_count continue = 0
+  inner_count (return e) = 0
+  inner_count (either e ss otherwise) = statement_count ss + statement_count otherwise
+  inner_count (while e ss) = statement_count ss
+  inner_count (do_while ss e) = statement_count ss
+  inner_count (for start e steps ss) = statement_count start + statement_count ss
+
+  pub statement_count : Stmts → ℕ
+  statement_count end = 0
+  statement_count (then s ss) = suc (inner_count s + statement_count ss)
+
 -- ---- modules
 
+-- A function, with where its statements stand, of which no meaning asks.
 pub record TypedFunction : Type 0 where
   pub parameters : List TypedParameter
   pub result : ArgType
   pub body : Stmts
+  pub positions : List Position
 
 pub record Global : Type 0 where
   pub ty : ArgType

@@ -126,7 +126,7 @@ view_stmts ss = t.stmts (map view_stmt ss)
 -- ---- modules
 
 abbrev pub view_function : functions.TypedFunction → t.TypedFunction
-view_function f = record { parameters = f.parameters; result = f.result; body = view_block f.body }
+view_function f = record { parameters = f.parameters; result = f.result; body = view_block f.body; positions = f.positions }
 
 abbrev pub view_global : globals.Global → t.Global
 view_global g = record { ty = g.ty; initializer = view_option g.initializer }

@@ -12,10 +12,9 @@ ghost use Rattle.asrun_text.specs.Text.{outcome_text};
 ghost use Rattle.asrun_text.specs.Trace.{trace_line_text};
 
 use crate::ending::SessionError;
-use crate::printing::{ReplyBuffer, settle};
+use crate::printing::{ReplyBuffer, settle, write_text};
 use crate::run::is_done;
 use crate::text::{push_prepared, push_used};
-use crate::writing::write_text;
 use ang_engine::{DeclarationKind, Engine, Held, Outcome, Refusal};
 use ang_host::Driver;
 use asrun_lines::{push_spaced_number, push_text};

@@ -21,7 +21,6 @@ mod run;
 mod text;
 mod tracing;
 mod whole;
-mod writing;
 
 pub use action::{Act, Action, read_act};
 pub use ending::{IoFault, SessionError, Status};
@@ -30,7 +29,7 @@ pub use explaining::{print_profile_line, print_session_line};
 pub use inquiries::{print_declarations, print_prepared, print_refusal, print_trace, print_used};
 pub use kept::Kept;
 pub use limits::{limited_engine, with_limit};
-pub use printing::{ReplyBuffer, print_bad_line, print_reply};
+pub use printing::{ReplyBuffer, print_bad_line, print_reply, write_text};
 pub use profile::LoadedProfile;
 pub use reading::{BoundedText, MOST_PROFILE, read_text};
 pub use run::{is_done, perform};
@@ -39,4 +38,3 @@ pub use whole::{
     SessionEnd, load_profile, outcome_of, print_drivers_error, print_long_profile, print_no_driver,
     session,
 };
-pub use writing::write_text;

@@ -8,10 +8,9 @@ ghost use Rattle.asrun_session.specs.Whole.{profile_fault_text};
 ghost use Rattle.asrun_session.specs.Writing.{HasFront};
 ghost use Rattle.asrun_text.specs.Text.{event_text, error_text, denial_text, outcome_text, reply_text};
 
-use crate::ending::SessionError;
+use crate::ending::{IoFault, SessionError};
 use crate::profile::ProfileFault;
 use crate::text::{push_bad_line, push_profile_fault};
-use crate::writing::write_text;
 use ang_engine::{Outcome, Reply};
 use ang_host::{EventLog, EventRef};
 use ang_kinds::{Denial, Error};
@@ -24,6 +23,27 @@ const ROOM: usize = 65_536;
 
 /// The bytes that are written at once: as soon as so many are kept back, they are written.
 const PIECE: usize = 32_768;
+
+/// Writes the whole text, in as many calls of `write` as it takes.
+///
+/// # Errors
+/// A write fault where `write` fails, interrupted too, or takes 0 bytes of what is left. A front of the
+/// text is written then.
+pub fn write_text<W: Write>(writer: &mut W, text: &[u8]) -> Result<(), IoFault>
+    ensures whole { OnOk result (Appends (W.contents writer.old) (W.contents writer.new) text.now) }
+    ensures front { OnErr result
+        (HasFront (W.contents writer.old) (W.contents writer.new) text.now) }
+    ensures fault { IfErr result (λ e. e ≡ IoFault.Write) }
+{
+    let mut written = 0;
+    while written < text.len() {
+        match writer.write(&text[written..]) {
+            Ok(0) | Err(_) => return Err(IoFault::Write),
+            Ok(count) => written += count,
+        }
+    }
+    Ok(())
+}
 
 /// A buffer for what is printed. It has room for 64 KiB as soon as it is made, and what is printed is written where 32
 /// KiB stand in it; so printing asks for memory only where a single line has more than 32 KiB.

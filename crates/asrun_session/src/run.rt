@@ -13,8 +13,7 @@ ghost use Rattle.asrun_session.specs.declared.action.Action.TheVariants as actio
 
 use crate::action::{Action, read_act};
 use crate::ending::{SessionError, Status};
-use crate::printing::{ReplyBuffer, print_bad_line, print_reply};
-use crate::writing::write_text;
+use crate::printing::{ReplyBuffer, print_bad_line, print_reply, write_text};
 use ang_engine::{Command, Engine, Outcome};
 use ang_host::Driver;
 use asrun_lines::{LineError, first_line, is_skipped, shown};
@@ -82,6 +81,7 @@ pub fn perform<W: Write>(
             Ok((ok, budget))
         }
         Action::Budget(ticks) => {
+            drop(action);
             write_text(writer, b"ok\n")?;
             Ok((true, ticks))
         }

@@ -9,12 +9,11 @@ use crate::action::{Action, read_act};
 use crate::ending::{SessionError, Status};
 use crate::inquiries::print_frames;
 use crate::limits::limited_engine;
-use crate::printing::{ReplyBuffer, print_bad_line, print_reply};
+use crate::printing::{ReplyBuffer, print_bad_line, print_reply, write_text};
 use crate::profile::LoadedProfile;
 use crate::reading::{BoundedText, MOST_SESSION, read_text};
 use crate::run::is_done;
 use crate::whole::{SessionEnd, load_profile, outcome_of, print_drivers_error, print_no_driver};
-use crate::writing::write_text;
 use ang_engine::{Command, Engine, NewError, NewRefused};
 use ang_host::{Driver, Drivers};
 use asrun_lines::{LineError, first_line, is_skipped, shown};
@@ -32,9 +31,12 @@ fn run_command<W: Write>(
     ensures sound { IsSound ⟦<dyn Driver as Driver>⟧ engine.new }
 {
     let reply = engine.apply(command);
-    print_reply(writer, buffer, &reply)?;
+    let outcome = reply.outcome;
+    let printed = print_reply(writer, buffer, &reply);
+    drop(reply);
+    printed?;
     print_frames(writer, buffer, engine)?;
-    Ok(is_done(reply.outcome))
+    Ok(is_done(outcome))
 }
 
 /// Does an action so. Says whether it ended in `ok`, and the budget of the actions after it.
@@ -54,6 +56,7 @@ fn perform<W: Write>(
             Ok((ok, budget))
         }
         Action::Budget(ticks) => {
+            drop(action);
             write_text(writer, b"ok\n")?;
             Ok((true, ticks))
         }
@@ -203,12 +206,14 @@ pub fn traced_session<P: Read, S: Read, W: Write>(
     match load_profile(alloc, profile, out, &mut buffer, &mut loaded) {
         Ok(true) => {}
         Ok(false) => {
+            drop(loaded);
             return SessionEnd {
                 outcome: Ok(Status::BadInput),
                 drivers,
             };
         }
         Err(stop) => {
+            drop(loaded);
             return SessionEnd {
                 outcome: outcome_of(Err(stop)),
                 drivers,

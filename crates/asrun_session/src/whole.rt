@@ -14,11 +14,10 @@ ghost use Rattle.asrun_session.specs.Writing.{HasFront, unwritten};
 
 use crate::ending::{IoFault, SessionError, Status};
 use crate::limits::limited_engine;
-use crate::printing::{ReplyBuffer, print_profile_fault};
+use crate::printing::{ReplyBuffer, print_profile_fault, write_text};
 use crate::profile::{LoadedProfile, ProfileStop, load};
 use crate::reading::{BoundedText, MOST_PROFILE, MOST_SESSION, read_text};
 use crate::run::run_session;
-use crate::writing::write_text;
 use ang_engine::{Engine, NewError, NewRefused};
 use ang_host::{Driver, Drivers, DriversError};
 use std::alloc::Global;
@@ -330,12 +329,14 @@ pub fn session<P: Read, S: Read, W: Write>(
     match load_profile(alloc, profile, out, &mut buffer, &mut loaded) {
         Ok(true) => {}
         Ok(false) => {
+            drop(loaded);
             return SessionEnd {
                 outcome: Ok(Status::BadInput),
                 drivers,
             };
         }
         Err(stop) => {
+            drop(loaded);
             return SessionEnd {
                 outcome: outcome_of(Err(stop)),
                 drivers,

@@ -1,11 +1,17 @@
 -- Parts of a line that is written from its end.
-use Rattle.std.specs.Prelude.{Result, Ok, Err, OnOk, is_ok, if◌then◌else◌, decimal}
+use Rattle.std.specs.Prelude.{Result, Ok, Err, OnOk, is_ok, if◌then◌else◌, codes, decimal}
 use Rattle.std.proofs.Common.{◌≡◌, ℕ, ◌+◌, ◌<◌, ◌≤◌, ◌^◌, List, [], ◌∷◌, ◌++◌, length, take, drop, refl, sym, ap, ◌∙◌, arith, append_assoc}
 use Rattle.std.proofs.lemmas.Fmt.{length-decimal-le}
 use Rattle.std.proofs.lemmas.List.{take-append-drop, length-take-le, take-take, take_at, drop-drop, drop_at, drop-append-le, drop-take, drop_all}
 use Rattle.ang_kinds.specs.declared.error.Denial.{Denial}
 use Rattle.asrun_text.specs.Denied.{front_text, masks_text}
-use Rattle.asrun_text.specs.Text.{denial_text}
+use Rattle.std.specs.Prelude.{Option}
+use Rattle.ang_host.specs.declared.answer.HostReply.{HostReply}
+use Rattle.ang_host.specs.declared.event.HostEvent.TheVariants.{Called}
+use Rattle.ang_kinds.specs.declared.mask.EntityNo.{EntityNo}
+use Rattle.ang_kinds.specs.declared.value.Value.{Value}
+use Rattle.asrun_lines.specs.Texts.{object_text}
+use Rattle.asrun_text.specs.Text.{newline, values_text, host_reply_text, event_text, denial_text}
 
 -- what stands from a place on, in two parts
 cut : (xs : List ℕ) (i j : ℕ) → i ≤ j → j ≤ length xs → drop i xs ≡ drop i (take j xs) ++ drop j xs
@@ -60,3 +66,41 @@ pub parts_are : (d : Denial)
     → front_text d.place ++ (decimal d.entity.0 ++ masks_text d.entity_mask.0 d.module_mask.0) ≡ denial_text d
 unfolding denial_text
 parts_are d = simp append_assoc
+
+-- a number of 64 bits has twenty digits at most
+pub long_number : (n : ℕ) → n < 2 ^ 64 → length (decimal n) ≤ 20
+long_number n fits = length-decimal-le 20 n (omega arith) (omega (arith, fits)) fits
+
+-- thirteen parts, put together from the last
+parts_joined : (h c s e d o p a q r n : List ℕ)
+    → h ++ c ++ (s ++ e ++ s ++ d ++ s ++ o ++ p ++ (a ++ (q ++ r ++ n))) ≡ h ++ c ++ s ++ e ++ s ++ d ++ s ++ o ++ p ++ a ++ q ++ r ++ n
+parts_joined h c s e d o p a q r n = simp append_assoc
+
+-- the parts of a call's line are its text
+call_parts : (caller : List ℕ) (entity : EntityNo) (driver : ℕ) (object : Option ℕ) (args : List Value) (reply : HostReply)
+    → codes "host " ++ caller
+    ++ (codes " " ++ decimal entity.0 ++ codes " " ++ decimal driver ++ codes " " ++ object_text object ++ codes " ("
+    ++ (values_text args ++ (codes ") " ++ host_reply_text reply ++ newline)))
+    ≡ event_text (Called caller entity driver object args reply)
+unfolding event_text
+call_parts caller entity driver object args reply =
+    parts_joined (codes "host ") caller (codes " ") (decimal entity.0) (decimal driver) (object_text object) (codes " (") (values_text args)
+    (codes ") ") (host_reply_text reply) newline
+
+-- each part is written in front of those that were before
+pub front_written : (h caller asked values d1 d2 d3 d4 : List ℕ)
+    → d2 ≡ values ++ d1 → d3 ≡ asked ++ d2 → d4 ≡ h ++ caller ++ d3 → d4 ≡ h ++ caller ++ (asked ++ (values ++ d1))
+front_written h caller asked values d1 d2 d3 d4 e2 e3 e4 = e4 ∙ ap (λ l. h ++ caller ++ l) (e3 ∙ ap (λ l. asked ++ l) e2)
+
+-- a call's line, of which the answer was written first
+pub call_written : {A E : Type 0} (r : Result A E) (new old : List ℕ) (caller : List ℕ) (entity : EntityNo) (driver : ℕ) (object : Option ℕ)
+    (args : List Value) (reply : HostReply) (answered : List ℕ)
+    → OnOk r (new ≡ old ++ (codes "host " ++ caller ++ (codes " " ++ decimal entity.0 ++ codes " " ++ decimal driver ++ codes " "
+    ++ object_text object ++ codes " (" ++ (values_text args ++ answered))))
+    → answered ≡ codes ") " ++ host_reply_text reply ++ newline
+    → OnOk r (new ≡ old ++ event_text (Called caller entity driver object args reply))
+call_written (Ok a) new old caller entity driver object args reply answered e k =
+    e ∙ ap (λ l. old ++ (codes "host " ++ caller ++ (codes " " ++ decimal entity.0 ++ codes " " ++ decimal driver ++ codes " "
+    ++ object_text object ++ codes " (" ++ (values_text args ++ l)))) k
+    ∙ ap (λ l. old ++ l) (call_parts caller entity driver object args reply)
+call_written (Err a) new old caller entity driver object args reply answered e k = tt

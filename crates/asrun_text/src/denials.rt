@@ -22,7 +22,8 @@ fn hex_digit(d: u8) -> u8
 }
 
 /// Writes bytes so that they end at `end`, and gives where they start.
-fn write_bytes(line: &mut [u8], bytes: &[u8], end: usize) -> usize
+#[inline(always)]
+pub(crate) fn write_bytes(line: &mut [u8], bytes: &[u8], end: usize) -> usize
     requires room { length bytes.now ≤ end }
     requires within { end ≤ length line.old }
     ensures start { result + length bytes.now ≡ end }

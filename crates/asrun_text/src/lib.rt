@@ -3,6 +3,7 @@
 #![tactic(auto)]
 
 mod denials;
+mod event_line;
 mod reply;
 mod trace;
 

@@ -2,11 +2,12 @@
 ghost use Rattle.std.specs.Prelude.{◌≡◌, ◌++◌, OnOk, codes, decimal, flat_map};
 ghost use Rattle.ang_host.specs.Lent.{event_of};
 ghost use Rattle.asrun_lines.specs.Texts.{object_text};
-ghost use Rattle.asrun_text.specs.Text.{value_text, values_text, fault_text, made_text, answer_text, host_reply_text, event_text, place_text, kind_text, name_text, error_text, refusal_text, outcome_text, reply_text};
+ghost use Rattle.asrun_text.specs.Text.{value_text, values_text, fault_text, event_text, place_text, kind_text, name_text, error_text, refusal_text, outcome_text, reply_text};
 
 use crate::denials::push_denials;
+use crate::event_line::{push_call, push_end};
 use ang_engine::{Outcome, Refusal, Reply};
-use ang_host::{Answer, EventLog, EventRef, HostReply, Made};
+use ang_host::{EventLog, EventRef};
 use ang_kinds::{Error, ErrorKind, Fault, Place, Value};
 use asrun_lines::{push_key, push_number, push_object, push_signed, push_spaced_number, push_text};
 use std::alloc::AllocError;
@@ -127,51 +128,6 @@ fn push_values(out: &mut Vec<u8>, values: &[Value]) -> Result<(), AllocError>
     }
 }
 
-#[tactic(auto, using(crate::proofs::Texts::texts), unfolding(crate::specs::Text::made_text))]
-fn push_made(out: &mut Vec<u8>, made: Made) -> Result<(), AllocError>
-    ensures added { OnOk result (out.new.items ≡ out.old.items ++ made_text made) }
-{
-    match made {
-        Made::Key(key) => {
-            push_text(out, "made ")?;
-            push_key(out, key)
-        }
-        Made::Nothing => push_text(out, "nothing"),
-        Made::Fault(n) => {
-            push_text(out, "fault ")?;
-            push_number(out, u64::from(n))
-        }
-        Made::Memory => push_text(out, "memory"),
-        Made::Full => push_text(out, "full"),
-    }
-}
-
-#[tactic(auto, using(crate::proofs::Texts::texts), unfolding(crate::specs::Text::answer_text))]
-fn push_answer(out: &mut Vec<u8>, answer: Answer) -> Result<(), AllocError>
-    ensures added { OnOk result (out.new.items ≡ out.old.items ++ answer_text answer) }
-{
-    match answer {
-        Answer::Void => push_text(out, "void"),
-        Answer::Gave(value) => push_value(out, value),
-        Answer::Fault(n) => {
-            push_text(out, "fault ")?;
-            push_number(out, u64::from(n))
-        }
-        Answer::Memory => push_text(out, "memory"),
-        Answer::Full => push_text(out, "full"),
-    }
-}
-
-#[tactic(auto, using(crate::proofs::Texts::texts), unfolding(crate::specs::Text::host_reply_text))]
-fn push_host_reply(out: &mut Vec<u8>, reply: HostReply) -> Result<(), AllocError>
-    ensures added { OnOk result (out.new.items ≡ out.old.items ++ host_reply_text reply) }
-{
-    match reply {
-        HostReply::Making(made) => push_made(out, made),
-        HostReply::Asking(answer) => push_answer(out, answer),
-    }
-}
-
 /// The line of a host call, from its entity on.
 #[tactic(auto, using(crate::proofs::Texts::texts))]
 fn push_asked(
@@ -188,11 +144,36 @@ fn push_asked(
     push_object(out, object)
 }
 
+/// The line of a host call, of which `answered` stands behind its arguments, put after what stands in `out`.
+#[tactic(auto, using(crate::proofs::Texts::texts))]
+#[inline(never)]
+pub(crate) fn push_long(
+    out: &mut Vec<u8>,
+    caller: &[u8],
+    entity: u32,
+    driver: u32,
+    object: Option<u64>,
+    args: &[Value],
+    answered: &[u8],
+) -> Result<(), AllocError>
+    ensures added { OnOk result (out.new.items ≡ out.old.items
+        ++ (codes "host " ++ caller.now ++ (codes " " ++ decimal entity ++ codes " "
+        ++ decimal driver ++ codes " " ++ object_text object ++ codes " ("
+        ++ (values_text args.now ++ answered.now)))) }
+{
+    push_text(out, "host ")?;
+    push_bytes(out, caller)?;
+    push_text(out, " ")?;
+    push_asked(out, entity, driver, object)?;
+    push_text(out, " (")?;
+    push_values(out, args)?;
+    push_bytes(out, answered)
+}
+
 /// The line of a host call or of the end of a host object, put after what stands in `out`.
 ///
 /// # Errors
 /// A growth of memory was refused. Nothing is promised of `out` then.
-#[tactic(auto, using(crate::proofs::Texts::texts), unfolding(crate::specs::Text::event_text))]
 pub fn push_event(out: &mut Vec<u8>, event: &EventRef<'_>) -> Result<(), AllocError>
     ensures added { OnOk result (out.new.items ≡ out.old.items ++ event_text (event_of event.now)) }
 {
@@ -204,24 +185,8 @@ pub fn push_event(out: &mut Vec<u8>, event: &EventRef<'_>) -> Result<(), AllocEr
             object,
             args,
             reply,
-        } => {
-            push_text(out, "host ")?;
-            push_bytes(out, caller)?;
-            push_text(out, " ")?;
-            push_asked(out, entity.0, driver, object)?;
-            push_text(out, " (")?;
-            push_values(out, args)?;
-            push_text(out, ") ")?;
-            push_host_reply(out, reply)?;
-            push_text(out, "\n")
-        }
-        EventRef::Ended { driver, key } => {
-            push_text(out, "end ")?;
-            push_number(out, u64::from(driver))?;
-            push_text(out, " ")?;
-            push_key(out, key)?;
-            push_text(out, "\n")
-        }
+        } => { push_call(out, caller, entity, driver, object, args, reply) }
+        EventRef::Ended { driver, key } => push_end(out, driver, key),
     }
 }
 

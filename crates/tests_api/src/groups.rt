@@ -79,15 +79,21 @@ fn gives(registry: &mut Registry, step: &Step) -> bool {
     }
 }
 
-/// The place of the first call that does not give what it has to, over a list that is empty at first.
-fn first_wrong(alloc: Global, steps: &[Step]) -> Option<usize> {
-    let mut registry = Registry::new(alloc);
+fn first_wrong_over(registry: &mut Registry, steps: &[Step]) -> Option<usize> {
     for (at, step) in steps.iter().enumerate() {
-        if !gives(&mut registry, step) {
+        if !gives(registry, step) {
             return Some(at);
         }
     }
     None
+}
+
+/// The place of the first call that does not give what it has to, over a list that is empty at first.
+fn first_wrong(alloc: Global, steps: &[Step]) -> Option<usize> {
+    let mut registry = Registry::new(alloc);
+    let wrong = first_wrong_over(&mut registry, steps);
+    drop(registry);
+    wrong
 }
 
 const REFUSALS: &[Step] = &[
@@ -190,6 +196,7 @@ fn removed_at_last(alloc: Global) -> Result<(bool, bool, bool), AllocError> {
     let is_begun = begins_again(&mut registry);
     let is_open = registry.remove_group(b"g") == Err(GroupError::NoGroup);
     let is_removed = registry.end_group() == Ok(()) && registry.remove_group(b"g") == Ok(());
+    drop(registry);
     Ok((is_begun, is_open, is_removed))
 }
 

@@ -96,7 +96,11 @@ fn is_seen(view: &View, seen: &Seen) -> bool {
 /// Whether a module of the mask sees that.
 fn sees(alloc: Global, registry: &Registry, mask: u32, seen: &Seen) -> bool {
     match registry.seen(alloc, Mask(mask)) {
-        Ok(view) => is_seen(&view, seen),
+        Ok(view) => {
+            let is_seen = is_seen(&view, seen);
+            drop(view);
+            is_seen
+        }
         Err(_) => false,
     }
 }
@@ -195,7 +199,9 @@ fn wrong_in(alloc: Global, registry: &mut Registry, case: &Case) -> Option<(u32,
 /// The same over a list that is empty at first.
 fn wrong_in_new(alloc: Global, case: &Case) -> Option<(u32, usize)> {
     let mut registry = Registry::new(alloc);
-    wrong_in(alloc, &mut registry, case)
+    let wrong = wrong_in(alloc, &mut registry, case);
+    drop(registry);
+    wrong
 }
 
 /// Types `Counter` and `Cell` with their members, functions of three drivers, and two global properties.
@@ -587,7 +593,9 @@ fn adds_again(registry: &mut Registry) -> bool {
 /// Whether a module of the first mask sees the first entry.
 fn sees_first(alloc: Global, registry: &Registry) -> Result<bool, AllocError> {
     let view = registry.seen(alloc, Mask(1))?;
-    Ok(view.get(EntityNo(0)).is_some())
+    let is_seen = view.get(EntityNo(0)).is_some();
+    drop(view);
+    Ok(is_seen)
 }
 
 fn sees_again(alloc: Global, registry: &Registry) -> Result<bool, AllocError> {
@@ -601,7 +609,10 @@ fn sees_again(alloc: Global, registry: &Registry) -> Result<bool, AllocError> {
 fn added_at_last(alloc: Global) -> Result<(bool, usize, bool), AllocError> {
     let mut registry = Registry::new(alloc);
     let is_added = adds_again(&mut registry);
-    Ok((is_added, registry.len(), sees_again(alloc, &registry)?))
+    let count = registry.len();
+    let is_seen = sees_again(alloc, &registry);
+    drop(registry);
+    Ok((is_added, count, is_seen?))
 }
 
 #[test]

@@ -78,12 +78,13 @@ fn are_passed(
     values: &[Value],
     bits: Option<&[u64]>,
 ) -> bool {
-    let Ok(slots) = arguments(alloc, function, values) else {
-        return false;
-    };
-    match (&slots, bits) {
-        (Some(slots), Some(bits)) => are_bits(slots, bits),
-        (slots, bits) => slots.is_none() && bits.is_none(),
+    match arguments(alloc, function, values) {
+        Ok(Some(slots)) => match bits {
+            Some(bits) => are_bits(slots.as_slice(), bits),
+            None => false,
+        },
+        Ok(None) => bits.is_none(),
+        Err(_) => false,
     }
 }
 
@@ -92,7 +93,9 @@ fn passes(alloc: Global, types: &[ArgType], values: &[Value], bits: Option<&[u64
     let Ok(function) = taking(alloc, types) else {
         return false;
     };
-    are_passed(alloc, &function, values, bits)
+    let passes = are_passed(alloc, &function, values, bits);
+    drop(function);
+    passes
 }
 
 /// Whether so it is with one argument of this type.
@@ -228,7 +231,9 @@ fn takes_none(alloc: Global, ty: ArgType) -> bool {
     let Ok(function) = taking(alloc, &[ty]) else {
         return false;
     };
-    !is_callable(&function) && are_passed(alloc, &function, &[Value::Key(None)], None)
+    let takes = is_callable(&function) || !are_passed(alloc, &function, &[Value::Key(None)], None);
+    drop(function);
+    !takes
 }
 
 #[test]
@@ -241,7 +246,9 @@ fn objects_are_not_passed(rt: HostRuntime) {
 /// Whether a function without parameters that has this result can be called.
 fn gives(alloc: Global, ty: ArgType) -> bool {
     let function = function(alloc, ty, Vec::new(alloc));
-    is_callable(&function)
+    let gives = is_callable(&function);
+    drop(function);
+    gives
 }
 
 /// A result's type, and whether a function that has it can be called.

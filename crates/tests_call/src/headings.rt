@@ -8,6 +8,7 @@ use ang_parse::parse;
 use ang_registry::{RegError, Registry, View};
 use ang_tree::Script;
 use std::alloc::{AllocError, Global};
+use std::slice;
 
 /// The functions 0 to 8. Those named `f` differ in one thing each.
 const MODULE: &[u8] =
@@ -22,13 +23,19 @@ fn register(registry: &mut Registry) -> Result<(), RegError> {
     Ok(())
 }
 
-/// What a module sees of these.
-pub(crate) fn view(alloc: Global) -> Option<View> {
-    let mut registry = Registry::new(alloc);
-    if register(&mut registry).is_err() {
+fn seen(alloc: Global, registry: &mut Registry) -> Option<View> {
+    if register(registry).is_err() {
         return None;
     }
     registry.seen(alloc, Mask(1)).ok()
+}
+
+/// What a module sees of these.
+pub(crate) fn view(alloc: Global) -> Option<View> {
+    let mut registry = Registry::new(alloc);
+    let view = seen(alloc, &mut registry);
+    drop(registry);
+    view
 }
 
 fn script_in(alloc: Global, text: &[u8]) -> Option<Script> {
@@ -38,8 +45,10 @@ fn script_in(alloc: Global, text: &[u8]) -> Option<Script> {
 
 /// The names of one section, or nothing where it has an error.
 pub(crate) fn names_in(alloc: Global, view: &View, text: &[u8]) -> Option<Names> {
-    let scripts = [script_in(alloc, text)?];
-    declare(alloc, view, &scripts).ok()
+    let script = script_in(alloc, text)?;
+    let names = declare(alloc, view, slice::from_ref(&script));
+    drop(script);
+    names.ok()
 }
 
 /// Which function of the module each text names.
@@ -232,7 +241,9 @@ fn wrong_in_view(alloc: Global, view: &View, asked: Asked) -> Option<&'static st
     let Some(names) = names_in(alloc, view, MODULE) else {
         return Some("the module");
     };
-    wrong_in(alloc, view, &names, asked)
+    let wrong = wrong_in(alloc, view, &names, asked);
+    drop(names);
+    wrong
 }
 
 /// The first row that is answered wrongly.
@@ -240,7 +251,9 @@ fn first_wrong(alloc: Global, asked: Asked) -> Option<&'static str> {
     let Some(view) = view(alloc) else {
         return Some("the view");
     };
-    wrong_in_view(alloc, &view, asked)
+    let wrong = wrong_in_view(alloc, &view, asked);
+    drop(view);
+    wrong
 }
 
 #[test]

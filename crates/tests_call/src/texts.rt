@@ -129,15 +129,21 @@ enum Written {
     Imports,
 }
 
-fn wrong_in(alloc: Global, view: &View, written: Written) -> Option<&'static str> {
+fn wrong_in(alloc: Global, view: &View, names: &Names, written: Written) -> Option<&'static str> {
+    match written {
+        Written::Functions => wrong_function(alloc, view, names),
+        Written::Globals => wrong_global(alloc, view, names),
+        Written::Imports => wrong_import(alloc, view, names),
+    }
+}
+
+fn wrong_in_view(alloc: Global, view: &View, written: Written) -> Option<&'static str> {
     let Some(names) = names_in(alloc, view, MODULE) else {
         return Some("the module");
     };
-    match written {
-        Written::Functions => wrong_function(alloc, view, &names),
-        Written::Globals => wrong_global(alloc, view, &names),
-        Written::Imports => wrong_import(alloc, view, &names),
-    }
+    let wrong = wrong_in(alloc, view, &names, written);
+    drop(names);
+    wrong
 }
 
 /// The first text that is written otherwise, or not found again.
@@ -145,7 +151,9 @@ fn first_wrong(alloc: Global, written: Written) -> Option<&'static str> {
     let Some(view) = view(alloc) else {
         return Some("the view");
     };
-    wrong_in(alloc, &view, written)
+    let wrong = wrong_in_view(alloc, &view, written);
+    drop(view);
+    wrong
 }
 
 #[test]

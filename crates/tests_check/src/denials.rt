@@ -25,6 +25,18 @@ const COUNTER: &[Line] = &[
     Line::Factory(b"Counter", 1, b"Counter@ f(int)"),
 ];
 
+/// A type that a module of mask 3 sees, and of its factories the one that takes an integer.
+const COUNTERS: &[Line] = &[
+    Line::Mask(2),
+    Line::Type(b"Counter", 1),
+    Line::Mask(4),
+    Line::Factory(b"Counter", 0, b"Counter@ f()"),
+    Line::Mask(1),
+    Line::Factory(b"Counter", 1, b"Counter@ f(int)"),
+    Line::Mask(4),
+    Line::Factory(b"Counter", 2, b"Counter@ f(int,int)"),
+];
+
 /// A type, and a method of it under one mask, `const` under another one.
 const CELL: &[Line] = &[
     Line::Mask(3),
@@ -98,6 +110,43 @@ pub const CASES: &[Case] = &[
                 Denied(&[(11, 0, 1, 2), (11, 1, 1, 2)]),
             ),
             ("void m(){ Counter c(5); }", Denied(&[(11, 0, 1, 2)])),
+            ("void m(){ int Counter; Counter(5); }", Denied(&[])),
+            ("void m(){ int Counter; Counter c(5); }", Denied(&[])),
+        ],
+    ),
+    (
+        "factories of a seen type",
+        COUNTERS,
+        3,
+        &[
+            (
+                "void m() { int Counter; Counter(); }",
+                Denied(&[(25, 1, 4, 3)]),
+            ),
+            (
+                "void m(int Counter) { Counter(); }",
+                Denied(&[(23, 1, 4, 3)]),
+            ),
+            (
+                "class C { int Counter; void m() { Counter(); } }",
+                Denied(&[(35, 1, 4, 3)]),
+            ),
+            (
+                "void m() { int Counter; Counter c; }",
+                Denied(&[(25, 1, 4, 3)]),
+            ),
+            (
+                "void m() { int Counter; Counter c(1, 2); }",
+                Denied(&[(25, 3, 4, 3)]),
+            ),
+            (
+                "class C { void Counter() {} void m() { Counter c; } }",
+                Denied(&[(40, 1, 4, 3)]),
+            ),
+            (
+                "class C { void Counter(int x) {} void m() { Counter(); } }",
+                Denied(&[]),
+            ),
         ],
     ),
     (

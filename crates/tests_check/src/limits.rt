@@ -112,12 +112,22 @@ fn first_wrong(alloc: Global, registry: &Registry, view: &View) -> Option<usize>
     None
 }
 
-fn wrong_limit(alloc: Global) -> Option<usize> {
-    let registry = Registry::new(alloc);
+fn wrong_over(alloc: Global, registry: &Registry) -> Option<usize> {
     match registry.seen(alloc, Mask(1)) {
-        Ok(view) => first_wrong(alloc, &registry, &view),
+        Ok(view) => {
+            let wrong = first_wrong(alloc, registry, &view);
+            drop(view);
+            wrong
+        }
         Err(_) => Some(LIMITS.len()),
     }
+}
+
+fn wrong_limit(alloc: Global) -> Option<usize> {
+    let registry = Registry::new(alloc);
+    let wrong = wrong_over(alloc, &registry);
+    drop(registry);
+    wrong
 }
 
 #[test]

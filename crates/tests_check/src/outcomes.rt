@@ -290,7 +290,11 @@ fn is_of_bodies(
         (declarations_of (list_map source_of scripts.now)) }
 {
     match check(alloc, view, names, scripts) {
-        Ok(module) => is_module(&module, outcome),
+        Ok(module) => {
+            let is_so = is_module(&module, outcome);
+            drop(module);
+            is_so
+        }
         Err(Unbuilt::Errors(errors)) => {
             let errors = errors.as_slice();
             is_refusal(alloc, registry, mask, scripts, Some(names), errors, outcome)
@@ -312,8 +316,10 @@ fn comes_to(
 {
     match declare(alloc, view, scripts) {
         Ok(names) => {
-            matches!(outcome, Outcome::Declared)
-                || is_of_bodies(alloc, registry, mask, view, scripts, &names, outcome)
+            let is_so = matches!(outcome, Outcome::Declared)
+                || is_of_bodies(alloc, registry, mask, view, scripts, &names, outcome);
+            drop(names);
+            is_so
         }
         Err(Unbuilt::Errors(errors)) => {
             let errors = errors.as_slice();
@@ -336,14 +342,10 @@ pub fn becomes(
 {
     match script_of(alloc, text.as_bytes()) {
         Some(script) => {
-            comes_to(
-                alloc,
-                registry,
-                mask,
-                view,
-                slice::from_ref(&script),
-                outcome,
-            )
+            let scripts = slice::from_ref(&script);
+            let is_so = comes_to(alloc, registry, mask, view, scripts, outcome);
+            drop(script);
+            is_so
         }
         None => false,
     }
@@ -376,17 +378,27 @@ fn first_wrong_of(
     rows: &[Row],
 ) -> Option<&'static str> {
     match registry.seen(alloc, mask) {
-        Ok(view) => first_wrong_seen(alloc, registry, mask, &view, rows),
+        Ok(view) => {
+            let wrong = first_wrong_seen(alloc, registry, mask, &view, rows);
+            drop(view);
+            wrong
+        }
         Err(_) => Some("there is no memory"),
+    }
+}
+
+fn first_wrong_over(alloc: Global, registry: &mut Registry, case: &Case) -> Option<&'static str> {
+    if are_taken(registry, case.1) {
+        first_wrong_of(alloc, registry, Mask(case.2), case.3)
+    } else {
+        Some("the host is refused")
     }
 }
 
 /// The first section of which something else becomes.
 pub fn first_wrong(alloc: Global, case: &Case) -> Option<&'static str> {
     let mut registry = Registry::new(alloc);
-    if are_taken(&mut registry, case.1) {
-        first_wrong_of(alloc, &registry, Mask(case.2), case.3)
-    } else {
-        Some("the host is refused")
-    }
+    let wrong = first_wrong_over(alloc, &mut registry, case);
+    drop(registry);
+    wrong
 }

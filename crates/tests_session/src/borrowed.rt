@@ -1,11 +1,10 @@
 //! Receivers that are borrowed: how many references to its objects the counter was asked to add in a session.
 
-use ang_drivers::{Cell, Console, Counter};
+use crate::harness::three_drivers;
 use ang_host::{Answer, Driver};
 use ang_kinds::Value;
 use asrun_session::{SessionEnd, session};
 use std::alloc::{AllocError, Global};
-use std::test::Fail;
 
 /// Types, factories, methods, properties, functions and global properties of all three drivers.
 const ALL_KINDS: &str = "mask 00000001
@@ -57,18 +56,12 @@ fn added_to(drivers: &mut Vec<Box<dyn Driver>>) -> Option<Answer> {
     }
 }
 
-/// How many references to its objects the counter was asked to add in a session that builds a section and calls its `p`.
-fn added(alloc: Global, section: &str) -> Result<Option<Answer>, AllocError> {
-    let text = format!(in alloc;
-        "module a 00000001\nsection a 1\n{section}\nbuild a\ncall a () int p()\n"
-    )?;
+/// The same in a session of this text.
+fn added_in(alloc: Global, text: &str) -> Result<Option<Answer>, AllocError> {
+    let boxes = three_drivers(alloc)?;
     let mut profile = ALL_KINDS.as_bytes();
     let mut text = text.as_bytes();
     let mut written: Vec<u8> = Vec::new(alloc);
-    let mut boxes: Vec<Box<dyn Driver>> = Vec::new(alloc);
-    boxes.push(Box::new(alloc, Console::new(alloc)?)?)?;
-    boxes.push(Box::new(alloc, Counter::new(alloc)?)?)?;
-    boxes.push(Box::new(alloc, Cell::new(alloc)?)?)?;
     let SessionEnd {
         outcome: _,
         mut drivers,
@@ -85,8 +78,16 @@ fn added(alloc: Global, section: &str) -> Result<Option<Answer>, AllocError> {
     Ok(answer)
 }
 
+/// How many references to its objects the counter was asked to add in a session that builds a section and calls its `p`.
+fn added(alloc: Global, section: &str) -> Result<Option<Answer>, AllocError> {
+    let text = format!(in alloc;
+        "module a 00000001\nsection a 1\n{section}\nbuild a\ncall a () int p()\n"
+    )?;
+    added_in(alloc, text.as_str())
+}
+
 #[test]
-fn borrowed_receivers_are_not_counted(rt: HostRuntime) -> Result<(), Fail> {
+fn borrowed_receivers_are_not_counted(rt: HostRuntime) -> Result<(), AllocError> {
     for (section, count) in BORROWED {
         assert!(rt;
             added(rt.alloc(), section)? == Some(Answer::Gave(Value::Uint(count))),

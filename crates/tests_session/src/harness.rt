@@ -1,4 +1,5 @@
 //! What whole runs are tried with: a profile and a session, and what they print.
+ghost use Rattle.std.specs.Prelude.{◌<◌, ◌^◌, length, IfOk};
 
 use ang_drivers::{Cell, Console, Counter};
 use ang_host::Driver;
@@ -13,6 +14,22 @@ pub const SESSION: &str =
 
 pub const OUTPUT: &str = "ok\nok\nok\nhost a 0 0 - (3) void\nok\n";
 
+/// A console, a counter and a cell.
+pub fn three_drivers(alloc: Global) -> Result<Vec<Box<dyn Driver>>, AllocError>
+    ensures few { IfOk result (λ boxes. length boxes.items < 2 ^ 60) }
+{
+    let mut boxes: Vec<Box<dyn Driver>> = Vec::new(alloc);
+    boxes.push(Box::new(alloc, Console::new(alloc)?)?)?;
+    boxes.push(Box::new(alloc, Counter::new(alloc)?)?)?;
+    boxes.push(Box::new(alloc, Cell::new(alloc)?)?)?;
+    Ok(boxes)
+}
+
+/// Whether there are so many drivers, all of them idle.
+pub fn are_idle(drivers: &Vec<Box<dyn Driver>>, count: usize) -> bool {
+    drivers.len() == count && drivers.iter().all(|driver| driver.idle())
+}
+
 /// The outcome of a session with a console, a counter and a cell as its drivers, if all drivers are handed back idle.
 pub fn run_to<P: Read, S: Read, W: Write>(
     alloc: Global,
@@ -20,10 +37,7 @@ pub fn run_to<P: Read, S: Read, W: Write>(
     session_text: &mut S,
     out: &mut W,
 ) -> Result<Option<Result<Status, IoFault>>, AllocError> {
-    let mut boxes: Vec<Box<dyn Driver>> = Vec::new(alloc);
-    boxes.push(Box::new(alloc, Console::new(alloc)?)?)?;
-    boxes.push(Box::new(alloc, Counter::new(alloc)?)?)?;
-    boxes.push(Box::new(alloc, Cell::new(alloc)?)?)?;
+    let boxes = three_drivers(alloc)?;
     let SessionEnd { outcome, drivers } = session(
         alloc,
         profile,
@@ -32,9 +46,9 @@ pub fn run_to<P: Read, S: Read, W: Write>(
         boxes,
         1_000_000,
     );
-    let are_idle = drivers.len() == 3 && drivers.iter().all(|driver| driver.idle());
+    let is_idle = are_idle(&drivers, 3);
     drop(drivers);
-    Ok(are_idle.then_some(outcome))
+    Ok(is_idle.then_some(outcome))
 }
 
 /// What such a session wrote, and its outcome, if all drivers are handed back idle.

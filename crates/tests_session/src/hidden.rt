@@ -10,7 +10,7 @@ use ang_drivers::Console;
 use ang_engine::{Command, Engine, Error, NewRefused, Outcome, Refusal, Reply};
 use ang_host::{Driver, Drivers, EventLog, EventRef, HostReply};
 use ang_kinds::{EntityNo, Fault, List, Mask, Value};
-use ang_registry::Registry;
+use ang_registry::{Registry, View};
 use std::alloc::{AllocError, Global};
 
 // ---- two registries
@@ -53,29 +53,51 @@ fn offered(alloc: Global, has_hidden: bool) -> Result<Registry, AllocError> {
     if is_taken {
         Ok(registry)
     } else {
+        drop(registry);
         Err(AllocError)
     }
+}
+
+fn has_the_first(view: &View) -> bool {
+    view.len() == 3
+        && view.get(EntityNo(0)).is_some()
+        && view.get(EntityNo(1)).is_none()
+        && view.get(EntityNo(2)).is_none()
 }
 
 /// Whether the mask sees the first of three entries alone.
 fn shows_the_first(alloc: Global, registry: &Registry) -> Result<bool, AllocError> {
     let view = registry.seen(alloc, GIVEN)?;
-    Ok(
-        view.len() == 3
-            && view.get(EntityNo(0)).is_some()
-            && view.get(EntityNo(1)).is_none()
-            && view.get(EntityNo(2)).is_none(),
-    )
+    let has_it = has_the_first(&view);
+    drop(view);
+    Ok(has_it)
+}
+
+/// Whether the mask sees the first entry alone, before the group is removed and after it.
+fn shows_it_still(alloc: Global, registry: &mut Registry) -> Result<bool, AllocError> {
+    let is_shown = shows_the_first(alloc, registry)?;
+    let is_removed = registry.remove_group(GROUP.as_bytes()).is_ok();
+    Ok(is_shown && is_removed && shows_the_first(alloc, registry)?)
+}
+
+fn first_shows(alloc: Global) -> Result<bool, AllocError> {
+    let mut first = offered(alloc, true)?;
+    let is_shown = shows_it_still(alloc, &mut first);
+    drop(first);
+    is_shown
+}
+
+fn second_shows(alloc: Global) -> Result<bool, AllocError> {
+    let second = offered(alloc, false)?;
+    let is_shown = shows_the_first(alloc, &second);
+    drop(second);
+    is_shown
 }
 
 /// Whether both registries show the same, before the group is removed and after it: the first entry, which both have by the
 /// same call.
 fn show_same(alloc: Global) -> Result<bool, AllocError> {
-    let mut first = offered(alloc, true)?;
-    let second = offered(alloc, false)?;
-    let are_shown = shows_the_first(alloc, &first)? && shows_the_first(alloc, &second)?;
-    let is_removed = first.remove_group(GROUP.as_bytes()).is_ok();
-    Ok(are_shown && is_removed && shows_the_first(alloc, &first)?)
+    Ok(first_shows(alloc)? && second_shows(alloc)?)
 }
 
 #[test]
@@ -232,13 +254,34 @@ fn replies_with(
     }
 }
 
-/// The replies to all commands over a registry, by a new console.
-fn replies_over(alloc: Global, registry: Registry) -> Result<Vec<Reply>, AllocError> {
+fn console(alloc: Global) -> Result<Vec<Box<dyn Driver>>, AllocError> {
     let mut boxes: Vec<Box<dyn Driver>> = Vec::new(alloc);
     boxes.push(Box::new(alloc, Console::new(alloc)?)?)?;
+    Ok(boxes)
+}
+
+fn replies_by(
+    alloc: Global,
+    registry: Registry,
+    boxes: Vec<Box<dyn Driver>>,
+) -> Result<Vec<Reply>, AllocError> {
     match Drivers::new(boxes) {
         Ok(drivers) => replies_with(alloc, registry, drivers),
-        Err(_) => Err(AllocError),
+        Err(_) => {
+            drop(registry);
+            Err(AllocError)
+        }
+    }
+}
+
+/// The replies to all commands over a registry, by a new console.
+fn replies_over(alloc: Global, registry: Registry) -> Result<Vec<Reply>, AllocError> {
+    match console(alloc) {
+        Ok(boxes) => replies_by(alloc, registry, boxes),
+        Err(error) => {
+            drop(registry);
+            Err(error)
+        }
     }
 }
 

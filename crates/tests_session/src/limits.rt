@@ -3,7 +3,6 @@
 use crate::harness::{OUTPUT, PROFILE, SESSION, run};
 use asrun_session::Status;
 use std::alloc::{AllocError, Global};
-use std::test::Fail;
 
 /// The most bytes of a profile.
 const MOST_PROFILE: usize = 1_048_576;
@@ -174,89 +173,150 @@ const SECTIONS: [Section; 19] = [
     ),
 ];
 
+/// What follows an answer of a build and a call, and the status of the session.
+fn end_of(answer: &str) -> (&'static str, Status) {
+    if answer.starts_with("ok\nok ") {
+        return ("", Status::AllOk);
+    }
+    if answer.starts_with("error ") {
+        return (
+            "refused BuildErrors\nrefused NotBuilt\n",
+            Status::SomeRefused,
+        );
+    }
+    if answer.starts_with("refused ") {
+        return ("refused NotBuilt\n", Status::SomeRefused);
+    }
+    ("", Status::SomeRefused)
+}
+
+/// A session that builds a section and calls its `m`.
+fn session_of(alloc: Global, section: &str) -> Result<String, AllocError> {
+    let lines = section.bytes().filter(|byte| *byte == b'\n').count();
+    format!(in alloc; "module a 00000001\nsection a {lines}\n{section}build a\ncall a () int m()\n")
+}
+
+/// Whether such a session is answered so.
+fn replies(alloc: Global, session: &str, answer: &str) -> Result<bool, AllocError> {
+    let (end, status) = end_of(answer);
+    let output = format!(in alloc; "ok\nok\n{answer}{end}")?;
+    writes(alloc, PROFILE, session, output.as_str(), status)
+}
+
 /// Whether a section is answered so.
 fn answers(alloc: Global, section: &str, answer: &str) -> Result<bool, AllocError> {
-    let lines = section.bytes().filter(|byte| *byte == b'\n').count();
-    let session = format!(in alloc;
-        "module a 00000001\nsection a {lines}\n{section}build a\ncall a () int m()\n"
-    )?;
-    let end = if answer.starts_with("error ") {
-        "refused BuildErrors\nrefused NotBuilt\n"
-    } else if answer.starts_with("refused ") {
-        "refused NotBuilt\n"
-    } else {
-        ""
-    };
-    let is_called = answer.starts_with("ok\nok ");
-    let status = if is_called {
-        Status::AllOk
-    } else {
-        Status::SomeRefused
-    };
-    let output = format!(in alloc; "ok\nok\n{answer}{end}")?;
-    writes(alloc, PROFILE, session.as_str(), output.as_str(), status)
+    let session = session_of(alloc, section)?;
+    replies(alloc, session.as_str(), answer)
+}
+
+/// Whether a section of this pattern, whose pieces stand so often, is answered so.
+fn is_answered(
+    alloc: Global,
+    pattern: &str,
+    count: usize,
+    answer: &str,
+) -> Result<bool, AllocError> {
+    let section = grown(alloc, pattern, count)?;
+    answers(alloc, section.as_str(), answer)
 }
 
 #[test]
-fn sections_at_their_limits(rt: HostRuntime) -> Result<(), Fail> {
-    let alloc = rt.alloc();
+fn sections_at_their_limits(rt: HostRuntime) -> Result<(), AllocError> {
     for (pattern, most, within, above) in SECTIONS {
-        let last = grown(alloc, pattern, most)?;
-        assert!(rt; answers(alloc, last.as_str(), within)?, "{pattern}");
-        let more = grown(alloc, pattern, most.saturating_add(1))?;
-        assert!(rt; answers(alloc, more.as_str(), above)?, "{pattern}");
+        let more = most.saturating_add(1);
+        let is_right = is_answered(rt.alloc(), pattern, most, within)?
+            && is_answered(rt.alloc(), pattern, more, above)?;
+        assert!(rt; is_right, "{pattern}");
     }
     Ok(())
 }
 
-/// Sessions whose pieces may stand 64 times, and how many commands are done before the refused one.
-const SESSIONS: [(&str, usize); 2] = [
-    ("<module m# 00000001\n>", 64),
-    ("module m 00000001\n<section m 1\n;\n>", 65),
+/// A text of this pattern, whose pieces stand so often.
+struct Repeated(&'static str, usize);
+
+/// A profile, a session, what is written, and the status.
+type Run = (Repeated, Repeated, Repeated, &'static str, Status);
+
+const ALL_OK: Status = Status::AllOk;
+
+const REFUSED: Status = Status::SomeRefused;
+
+const BAD: Status = Status::BadInput;
+
+/// There may be 64 modules, 64 sections of one, and 32 parameters of a registration.
+const RUNS: [Run; 6] = [
+    (
+        Repeated(PROFILE, 0),
+        Repeated("<module m# 00000001\n>", 64),
+        Repeated("<ok\n>", 64),
+        "",
+        ALL_OK,
+    ),
+    (
+        Repeated(PROFILE, 0),
+        Repeated("<module m# 00000001\n>", 65),
+        Repeated("<ok\n>", 64),
+        "refused Limit\n",
+        REFUSED,
+    ),
+    (
+        Repeated(PROFILE, 0),
+        Repeated("module m 00000001\n<section m 1\n;\n>", 64),
+        Repeated("<ok\n>", 65),
+        "",
+        ALL_OK,
+    ),
+    (
+        Repeated(PROFILE, 0),
+        Repeated("module m 00000001\n<section m 1\n;\n>", 65),
+        Repeated("<ok\n>", 65),
+        "refused Limit\n",
+        REFUSED,
+    ),
+    (
+        Repeated("mask 00000001\nfunction 0 0 void f(int<,int>)\n", 31),
+        Repeated("", 0),
+        Repeated("", 0),
+        "",
+        ALL_OK,
+    ),
+    (
+        Repeated("mask 00000001\nfunction 0 0 void f(int<,int>)\n", 32),
+        Repeated("", 0),
+        Repeated("", 0),
+        "profile 2 Limit\n",
+        BAD,
+    ),
 ];
 
-#[test]
-fn there_are_64_modules_and_64_sections_of_one(rt: HostRuntime) -> Result<(), Fail> {
-    let alloc = rt.alloc();
-    for (pattern, done) in SESSIONS {
-        let last = grown(alloc, pattern, 64)?;
-        let oks = grown(alloc, "<ok\n>", done)?;
-        assert!(rt;
-            writes(alloc, PROFILE, last.as_str(), oks.as_str(), Status::AllOk)?,
-            "{pattern}"
-        );
-        let more = grown(alloc, pattern, 65)?;
-        let refused = format!(in alloc; "{oks}refused Limit\n")?;
-        assert!(rt;
-            writes(
-                alloc,
-                PROFILE,
-                more.as_str(),
-                refused.as_str(),
-                Status::SomeRefused
-            )?,
-            "{pattern}"
-        );
-    }
-    Ok(())
+fn text_of(alloc: Global, text: &Repeated) -> Result<String, AllocError> {
+    grown(alloc, text.0, text.1)
+}
+
+/// Whether a session over a profile ends so.
+fn ends_so(alloc: Global, profile: &str, session: &str, run: &Run) -> Result<bool, AllocError> {
+    let front = text_of(alloc, &run.2)?;
+    let end = run.3;
+    let output = format!(in alloc; "{front}{end}")?;
+    writes(alloc, profile, session, output.as_str(), run.4)
+}
+
+fn runs_over(alloc: Global, profile: &str, run: &Run) -> Result<bool, AllocError> {
+    let session = text_of(alloc, &run.1)?;
+    ends_so(alloc, profile, session.as_str(), run)
+}
+
+/// Whether a run ends so.
+fn runs(alloc: Global, run: &Run) -> Result<bool, AllocError> {
+    let profile = text_of(alloc, &run.0)?;
+    runs_over(alloc, profile.as_str(), run)
 }
 
 #[test]
-fn a_registration_has_32_parameters_at_most(rt: HostRuntime) -> Result<(), Fail> {
-    let alloc = rt.alloc();
-    let pattern = "mask 00000001\nfunction 0 0 void f(int<,int>)\n";
-    let last = grown(alloc, pattern, 31)?;
-    assert!(rt; writes(alloc, last.as_str(), "", "", Status::AllOk)?);
-    let more = grown(alloc, pattern, 32)?;
-    assert!(rt;
-        writes(
-            alloc,
-            more.as_str(),
-            "",
-            "profile 2 Limit\n",
-            Status::BadInput
-        )?
-    );
+fn modules_sections_and_parameters_at_their_limits(rt: HostRuntime) -> Result<(), AllocError> {
+    for (at, row) in RUNS.iter().enumerate() {
+        assert!(rt; runs(rt.alloc(), row)?, "run {at}");
+    }
     Ok(())
 }
 
@@ -269,40 +329,47 @@ fn line_feeds(alloc: Global, count: usize) -> Result<String, AllocError> {
     Ok(text)
 }
 
-#[test]
-fn a_profile_of_one_byte_more_is_refused(rt: HostRuntime) -> Result<(), Fail> {
-    let alloc = rt.alloc();
-    let last = line_feeds(alloc, MOST_PROFILE.saturating_sub(PROFILE.len()))?;
-    let whole = format!(in alloc; "{last}{PROFILE}")?;
-    assert!(rt; writes(alloc, whole.as_str(), SESSION, OUTPUT, Status::AllOk)?);
-    let more = format!(in alloc; "\n{whole}")?;
-    assert!(rt;
-        writes(
-            alloc,
-            more.as_str(),
-            SESSION,
-            "profile 0 TooLong\n",
-            Status::BadInput
-        )?
-    );
-    Ok(())
+/// A text behind as many line feeds as make it so long.
+fn lengthened(alloc: Global, text: &str, length: usize) -> Result<String, AllocError> {
+    let mut whole = line_feeds(alloc, length.saturating_sub(text.len()))?;
+    whole.push_str(text)?;
+    Ok(whole)
+}
+
+/// Whether a session over a profile that is so long writes this.
+fn writes_over(
+    alloc: Global,
+    length: usize,
+    output: &str,
+    status: Status,
+) -> Result<bool, AllocError> {
+    let profile = lengthened(alloc, PROFILE, length)?;
+    writes(alloc, profile.as_str(), SESSION, output, status)
 }
 
 #[test]
-fn a_session_of_one_byte_more_is_refused(rt: HostRuntime) -> Result<(), Fail> {
-    let alloc = rt.alloc();
-    let last = line_feeds(alloc, MOST_SESSION.saturating_sub(SESSION.len()))?;
-    let whole = format!(in alloc; "{last}{SESSION}")?;
-    assert!(rt; writes(alloc, PROFILE, whole.as_str(), OUTPUT, Status::AllOk)?);
-    let more = format!(in alloc; "\n{whole}")?;
-    assert!(rt;
-        writes(
-            alloc,
-            PROFILE,
-            more.as_str(),
-            "line 0 TooLong\n",
-            Status::BadInput
-        )?
-    );
+fn a_profile_of_one_byte_more_is_refused(rt: HostRuntime) -> Result<(), AllocError> {
+    let last = writes_over(rt.alloc(), MOST_PROFILE, OUTPUT, ALL_OK)?;
+    let more = writes_over(rt.alloc(), MOST_PROFILE + 1, "profile 0 TooLong\n", BAD)?;
+    assert!(rt; last && more, "{last} {more}");
+    Ok(())
+}
+
+/// Whether a session that is so long writes this.
+fn writes_all_of(
+    alloc: Global,
+    length: usize,
+    output: &str,
+    status: Status,
+) -> Result<bool, AllocError> {
+    let session = lengthened(alloc, SESSION, length)?;
+    writes(alloc, PROFILE, session.as_str(), output, status)
+}
+
+#[test]
+fn a_session_of_one_byte_more_is_refused(rt: HostRuntime) -> Result<(), AllocError> {
+    let last = writes_all_of(rt.alloc(), MOST_SESSION, OUTPUT, ALL_OK)?;
+    let more = writes_all_of(rt.alloc(), MOST_SESSION + 1, "line 0 TooLong\n", BAD)?;
+    assert!(rt; last && more, "{last} {more}");
     Ok(())
 }

@@ -1,6 +1,8 @@
-use Rattle.std.proofs.Common.{◌≡◌, ◌-◌, refl, ap, ◌∙◌, arith}
+use Rattle.std.proofs.Common.{◌≡◌, ◌-◌, List, refl, subst, ap, ◌∙◌, arith}
 use Rattle.std.specs.List.{each_same}
+use Rattle.ang_kinds.specs.declared.position.Position.{Position}
 use Rattle.ang_gen.specs.Code.{body_code}
+use Rattle.ang_gen.specs.Marks.{AreAmong}
 use Rattle.ang_gen.specs.Peaks.{body_peak}
 use Rattle.ang_gen.specs.Programs.{parameter_count}
 use Rattle.ang_gen.proofs.Rising.{is_height}
@@ -19,5 +21,6 @@ returns c =
         text = c.in_ok-text.ensures.exact ∙ ap (λ n. body_code n b.statement) count;
         height = is_height b top (top - c.len-count.result) peak (ap (λ n. top - n) count);
         counted = omega (arith, peak, count, c.in_ok-peak.ensures.counted);
+        marks = subst (λ (ps : List Position). AreAmong ps c.in_ok-text.marks.items) c.as_slice-positions.ensures.value c.in_ok-text.ensures.among;
       };
     }

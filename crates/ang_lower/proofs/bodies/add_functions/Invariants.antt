@@ -9,6 +9,6 @@ abbrev pub invariant-loop-function : goal.invariant-loop-function
 invariant-loop-function l = record {
   so_far : list_map plain_body l.bodies.items ++ list_map lowered_function (list_map view_function (drop l.function-index l.functions))
       ≡ list_map plain_body l.initial.bodies.items ++ list_map lowered_function (list_map view_function l.functions);
-  positions : places.listed l.bodies.items ++ list_map places.of_function (drop l.function-index l.functions)
-      ≡ places.listed l.initial.bodies.items ++ list_map places.of_function l.functions;
+  positions : places.listed l.bodies.items ++ list_map places.of_function (list_map view_function (drop l.function-index l.functions))
+      ≡ places.listed l.initial.bodies.items ++ list_map places.of_function (list_map view_function l.functions);
 }

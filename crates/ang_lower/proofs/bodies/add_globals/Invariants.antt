@@ -10,6 +10,6 @@ abbrev pub invariant-loop-number : goal.invariant-loop-number
 invariant-loop-number l = record {
   so_far : list_map plain_body l.bodies.items ++ lowered_globals l.number (list_map view_global (drop l.number l.globals))
       ≡ list_map plain_body l.initial.bodies.items ++ lowered_globals 0 (list_map view_global l.globals);
-  positions : places.listed l.bodies.items ++ flat_map places.of_global (drop l.number l.globals)
-      ≡ places.listed l.initial.bodies.items ++ flat_map places.of_global l.globals;
+  positions : places.listed l.bodies.items ++ flat_map places.of_global (list_map view_global (drop l.number l.globals))
+      ≡ places.listed l.initial.bodies.items ++ flat_map places.of_global (list_map view_global l.globals);
 }

@@ -1,5 +1,4 @@
 use Rattle.std.proofs.Common.{refl}
-use Rattle.asrun_session.proofs.Lists.{same_list}
 use Rattle.asremote.specs.Talk.{Checked}
 use Rattle.asremote.proofs.Turning.{ok_both, err_turn}
 use Rattle.asremote.proofs.obeying.check.Goals as goal
@@ -12,7 +11,7 @@ returns-clause-obeyed g c = λ ps ticks. ok_both c.tell_reply.result _ _ _ (λ o
   comes = record {
     comes = record {
       checks = c.check-reply.ensures.checks;
-      list = same_list _ _ c.check-reply.ensures.registry;
+      list = c.check-reply.ensures.list;
       numbers = record { last = c.check-reply.ensures.last; builds = λ j i. c.check-reply.ensures.builds i j };
       silent = c.check-reply.ensures.silent;
       drivers = c.check-reply.ensures.drivers;
@@ -32,7 +31,7 @@ returns-clause-cut g c = λ ps ticks. err_turn c.tell_reply.result _ _ (λ front
   comes = record {
     comes = record {
       checks = c.check-reply.ensures.checks;
-      list = same_list _ _ c.check-reply.ensures.registry;
+      list = c.check-reply.ensures.list;
       numbers = record { last = c.check-reply.ensures.last; builds = λ j i. c.check-reply.ensures.builds i j };
       silent = c.check-reply.ensures.silent;
       drivers = c.check-reply.ensures.drivers;

@@ -1,6 +1,5 @@
 use Rattle.std.proofs.Common.{refl, ap, ◌∙◌}
 use Rattle.std.proofs.lemmas.Result.{err_from_is_err_and}
-use Rattle.asrun_session.proofs.Lists.{same_list}
 use Rattle.ang_engine.specs.Engines.{limits_in, world_in}
 use Rattle.asrun_session.specs.Limits.{with_limit}
 use Rattle.asremote.proofs.Limiting.{limited_world}
@@ -18,7 +17,7 @@ returns-in_err-write_text-clause-cut g c =
         comes = record {
           limits = c.set_limits.ensures.set ∙ c.with_limit-limits.ensures.exact ∙ ap (λ l. with_limit l c.args.limit) c.limits.ensures.exact;
           world = limited_world (world_in (λ v. (g.dyn-1.0.entry v).1) c.args.engine.now) _ (limits_in c.args.engine.now) _ _ c.args.limit refl c.limits.ensures.exact c.with_limit-limits.ensures.exact c.set_limits.ensures.world;
-          list = same_list _ _ c.set_limits.ensures.registry;
+          list = c.set_limits.ensures.list;
           numbers = record { last = c.set_limits.ensures.last; builds = c.set_limits.ensures.builds };
           drivers = c.set_limits.ensures.drivers;
         };
@@ -36,7 +35,7 @@ returns-clause-obeyed g c = λ ps ticks. record {
     comes = record {
       limits = c.set_limits.ensures.set ∙ c.with_limit-limits.ensures.exact ∙ ap (λ l. with_limit l c.args.limit) c.limits.ensures.exact;
       world = limited_world (world_in (λ v. (g.dyn-1.0.entry v).1) c.args.engine.now) _ (limits_in c.args.engine.now) _ _ c.args.limit refl c.limits.ensures.exact c.with_limit-limits.ensures.exact c.set_limits.ensures.world;
-      list = same_list _ _ c.set_limits.ensures.registry;
+      list = c.set_limits.ensures.list;
       numbers = record { last = c.set_limits.ensures.last; builds = c.set_limits.ensures.builds };
       drivers = c.set_limits.ensures.drivers;
     };

@@ -3,7 +3,6 @@ use Rattle.std.proofs.lemmas.Result.{err_from_is_err_and}
 use Rattle.ang_engine.specs.Engines.{registrations}
 use Rattle.ang_engine.specs.Roles.{roles_of}
 use Rattle.ang_engine.proofs.Roles.{own_roles}
-use Rattle.asrun_session.proofs.Lists.{same_list}
 use Rattle.asremote.specs.Talk.{Called, Missed}
 use Rattle.asremote.proofs.Turning.{ok_both, err_turn}
 use Rattle.asremote.proofs.prepared.run_prepared.Goals as goal
@@ -40,7 +39,7 @@ returns-clause-obeyed g c = ok_both c.tell_reply.result _ _ _ (λ ok ended told.
         takes = c.call_prepared-reply.ensures.takes;
         gone = λ no. (c.call_prepared-reply.ensures.gone no, c.call_prepared-reply.ensures.unchanged no);
       };
-      list = same_list _ _ c.call_prepared-reply.ensures.registry;
+      list = c.call_prepared-reply.ensures.list;
       numbers = record { last = c.call_prepared-reply.ensures.last; builds = c.call_prepared-reply.ensures.builds };
       follow = c.call_prepared-reply.ensures.follow;
       within = record {
@@ -65,7 +64,7 @@ returns-clause-cut g c = err_turn c.tell_reply.result _ _ (λ front. record {
         takes = c.call_prepared-reply.ensures.takes;
         gone = λ no. (c.call_prepared-reply.ensures.gone no, c.call_prepared-reply.ensures.unchanged no);
       };
-      list = same_list _ _ c.call_prepared-reply.ensures.registry;
+      list = c.call_prepared-reply.ensures.list;
       numbers = record { last = c.call_prepared-reply.ensures.last; builds = c.call_prepared-reply.ensures.builds };
       follow = c.call_prepared-reply.ensures.follow;
       within = record {

@@ -4,7 +4,7 @@ use Rattle.ang_meaning.specs.Counting.{IsCounted}
 use Rattle.ang_heap.specs.Globals.{values_in}
 use Rattle.ang_heap.specs.Stores.{world_of}
 use Rattle.ang_engine_modules.specs.Sound.{HaveGlobals}
-use Rattle.ang_engine_modules.specs.States.{places_of, states_in, build_at}
+use Rattle.ang_engine_modules.specs.States.{states_in, build_at}
 use Rattle.ang_engine_modules.specs.World.{left_to}
 use Rattle.ang_engine_modules.proofs.Keeping.{same_modules}
 use Rattle.ang_engine.specs.Applied.{Applied}
@@ -24,7 +24,7 @@ dispatch-finished-requires g c =
     let globals = subst (λ gs. HaveGlobals x gs) (sym (ap (λ s. values_in s.globals) c.begin_command.ensures.set)) c.requires.sound.globals in
     record {
       sound = record {
-        modules = same_modules (IsBuiltBy R) x (record x { code = c.forget_failed.new.self }) refl c.forget_failed.ensures.same refl c.requires.sound.modules;
+        modules = same_modules (IsBuiltBy R) x (record x { failed = c.forget_failed.new.failed }) refl refl refl c.requires.sound.modules;
         globals = record { count = globals.count; none = globals.none };
         in_list = subst (λ bs. HaveDrivers R (length bs)) (sym (ap (λ s. members s.drivers) c.begin_command.ensures.set)) c.requires.sound.in_list;
         kept = c.begin_command.ensures.kept;
@@ -37,12 +37,9 @@ pub returns-clause-applied : goal.returns-clause-applied
 returns-clause-applied g c =
     let R = list_in c.args.self.now in
     let x = c.args.self.now.modules in
-    let t = c.begin_command.new.store in
     let after = c.dispatch-finished.new.self in
     subst (λ s. Applied (λ v. (g.dyn-1.0.entry v).1) R (left_to (states_in x) (world_of (λ v. (g.dyn-1.0.entry v).1) s)) (members s.drivers) c.args.command (reply_in c.dispatch-finished.result) (world_in (λ v. (g.dyn-1.0.entry v).1) after) (drivers_in after))
-    c.begin_command.ensures.set
-    (subst (λ k. Applied (λ v. (g.dyn-1.0.entry v).1) R (left_to (record { places = places_of x.places.items k; order = x.order.items }) (world_of (λ v. (g.dyn-1.0.entry v).1) t)) (members t.drivers) c.args.command (reply_in c.dispatch-finished.result) (world_in (λ v. (g.dyn-1.0.entry v).1) after) (drivers_in after))
-    c.forget_failed.ensures.same c.dispatch-finished.ensures.applied)
+    c.begin_command.ensures.set c.dispatch-finished.ensures.applied
 
 pub returns-clause-within : goal.returns-clause-within
 returns-clause-within g c =
@@ -63,9 +60,7 @@ returns-clause-list g c =
     let x = c.args.self.now.modules in
     let after = c.dispatch-finished.new.self in
     subst (λ s. list_in after ≡ list_after R (left_to (states_in x) (world_of (λ v. (g.dyn-1.0.entry v).1) s)) c.args.command)
-    c.begin_command.ensures.set
-    (subst (λ k. list_in after ≡ list_after R (left_to (record { places = places_of x.places.items k; order = x.order.items }) (world_of (λ v. (g.dyn-1.0.entry v).1) c.begin_command.new.store)) c.args.command)
-    c.forget_failed.ensures.same c.dispatch-finished.ensures.list)
+    c.begin_command.ensures.set c.dispatch-finished.ensures.list
 
 pub returns-clause-no_trace : goal.returns-clause-no_trace
 returns-clause-no_trace g c = c.end_last-ticks.ensures.frames
@@ -81,8 +76,4 @@ returns-clause-prepared g c =
     let x = c.args.self.now.modules in
     let after = c.dispatch-finished.new.self in
     subst (λ s. HaveMoved (replaced c.args.command c.dispatch-finished.result.outcome (left_to (states_in x) (world_of (λ v. (g.dyn-1.0.entry v).1) s))) x.builds (build_at x.places.items) (last_build after) (builds_in after))
-    c.begin_command.ensures.set
-    (subst (λ k. HaveMoved (replaced c.args.command c.dispatch-finished.result.outcome
-    (left_to (record { places = places_of x.places.items k; order = x.order.items }) (world_of (λ v. (g.dyn-1.0.entry v).1) c.begin_command.new.store)))
-    x.builds (build_at x.places.items) (last_build after) (builds_in after))
-    c.forget_failed.ensures.same c.dispatch-finished.ensures.prepared)
+    c.begin_command.ensures.set c.dispatch-finished.ensures.prepared

@@ -1,4 +1,4 @@
-use Rattle.std.proofs.Common.{◌≡◌, ◌∙◌, ap, sym, subst, length, true, rules}
+use Rattle.std.proofs.Common.{◌≡◌, ◌∙◌, ap, sym, subst, length, true, rules, None}
 use Rattle.ang_host.specs.Boxes.{members}
 use Rattle.ang_registry.specs.Registrations.{Registrations, grouped}
 use Rattle.ang_meaning.specs.World.{World as RunWorld}
@@ -12,7 +12,7 @@ use Rattle.ang_engine.proofs.engine.Engine.new.Goals as goal
 
 pub returns-in-Ok-clause-world : goal.returns-in-Ok-clause-world
 returns-in-Ok-clause-world g c =
-    let x : ModuleList = record { places = c.new.result; code = c.new-in-Ok.result; order = c.in-Ok.order; builds = 0 } in
+    let x : ModuleList = record { places = c.new.result; code = c.new-in-Ok.result; failed = None; order = c.in-Ok.order; builds = 0 } in
     world_begun x (world_of (λ v. (g.dyn-1.0.entry v).1) c.machine_of.result.store) c.new.ensures.items c.in-Ok.ensures.items
     c.machine_of.ensures.world
 
@@ -26,7 +26,7 @@ pub returns-in-Ok-clause-sound : goal.returns-in-Ok-clause-sound
 returns-in-Ok-clause-sound g c =
     let R = c.closed.result.entries in
     let same : c.args.registry.entries ≡ R = sym (ap (λ (r : Registrations). r.entries) c.closed.ensures.ended ∙ ended_entries c.args.registry) in
-    let x : ModuleList = record { places = c.new.result; code = c.new-in-Ok.result; order = c.in-Ok.order; builds = 0 } in
+    let x : ModuleList = record { places = c.new.result; code = c.new-in-Ok.result; failed = None; order = c.in-Ok.order; builds = 0 } in
     let yes : c.have_drivers.result ≡ true = search rules in
     let have : HaveDrivers c.args.registry.entries (length (members c.args.drivers)) = subst (λ n. HaveDrivers c.args.registry.entries n) c.len.ensures.exact (c.have_drivers.ensures.exact.0 yes) in
     record {
