@@ -73,7 +73,7 @@ const APART_HANDLE: ArgType = ArgType::Handle {
 };
 
 /// What each of them derives from.
-const LINES: [&[u32]; 4] = [&[], &[SHAPE], &[BASE, SHAPE], &[]];
+const LINES: &[&[u32]] = &[&[], &[SHAPE], &[BASE, SHAPE], &[]];
 
 fn lineage(alloc: Global) -> Result<Lineage, AllocError> {
     let mut lines = Vec::with_capacity(alloc, 4)?;

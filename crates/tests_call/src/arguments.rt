@@ -108,7 +108,7 @@ fn passes_one(alloc: Global, of: Prim, value: Value, bits: Option<u64>) -> bool 
 }
 
 /// A parameter's type, a value, and the bits of its slot if the value can be passed.
-const VALUES: [(Prim, Value, Option<u64>); 46] = [
+const VALUES: &[(Prim, Value, Option<u64>)] = &[
     // signed numbers in their range
     (Prim::I8, Value::Int(-128), Some(0xffff_ffff_ffff_ff80)),
     (Prim::I8, Value::Int(127), Some(127)),
@@ -166,7 +166,7 @@ const VALUES: [(Prim, Value, Option<u64>); 46] = [
 
 #[test]
 fn values_are_in_their_range(rt: HostRuntime) {
-    for row in &VALUES {
+    for row in VALUES {
         let (of, value, bits) = *row;
         assert!(rt; passes_one(rt.alloc(), of, value, bits), "{of:?} {value:?}");
     }
@@ -178,7 +178,7 @@ type Passed = (&'static [ArgType], &'static [Value], Option<&'static [u64]>);
 const TWO: &[ArgType] = &[ArgType::Plain(Prim::I8), ArgType::Plain(Prim::U8)];
 
 /// Arguments stand in order, and are as many as the parameters.
-const ORDERS: [Passed; 6] = [
+const ORDERS: &[Passed] = &[
     (TWO, &[Value::Int(3), Value::Uint(4)], Some(&[3, 4])),
     (TWO, &[Value::Uint(4), Value::Int(3)], None),
     (TWO, &[Value::Int(3)], None),
@@ -189,7 +189,7 @@ const ORDERS: [Passed; 6] = [
 
 #[test]
 fn arguments_stand_in_order(rt: HostRuntime) {
-    for row in &ORDERS {
+    for row in ORDERS {
         let (types, values, bits) = *row;
         assert!(rt;
             passes(rt.alloc(), types, values, bits),
@@ -199,7 +199,7 @@ fn arguments_stand_in_order(rt: HostRuntime) {
 }
 
 /// An enumeration takes what an `int` does.
-const ENUMERATED: [(Value, Option<u64>); 9] = [
+const ENUMERATED: &[(Value, Option<u64>)] = &[
     (Value::Int(0), Some(0)),
     (Value::Int(-2_147_483_648), Some(0xffff_ffff_8000_0000)),
     (Value::Int(2_147_483_647), Some(2_147_483_647)),
@@ -220,7 +220,7 @@ fn passes_enumeration(alloc: Global, value: Value, bits: Option<u64>) -> bool {
 
 #[test]
 fn an_enumeration_has_the_range_of_int(rt: HostRuntime) {
-    for row in &ENUMERATED {
+    for row in ENUMERATED {
         let (value, bits) = *row;
         assert!(rt; passes_enumeration(rt.alloc(), value, bits), "{value:?}");
     }
@@ -252,7 +252,7 @@ fn gives(alloc: Global, ty: ArgType) -> bool {
 }
 
 /// A result's type, and whether a function that has it can be called.
-const RESULTS: [(ArgType, bool); 8] = [
+const RESULTS: &[(ArgType, bool)] = &[
     (ArgType::Plain(Prim::I8), true),
     (ArgType::Plain(Prim::U64), true),
     (ArgType::Plain(Prim::Bool), true),
@@ -266,7 +266,7 @@ const RESULTS: [(ArgType, bool); 8] = [
 
 #[test]
 fn results_are_numbers_and_truth_values(rt: HostRuntime) {
-    for row in &RESULTS {
+    for row in RESULTS {
         let (result, callable) = *row;
         assert_eq!(rt; gives(rt.alloc(), result), callable, "{result:?}");
     }

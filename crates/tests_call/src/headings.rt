@@ -52,7 +52,7 @@ pub(crate) fn names_in(alloc: Global, view: &View, text: &[u8]) -> Option<Names>
 }
 
 /// Which function of the module each text names.
-const NAMED: [(&str, usize); 18] = [
+const NAMED: &[(&str, usize)] = &[
     ("void f()", 0),
     ("void f(void)", 0),
     ("\u{FEFF} void\r\n\tf/* of nothing */( ) // a comment", 0),
@@ -74,7 +74,7 @@ const NAMED: [(&str, usize); 18] = [
 ];
 
 /// Headings that no function of the module has, and texts of another form.
-const NOT_NAMED: [&str; 41] = [
+const NOT_NAMED: &[&str] = &[
     "int f()",
     "const void f()",
     "void f(int)",
@@ -119,13 +119,13 @@ const NOT_NAMED: [&str; 41] = [
 ];
 
 /// As many bytes of `void f()` and spaces as have room for an empty body after them, and one more.
-const LENGTHS: [(&str, usize, Option<usize>); 2] = [
+const LENGTHS: &[(&str, usize, Option<usize>)] = &[
     ("the longest text", 65_533, Some(0)),
     ("a longer text", 65_534, None),
 ];
 
 /// Which functions of the module can be called: those that take primitives and enumerations by value.
-const CALLABLE: [(&str, bool); 9] = [
+const CALLABLE: &[(&str, bool)] = &[
     ("void f()", true),
     ("int f(int)", true),
     ("int f(const int)", true),
@@ -163,7 +163,7 @@ pub(crate) fn is_found(
 }
 
 fn wrong_name(alloc: Global, view: &View, names: &Names) -> Option<&'static str> {
-    for row in &NAMED {
+    for row in NAMED {
         let (decl, number) = *row;
         if !is_found(alloc, view, names, decl.as_bytes(), Some(number)) {
             return Some(decl);
@@ -173,7 +173,7 @@ fn wrong_name(alloc: Global, view: &View, names: &Names) -> Option<&'static str>
 }
 
 fn wrongly_named(alloc: Global, view: &View, names: &Names) -> Option<&'static str> {
-    for decl in &NOT_NAMED {
+    for decl in NOT_NAMED {
         if !is_found(alloc, view, names, decl.as_bytes(), None) {
             return Some(*decl);
         }
@@ -195,7 +195,7 @@ fn is_spaced_found(
 }
 
 fn wrong_length(alloc: Global, view: &View, names: &Names) -> Option<&'static str> {
-    for row in &LENGTHS {
+    for row in LENGTHS {
         let (what, length, wanted) = *row;
         if !is_spaced_found(alloc, view, names, length, wanted) {
             return Some(what);

@@ -18,7 +18,7 @@ import int f(int n, Cell@ c) from \"m\"; import void g() from \"n\";
 import int f(Cell@ c, int n) from \"o\"; import void h(const Cell@) from \"m\";";
 
 /// The texts of the functions, in order.
-const FUNCTIONS: [&str; 7] = [
+const FUNCTIONS: &[&str] = &[
     "void f()",
     "int f(int8 a, int16 b, int c, int64 d)",
     "uint f(uint8, uint16 b, uint, uint64 d, bool)",
@@ -29,7 +29,7 @@ const FUNCTIONS: [&str; 7] = [
 ];
 
 /// The texts of the global variables.
-const GLOBALS: [&str; 6] = [
+const GLOBALS: &[&str] = &[
     "int a",
     "int b",
     "const bool t",
@@ -39,7 +39,7 @@ const GLOBALS: [&str; 6] = [
 ];
 
 /// The texts of the imports, each with the number that is found by it.
-const IMPORTS: [(&str, usize); 4] = [
+const IMPORTS: &[(&str, usize)] = &[
     ("int f(int n, Cell@ c)", 0),
     ("void g()", 1),
     ("int f(Cell@ c, int n)", 2),

@@ -35,7 +35,9 @@ fn first_unlike(
 
 fn bodies_of(alloc: Global, written: &Written) -> Result<Vec<CoreBody>, AllocError> {
     let module = module(alloc, written)?;
-    lower(alloc, &module)
+    let bodies = lower(alloc, &module);
+    drop(module);
+    bodies
 }
 
 /// The place of the first body of a module that has another text than it has to.

@@ -371,7 +371,9 @@ fn wrong_of(codes: &[RoutineCode], row: &Row) -> Option<Wrong> {
 
 fn codes_of(alloc: Global, written: &Written) -> Result<Vec<RoutineCode>, AllocError> {
     let module = module(alloc, written)?;
-    generate_module(alloc, lower(alloc, &module)?)
+    let bodies = lower(alloc, &module);
+    drop(module);
+    generate_module(alloc, bodies?)
 }
 
 fn wrong_in(alloc: Global, row: &Row) -> Result<Option<Wrong>, AllocError> {

@@ -15,7 +15,7 @@ const MINUS_56: u64 = u64::MAX - 55;
 
 const LEAST_INT: u64 = u64::MAX - 0x7FFF_FFFF;
 
-const WORKS: [(Operator, Prim, u64, u64, Result<u64, Fault>); 8] = [
+const WORKS: &[(Operator, Prim, u64, u64, Result<u64, Fault>)] = &[
     (Operator::ShiftRight, Prim::I32, MINUS_8, 1, Ok(2147483644)),
     (
         Operator::ShiftRightArithmetic,
@@ -47,7 +47,7 @@ const WORKS: [(Operator, Prim, u64, u64, Result<u64, Fault>); 8] = [
 #[test]
 fn operators(rt: HostRuntime) {
     for (what, at, x, y, want) in WORKS {
-        assert!(rt; work(what, at, x, y) == want, "{x} and {y}");
+        assert!(rt; work(*what, *at, *x, *y) == *want, "{x} and {y}");
     }
 }
 

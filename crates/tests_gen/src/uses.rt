@@ -61,13 +61,15 @@ fn entry(alloc: Global, kind: EntryKind) -> Result<Entry, AllocError> {
 /// What code knows of an entry of that kind, which is not used again.
 fn used(alloc: Global, kind: EntryKind) -> Result<HostUse, AllocError> {
     let entry = entry(alloc, kind)?;
-    host_use(alloc, &entry)
+    let found = host_use(alloc, &entry);
+    drop(entry);
+    found
 }
 
 /// Its kind, its role, whether it belongs to an object, and whether it is a property that is never written.
 type Row = (EntryKind, Role, bool, bool);
 
-const ROWS: [Row; 5] = [
+const ROWS: &[Row] = &[
     (EntryKind::Factory, Role::Making(7), false, false),
     (EntryKind::Method, Role::Calling(7), true, false),
     (EntryKind::Property, Role::Property(7), true, true),

@@ -440,6 +440,14 @@ fn push_statement(alloc: Global, parts: &mut Parts, step: &Step) -> Done {
 
 // ---- modules
 
+fn push_all(alloc: Global, parts: &mut Parts, steps: &[Step]) -> Done {
+    put(&mut parts.blocks, Vec::new(alloc))?;
+    for step in steps {
+        push_expression(alloc, parts, step)?;
+    }
+    Ok(())
+}
+
 /// What steps make, in an outermost block.
 fn parts_of(alloc: Global, steps: &[Step]) -> Result<Parts, AllocError> {
     let mut parts = Parts {
@@ -448,21 +456,27 @@ fn parts_of(alloc: Global, steps: &[Step]) -> Result<Parts, AllocError> {
         arguments: Vec::new(alloc),
         blocks: Vec::new(alloc),
     };
-    put(&mut parts.blocks, Vec::new(alloc))?;
-    for step in steps {
-        push_expression(alloc, &mut parts, step)?;
+    match push_all(alloc, &mut parts, steps) {
+        Ok(()) => Ok(parts),
+        Err(error) => {
+            drop(parts);
+            Err(error)
+        }
     }
-    Ok(parts)
 }
 
 fn statements(alloc: Global, steps: &[Step]) -> Result<Vec<TypedStatement>, AllocError> {
     let mut parts = parts_of(alloc, steps)?;
-    take(&mut parts.blocks)
+    let statements = take(&mut parts.blocks);
+    drop(parts);
+    statements
 }
 
 fn expression(alloc: Global, steps: &[Step]) -> Result<Box<TypedExpression>, AllocError> {
     let mut parts = parts_of(alloc, steps)?;
-    pop(&mut parts)
+    let tree = pop(&mut parts);
+    drop(parts);
+    tree
 }
 
 /// A module of one function.

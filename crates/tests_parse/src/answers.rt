@@ -47,7 +47,7 @@ fn is_fault(fault: &ParseError, want: Want<'_>) -> bool {
 }
 
 /// A text, and the line, the column and the text of the token that no script can have there.
-const FAULTS: [(&str, u32, u32, &str); 16] = [
+const FAULTS: &[(&str, u32, u32, &str)] = &[
     ("void m() { return }", 1, 19, "}"),
     ("int f(", 1, 7, ""),
     ("int", 1, 4, ""),
@@ -72,7 +72,7 @@ const FAULTS: [(&str, u32, u32, &str); 16] = [
 
 #[test]
 fn faults_have_their_places(rt: HostRuntime) {
-    for row in &FAULTS {
+    for row in FAULTS {
         let (text, line, column, name) = *row;
         let name = name.as_bytes();
         let want = Want::Syntax { line, column, name };
@@ -84,7 +84,7 @@ fn faults_have_their_places(rt: HostRuntime) {
 type Pieces = &'static [(&'static str, usize)];
 
 /// Texts of which nothing is written, and those that are as deep as may be, or one deeper.
-const LIMITS: [(Pieces, Want<'static>); 7] = [
+const LIMITS: &[(Pieces, Want<'static>)] = &[
     // nothing is a script
     (&[], Want::Script),
     (&[(" // nothing\n", 1)], Want::Script),
@@ -158,7 +158,7 @@ fn answers_on(alloc: Global, pieces: &[(&str, usize)], want: Want<'_>) -> bool {
 
 #[test]
 fn limits_are_met_and_no_more(rt: HostRuntime) {
-    for row in &LIMITS {
+    for row in LIMITS {
         let (pieces, want) = *row;
         assert!(rt; answers_on(rt.alloc(), pieces, want), "{pieces:?}");
     }

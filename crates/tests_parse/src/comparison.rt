@@ -5,7 +5,7 @@ use crate::recognizer::{Chart, Grammar};
 use std::alloc::{AllocError, Global};
 
 /// What is put in the place of a word.
-const OTHERS: [&str; 36] = [
+const OTHERS: &[&str] = &[
     ";", ",", "(", ")", "{", "}", "=", "+=", "*", "&", "@", ".", "::", ":", "?", "++", "!", "<",
     "is", "1", "\"t\"", "z", "int", "void", "const", "class", "import", "from", "private", "final",
     "else", "while", "for", "return", "super", "auto",
@@ -147,7 +147,7 @@ impl Trial {
         before: &[&str],
         behind: &[&str],
     ) -> Result<Option<&'static str>, AllocError> {
-        for other in &OTHERS {
+        for other in OTHERS {
             let others = &[*other];
             if !self.agrees(Words {
                 before,
@@ -234,7 +234,7 @@ fn first_wrong(alloc: Global, script: &str) -> Result<Option<Wrong>, AllocError>
 
 /// What a script is made of, and its words. What stands in parentheses may be parameters or arguments; the token after
 /// them tells which.
-const SCRIPTS: [(&str, &str); 14] = [
+const SCRIPTS: &[(&str, &str)] = &[
     (
         "functions and globals",
         "const int a = 1 , b ( 2 , c ) , d ; ; void g ( void ) { } A @ const h ;",

@@ -169,12 +169,12 @@ Primary PRIM ( Assign )
 Primary ( Assign )";
 
 /// The words that name primitive types.
-const PRIMITIVES: [&str; 11] = [
+const PRIMITIVES: &[&str] = &[
     "int8", "int16", "int", "int32", "int64", "uint8", "uint16", "uint", "uint32", "uint64", "bool",
 ];
 
 /// The reserved words that the grammar does not use.
-const UNUSED: [&str; 11] = [
+const UNUSED: &[&str] = &[
     "auto",
     "float",
     "double",
@@ -301,13 +301,14 @@ impl Grammar {
         let class = match word.as_bytes() {
             [b'"', ..] => "TEXT",
             [b'0'..=b'9', ..] => "NUMBER",
-            _ if number_of(&PRIMITIVES, word).is_some() => "PRIM",
+            _ if number_of(PRIMITIVES, word).is_some() => "PRIM",
             _ => word,
         };
         match (number_of(&self.words, class), word.as_bytes()) {
             (Some(number), _) => Some(number),
-            (None, [b'a'..=b'z' | b'A'..=b'Z' | b'_', ..]) if number_of(&UNUSED, word).is_none() =>
-                { number_of(&self.words, "NAME") }
+            (None, [b'a'..=b'z' | b'A'..=b'Z' | b'_', ..]) if number_of(UNUSED, word).is_none() => {
+                number_of(&self.words, "NAME")
+            }
             _ => None,
         }
     }

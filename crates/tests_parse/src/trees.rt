@@ -335,7 +335,7 @@ const BLOCK: &str = "A@ f(B, int &out c) { return c; } class D {}";
 const BASES: &str = "class A : B, C {} class D {}";
 
 /// A script, and what it has to have.
-const SCRIPTS: [(&str, Fact); 19] = [
+const SCRIPTS: &[(&str, Fact)] = &[
     (
         ALL_SORTS,
         Fact::Declarations(&[

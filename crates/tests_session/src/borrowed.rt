@@ -28,7 +28,7 @@ global 0 0 const int64 limit
 ";
 
 /// Sections whose function `p` uses a counter, and how many references are added meanwhile.
-const BORROWED: [(&str, u64); 5] = [
+const BORROWED: &[(&str, u64)] = &[
     (
         "int p() { Counter c(5); c.step = 3; c.bump(); return c.value(); }",
         0,
@@ -89,8 +89,9 @@ fn added(alloc: Global, section: &str) -> Result<Option<Answer>, AllocError> {
 #[test]
 fn borrowed_receivers_are_not_counted(rt: HostRuntime) -> Result<(), AllocError> {
     for (section, count) in BORROWED {
+        let answer = added(rt.alloc(), section)?;
         assert!(rt;
-            added(rt.alloc(), section)? == Some(Answer::Gave(Value::Uint(count))),
+            answer == Some(Answer::Gave(Value::Uint(*count))),
             "{section}"
         );
     }

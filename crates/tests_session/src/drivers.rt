@@ -36,7 +36,7 @@ fn consoles(alloc: Global, count: usize) -> Result<Vec<Box<dyn Driver>>, AllocEr
 /// How many consoles a session has, its profile and its text, what it writes, and its status.
 type Row = (usize, &'static str, &'static str, &'static str, Status);
 
-const ROWS: [Row; 4] = [
+const ROWS: &[Row] = &[
     (64, PROFILE, SESSION, OUTPUT, Status::AllOk),
     (65, PROFILE, SESSION, "engine TooMany\n", Status::BadInput),
     (0, PROFILE, SESSION, "engine NoDriver\n", Status::BadInput),
@@ -71,7 +71,7 @@ fn writes(alloc: Global, row: &Row) -> Result<bool, AllocError> {
 
 #[test]
 fn a_session_takes_no_driver_to_64(rt: HostRuntime) -> Result<(), AllocError> {
-    for row in &ROWS {
+    for row in ROWS {
         assert!(rt; writes(rt.alloc(), row)?, "{} drivers, {}", row.0, row.3);
     }
     Ok(())

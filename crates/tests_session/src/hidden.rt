@@ -146,7 +146,7 @@ int64 fails(int64 n) { print(n); print(-n); return n / (n - n); }
 
 const PEEKS: &str = "int64 peek(int64 n) { return secret(n, n); }\n";
 
-const ROWS: [Row; 14] = [
+const ROWS: &[Row] = &[
     Row(Deed::Make, "", DONE),
     Row(Deed::Add, PRINTS, DONE),
     Row(Deed::Build, "", DONE),
@@ -214,7 +214,7 @@ fn apply_all(alloc: Global, engine: &mut Engine) -> Result<Vec<Reply>, AllocErro
     ensures sound { IsSound ⟦<dyn Driver as Driver>⟧ engine.new }
 {
     let mut replies = Vec::new(alloc);
-    for row in &ROWS {
+    for row in ROWS {
         let reply = apply(alloc, engine, row)?;
         replies.push(reply)?;
     }

@@ -10,17 +10,31 @@ const MOST_PROFILE: usize = 1_048_576;
 /// The most bytes of a session.
 const MOST_SESSION: usize = 16_777_216;
 
+fn repeat_alike(text: &mut String, piece: &str, count: usize) -> Result<(), AllocError> {
+    for _ in 0..count {
+        text.push_str(piece)?;
+    }
+    Ok(())
+}
+
+fn push_numbered(
+    alloc: Global,
+    text: &mut String,
+    number: usize,
+    parts: (&str, &str),
+) -> Result<(), AllocError> {
+    let (front, back) = parts;
+    let whole = format!(in alloc; "{front}{number}{back}")?;
+    text.push_str(whole.as_str())
+}
+
 /// Puts a piece so many times behind a text. A `#` in it is its number, from 0.
 fn repeat(alloc: Global, text: &mut String, piece: &str, count: usize) -> Result<(), AllocError> {
-    let Some((front, back)) = piece.split_once('#') else {
-        for _ in 0..count {
-            text.push_str(piece)?;
-        }
-        return Ok(());
+    let Some(parts) = piece.split_once('#') else {
+        return repeat_alike(text, piece, count);
     };
     for number in 0..count {
-        let whole = format!(in alloc; "{front}{number}{back}")?;
-        text.push_str(whole.as_str())?;
+        push_numbered(alloc, text, number, parts)?;
     }
     Ok(())
 }
@@ -56,7 +70,7 @@ fn writes(
 /// A section's pattern, how often its pieces may stand, and what its build and a call of `m` answer there and one above.
 type Section = (&'static str, usize, &'static str, &'static str);
 
-const SECTIONS: [Section; 19] = [
+const SECTIONS: &[Section] = &[
     (
         "<\n>",
         65_536,
@@ -220,13 +234,19 @@ fn is_answered(
     answers(alloc, section.as_str(), answer)
 }
 
+/// Whether so it is at a limit and one above.
+fn is_limited(alloc: Global, section: &Section) -> Result<bool, AllocError> {
+    let (pattern, most, within, above) = *section;
+    Ok(
+        is_answered(alloc, pattern, most, within)?
+            && is_answered(alloc, pattern, most.saturating_add(1), above)?,
+    )
+}
+
 #[test]
 fn sections_at_their_limits(rt: HostRuntime) -> Result<(), AllocError> {
-    for (pattern, most, within, above) in SECTIONS {
-        let more = most.saturating_add(1);
-        let is_right = is_answered(rt.alloc(), pattern, most, within)?
-            && is_answered(rt.alloc(), pattern, more, above)?;
-        assert!(rt; is_right, "{pattern}");
+    for section in SECTIONS {
+        assert!(rt; is_limited(rt.alloc(), section)?, "{}", section.0);
     }
     Ok(())
 }
@@ -244,7 +264,7 @@ const REFUSED: Status = Status::SomeRefused;
 const BAD: Status = Status::BadInput;
 
 /// There may be 64 modules, 64 sections of one, and 32 parameters of a registration.
-const RUNS: [Run; 6] = [
+const RUNS: &[Run] = &[
     (
         Repeated(PROFILE, 0),
         Repeated("<module m# 00000001\n>", 64),

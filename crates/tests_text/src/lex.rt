@@ -27,7 +27,7 @@ fn place(line: u32, column: u32) -> Place {
 type Spelling = (&'static [u8], TokenKind);
 
 /// The words of primitive types.
-const TYPES: [Spelling; 11] = [
+const TYPES: &[Spelling] = &[
     (b"int8", Primitive(Prim::I8)),
     (b"int16", Primitive(Prim::I16)),
     (b"int", Primitive(Prim::I32)),
@@ -42,7 +42,7 @@ const TYPES: [Spelling; 11] = [
 ];
 
 /// The other words of the grammar.
-const WORDS: [Spelling; 32] = [
+const WORDS: &[Spelling] = &[
     (b"void", Void),
     (b"true", True),
     (b"false", False),
@@ -78,7 +78,7 @@ const WORDS: [Spelling; 32] = [
 ];
 
 /// The reserved words that the grammar does not use.
-const RESERVED: [Spelling; 11] = [
+const RESERVED: &[Spelling] = &[
     (b"auto", Reserved),
     (b"float", Reserved),
     (b"double", Reserved),
@@ -93,7 +93,7 @@ const RESERVED: [Spelling; 11] = [
 ];
 
 /// The signs of several characters, but `!is`.
-const LONG_SIGNS: [Spelling; 24] = [
+const LONG_SIGNS: &[Spelling] = &[
     (b">>>=", ShiftRightArithmeticAssign),
     (b"<<=", ShiftLeftAssign),
     (b">>=", ShiftRightAssign),
@@ -121,7 +121,7 @@ const LONG_SIGNS: [Spelling; 24] = [
 ];
 
 /// The other signs.
-const SIGNS: [Spelling; 24] = [
+const SIGNS: &[Spelling] = &[
     (b"+", Plus),
     (b"-", Minus),
     (b"*", Star),
@@ -149,7 +149,7 @@ const SIGNS: [Spelling; 24] = [
 ];
 
 /// One token of each other kind.
-const OTHERS: [Spelling; 4] = [
+const OTHERS: &[Spelling] = &[
     (b"a_1", Name),
     (b"_", Name),
     (b"0x1F", Number),
@@ -187,21 +187,21 @@ fn misread(alloc: Global, rows: &[Spelling]) -> Option<&'static [u8]> {
 
 #[test]
 fn each_word_is_one_token(rt: HostRuntime) {
-    let types = misread(rt.alloc(), &TYPES);
+    let types = misread(rt.alloc(), TYPES);
     assert!(rt; types.is_none(), "{types:?}");
-    let words = misread(rt.alloc(), &WORDS);
+    let words = misread(rt.alloc(), WORDS);
     assert!(rt; words.is_none(), "{words:?}");
-    let reserved = misread(rt.alloc(), &RESERVED);
+    let reserved = misread(rt.alloc(), RESERVED);
     assert!(rt; reserved.is_none(), "{reserved:?}");
 }
 
 #[test]
 fn each_sign_is_one_token(rt: HostRuntime) {
-    let long = misread(rt.alloc(), &LONG_SIGNS);
+    let long = misread(rt.alloc(), LONG_SIGNS);
     assert!(rt; long.is_none(), "{long:?}");
-    let signs = misread(rt.alloc(), &SIGNS);
+    let signs = misread(rt.alloc(), SIGNS);
     assert!(rt; signs.is_none(), "{signs:?}");
-    let others = misread(rt.alloc(), &OTHERS);
+    let others = misread(rt.alloc(), OTHERS);
     assert!(rt; others.is_none(), "{others:?}");
 }
 
@@ -243,7 +243,7 @@ fn is_so(alloc: Global, text: &[u8], want: Want) -> bool {
     is_wanted(&lex(alloc, text, 0), want)
 }
 
-const FAULTS: [(&[u8], Why, u32, u32); 14] = [
+const FAULTS: &[(&[u8], Why, u32, u32)] = &[
     (b"int a; # b", Why::BadByte, 1, 8),
     (b"void m(){ 1x; }", Why::BadNumber, 1, 11),
     (b"/* cut", Why::OpenComment, 1, 1),
@@ -262,7 +262,7 @@ const FAULTS: [(&[u8], Why, u32, u32); 14] = [
 
 #[test]
 fn faults_have_their_places(rt: HostRuntime) {
-    for row in &FAULTS {
+    for row in FAULTS {
         let (text, why, line, column) = *row;
         let want = Want::Fault(why, line, column);
         assert!(rt; is_so(rt.alloc(), text, want), "{text:?}");
@@ -271,7 +271,7 @@ fn faults_have_their_places(rt: HostRuntime) {
 
 /// Tokens of section 7 after a mark of the bytes' order, a comment, a CR, an LF and a tab: their first and last bytes,
 /// their lines and columns.
-const PLACES: [(u32, u32, u32, u32); 3] = [(3, 4, 1, 4), (13, 14, 2, 2), (20, 21, 2, 9)];
+const PLACES: &[(u32, u32, u32, u32)] = &[(3, 4, 1, 4), (13, 14, 2, 2), (20, 21, 2, 9)];
 
 fn is_placed(token: Token, row: (u32, u32, u32, u32)) -> bool {
     let (start, end, line, column) = row;
@@ -328,7 +328,7 @@ fn has_kinds(alloc: Global, text: &[u8], kinds: &[TokenKind]) -> bool {
 }
 
 /// Texts whose tokens are as long as they can be.
-const LONGEST: [(&[u8], &[TokenKind]); 6] = [
+const LONGEST: &[(&[u8], &[TokenKind])] = &[
     (b">>>=", &[ShiftRightArithmeticAssign]),
     (b">>>>=", &[ShiftRightArithmetic, GreaterEqual]),
     (b"a!is b", &[Name, NotIs, Name]),
@@ -339,7 +339,7 @@ const LONGEST: [(&[u8], &[TokenKind]); 6] = [
 
 #[test]
 fn the_longest_token_is_taken(rt: HostRuntime) {
-    for row in &LONGEST {
+    for row in LONGEST {
         let (text, kinds) = *row;
         assert!(rt; has_kinds(rt.alloc(), text, kinds), "{text:?}");
     }
@@ -373,7 +373,7 @@ fn run_is_so(alloc: Global, row: Run) -> bool {
     is_so(alloc, &text, want)
 }
 
-const RUNS: [Run; 10] = [
+const RUNS: &[Run] = &[
     // a token's bytes after `int `
     (b"int ", b";", b'a', 255, Want::Tokens(3)),
     (b"int ", b";", b'a', 256, Want::Fault(Why::TooLong, 1, 5)),
@@ -396,7 +396,7 @@ fn limits_are_met_and_no_more(rt: HostRuntime) {
     }
 }
 
-const NUMBERS: [(&[u8], Prim, u64); 15] = [
+const NUMBERS: &[(&[u8], Prim, u64)] = &[
     (b"0", Prim::I32, 0),
     (b"007", Prim::I32, 7),
     (b"2147483647", Prim::I32, 2_147_483_647),
@@ -420,7 +420,7 @@ const NUMBERS: [(&[u8], Prim, u64); 15] = [
 
 #[test]
 fn numbers_have_types_and_values(rt: HostRuntime) {
-    for row in &NUMBERS {
+    for row in NUMBERS {
         let (text, ty, value) = *row;
         assert!(rt; number(text) == ang_lex::Number { ty, value }, "{text:?}");
     }
@@ -435,7 +435,7 @@ fn is_long_name(alloc: Global, length: usize) -> Option<bool> {
 }
 
 /// Texts, and whether each is a name.
-const NAMES: [(&[u8], bool); 8] = [
+const NAMES: &[(&[u8], bool)] = &[
     (b"a", true),
     (b"_9", true),
     (b"Int", true),
@@ -448,7 +448,7 @@ const NAMES: [(&[u8], bool); 8] = [
 
 #[test]
 fn names_are_identifiers(rt: HostRuntime) {
-    for row in &NAMES {
+    for row in NAMES {
         let (text, is) = *row;
         assert!(rt; is_name(text) == is, "{text:?}");
     }

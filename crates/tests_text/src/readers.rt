@@ -76,7 +76,7 @@ fn makes(alloc: Global, reader: Reader, text: &str, made: Made) -> bool {
 }
 
 /// A reader, a text, and what the reader makes of it.
-const READ: [(Reader, &str, Made); 7] = [
+const READ: &[(Reader, &str, Made)] = &[
     (Reader::Expression, "1 + 2", Made::Binary),
     (Reader::Expression, "1 + )", Made::Fault(1)),
     (Reader::Statement, "while (a) { b; }", Made::While),
@@ -91,7 +91,7 @@ const READ: [(Reader, &str, Made); 7] = [
 fn readers_take_what_they_read(rt: HostRuntime) {
     for (reader, text, made) in READ {
         assert!(rt;
-            makes(rt.alloc(), reader, text, made),
+            makes(rt.alloc(), *reader, text, *made),
             "{reader:?} of {text}"
         );
     }

@@ -32,7 +32,7 @@ type Entity = (u32, Role, bool, &'static [HostValueType], HostValueType);
 
 /// By number: the types `Counter` (0) and `Cell` (6), which nobody asks, with what belongs to them; what belongs to
 /// no type; and at the end a sum with a result that is too small.
-const ENTITIES: [Option<Entity>; 18] = [
+const ENTITIES: &[Option<Entity>] = &[
     None,
     Some((COUNTER, Role::Making(0), false, &[], HANDLE)),
     Some((COUNTER, Role::Making(1), false, &[INT], HANDLE)),
@@ -115,7 +115,7 @@ fn entity(alloc: Global, row: &Option<Entity>) -> Result<Option<HostUse>, AllocE
 /// The entities, each of which a module sees.
 pub fn entities(alloc: Global) -> Result<Vec<Option<HostUse>>, AllocError> {
     let mut entities = Vec::new(alloc);
-    for row in &ENTITIES {
+    for row in ENTITIES {
         put(&mut entities, entity(alloc, row)?)?;
     }
     Ok(entities)

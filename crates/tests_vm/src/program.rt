@@ -56,7 +56,7 @@ pub const BLANK: Module = Module {
 };
 
 /// The modules, by number.
-const MODULES: [Module; 4] = [NUMBERS, HANDLES, EXPORTER, CLASSES];
+const MODULES: &[Module] = &[NUMBERS, HANDLES, EXPORTER, CLASSES];
 
 /// One item more.
 pub fn put<T: Drop>(items: &mut Vec<T>, item: T) -> Result<(), AllocError> {
@@ -160,13 +160,13 @@ pub fn table_of(alloc: Global, written: &[Module]) -> Result<Table, AllocError> 
 
 /// The table of all modules.
 pub fn table(alloc: Global) -> Result<Table, AllocError> {
-    table_of(alloc, &MODULES)
+    table_of(alloc, MODULES)
 }
 
 /// What the globals of all modules hold at first.
 pub fn first_globals(alloc: Global) -> Result<Vec<Box<Vec<Slot>>>, AllocError> {
     let mut globals = Vec::new(alloc);
-    for written in &MODULES {
+    for written in MODULES {
         put(
             &mut globals,
             Box::new(alloc, Vec::from_slice(alloc, written.globals)?)?,

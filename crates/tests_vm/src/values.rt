@@ -3,7 +3,7 @@ use ang_kinds::{Prim, Value};
 use ang_meaning::{HostValueType, Slot};
 use ang_vm_numbers::{slot_from, value_from};
 
-const VALUES: [(Prim, u64, Value); 9] = [
+const VALUES: &[(Prim, u64, Value)] = &[
     (Prim::I8, 0x7F, Value::Int(0x7F)),
     (Prim::I16, u64::MAX - 0x7FFF, Value::Int(-0x8000)),
     (Prim::I32, u64::MAX - 4, Value::Int(-5)),
@@ -24,6 +24,6 @@ fn passes(of: Prim, bits: u64, value: Value) -> bool {
 #[test]
 fn values_pass(rt: HostRuntime) {
     for (of, bits, value) in VALUES {
-        assert!(rt; passes(of, bits, value), "{of:?} {bits}");
+        assert!(rt; passes(*of, *bits, *value), "{of:?} {bits}");
     }
 }

@@ -13,7 +13,7 @@ fn int(number: i64) -> Answer {
 }
 
 /// What the host writes, what is answered, and how many bytes are left.
-const ANSWERS: [(&str, Answer, usize); 34] = [
+const ANSWERS: &[(&str, Answer, usize)] = &[
     ("void\n", Answer::Void, 0),
     ("void\r\nvoid\n", Answer::Void, 5),
     ("void", Answer::Void, 0),
@@ -88,7 +88,7 @@ fn a_property_is_read_and_written(rt: HostRuntime) -> Result<(), AllocError> {
 
 const MAKE: &str = "ask 3 make 4294967295 - (false)\n";
 
-const MAKINGS: [(&str, Made); 10] = [
+const MAKINGS: &[(&str, Made)] = &[
     ("made #0\n", Made::Key(0)),
     (
         "made #18446744073709551615\n",

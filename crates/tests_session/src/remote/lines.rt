@@ -16,7 +16,7 @@ fn heard(alloc: Global, text: &str, kept: &str, unread: usize) -> Option<Heard> 
     is_right.then_some(heard)
 }
 
-const LINES: [(&str, Heard, &str, usize); 6] = [
+const LINES: &[(&str, Heard, &str, usize)] = &[
     ("c\nd\n", Heard::Line, "abc\n", 2),
     ("\n\n", Heard::Line, "ab\n", 1),
     ("cd", Heard::Last, "abcd", 0),
@@ -34,7 +34,7 @@ fn each_end_of_a_line(rt: HostRuntime) {
 }
 
 /// Lines that may be the head of a section, however they are spelled, and others.
-const HEADS: [(&str, bool); 20] = [
+const HEADS: &[(&str, bool)] = &[
     ("section a 3", true),
     ("section", true),
     ("section\r", true),
