@@ -10,11 +10,14 @@
 #![tactic(auto)]
 
 mod beside;
+mod fitting;
 mod helpers;
 mod made;
 mod masked;
 mod meanings;
 mod named;
+mod numbered;
+mod others;
 mod rising;
 mod rows;
 mod same;
