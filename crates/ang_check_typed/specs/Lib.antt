@@ -1,0 +1,10 @@
+pub mod Given
+pub mod Lacking
+pub mod Contexts
+pub mod Typed
+pub mod Owned
+pub mod Imports
+pub mod Kin
+pub mod Fields
+pub mod Whole
+pub mod Methods
