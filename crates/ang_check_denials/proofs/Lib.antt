@@ -1,3 +1,4 @@
+pub mod Alone
 pub mod Brought
 pub mod ByName
 pub mod Helping
@@ -7,5 +8,6 @@ pub mod Meaning
 pub mod Merging
 pub mod Places
 pub mod SameUses
+pub mod Taking
 pub mod Types
 pub mod Values

@@ -12,14 +12,14 @@ use Rattle.ang_view.specs.declared.entry.Entry.{Entry}
 use Rattle.ang_view.specs.declared.entry.EntryKind.{EntryKind}
 use Rattle.ang_view.specs.declared.entry.EntryKind.TheVariants as entry
 use Rattle.ang_view.specs.Named.{is_factory}
-use Rattle.ang_view.specs.Registration.{RegistrationList, entry_at, is_function, is_number}
+use Rattle.ang_view.specs.Registration.{RegistrationList, entry_at, is_function, is_function_named, is_number}
 use Rattle.ang_view.proofs.Lists.{and_gives}
 use Rattle.ang_check_contest.specs.declared.host.SeenFunction.{SeenFunction}
 use Rattle.ang_check_contest.specs.declared.host.Wanted.{Wanted}
 use Rattle.ang_check_contest.specs.declared.host.Wanted.TheVariants as wanted
 use Rattle.ang_check_contest.specs.Host.{found, function_of_entry, is_method, wants_in}
 use Rattle.ang_check_contest.proofs.Adding.{past_end}
-use Rattle.ang_check_denials.specs.Added.{found_in, wins}
+use Rattle.ang_check_denials.specs.Added.{found_in, plain, wins}
 use Rattle.ang_check_denials.specs.Made.{candidate_in, candidate_of, factory_in, is_won, made, made_as, made_of, method_in}
 
 -- ---- an entry that is wanted
@@ -119,3 +119,25 @@ won_is a cand cs args (Some f) = refl
 pub won_as : (a : Ancestors) (cand : SeenFunction → Candidate) (cs : List Candidate) (args : List ArgType) (o : Option SeenFunction) (c : Option Candidate) (b : Bool)
     → c ≡ option_map cand o → b ≡ is_won a cs args c → b ≡ wins a cand cs args o
 won_as a cand cs args o c b e won = won ∙ ap (is_won a cs args) e ∙ won_is a cand cs args o
+
+-- a function of a name is wanted by it
+named_wanted : (name : List ℕ) (o : Option Entry) → is_function_named name o ≡ true → true ≡ wants_in (wanted.Function name) o
+named_wanted name None e = cc
+named_wanted name (Some y) e = sym e
+
+-- what was made of a function of a name wins just where what is found there does
+pub function_wins : (R : RegistrationList) (n : ℕ) (name : List ℕ) (a : Ancestors) (cs : List Candidate) (args : List ArgType) (b : Bool)
+    → is_function_named name (entry_at R n) ≡ true → b ≡ is_won a cs args (slice_index_or (made R) n None)
+    → b ≡ wins a plain cs args (found_in R n (wanted.Function name))
+function_wins R n name a cs args b is won =
+    let c = slice_index_or (made R) n None in
+    won_as a plain cs args (found_in R n (wanted.Function name)) c b
+    (wanted_made R n (wanted.Function name) (made R) c refl (named_wanted name (entry_at R n) is) refl) won
+
+-- what is wanted was made
+pub candidate_is_made : (R : RegistrationList) (n : ℕ) (w : Wanted) (c : Candidate) → candidate_in R n w ≡ Some c → slice_index_or (made R) n None ≡ Some c
+candidate_is_made R n w c e = by_sight (wants_in w (entry_at R n)) refl
+  where
+    by_sight : (b : Bool) → wants_in w (entry_at R n) ≡ b → slice_index_or (made R) n None ≡ Some c
+    by_sight true wants = at_made R n ∙ made_wanted R n w (entry_at R n) wants ∙ e
+    by_sight false wants = let none : None ≡ Some c = unwanted_made R n w (sym wants) ∙ e in cc

@@ -1,8 +1,9 @@
 -- Object types and enumerations by name, where an entry is added.
-use Rattle.std.specs.Prelude.{ℕ, suc, ◌≡◌, ◌+◌, ◌<◌, Bool, true, false, cond, ◌&&◌, ◌||◌, is_some, filter, find, List, [], ◌∷◌, length, position, bytes_eq, map, Option, Some, None}
+use Rattle.std.specs.Prelude.{ℕ, suc, ◌≡◌, ◌+◌, ◌<◌, ◌==◌, Bool, true, false, cond, ◌&&◌, ◌||◌, is_some, filter, find, List, [], ◌∷◌, length, position, bytes_eq, map, Option, Some, None}
 use Rattle.std.specs.List.{position_from, range_with_len}
 use Rattle.std.proofs.Common.{arith, refl, sym, ap, ◌∙◌}
 use Rattle.std.proofs.lemmas.Iterator.Adapters.{position_from-zero}
+use Rattle.std.proofs.lemmas.Bool.{eqb-true}
 use Rattle.ang_kinds.specs.declared.mask.EntityNo.{EntityNo}
 use Rattle.ang_view.specs.declared.entry.Entry.{Entry}
 use Rattle.ang_view.specs.declared.entry.EntryKind.{EntryKind}
@@ -13,11 +14,13 @@ use Rattle.ang_view.specs.Registration.{RegistrationList, entry_at, is_host_type
 use Rattle.ang_view.specs.Types.{enumeration_named, is_enumeration, is_enumeration_named, is_type_named, type_named}
 use Rattle.ang_view.proofs.Seen.{entry_at-seen, position-passes}
 use Rattle.ang_names_known.specs.declared.names.Family.{Family}
+use Rattle.ang_names_known.specs.declared.space.Named.{Named}
 use Rattle.ang_names_known.specs.declared.space.Named.TheVariants as named
 use Rattle.ang_names_known.specs.Spaces.{family_or_host, family_type, type_of_name}
 use Rattle.ang_check_contest.proofs.Adding.{length-seen_with, entry_at-seen_with}
 use Rattle.ang_check_contest.specs.Scopes.{Scope}
-use Rattle.ang_check_denials.specs.Added.{is_shown, is_shown_enumeration, is_shown_type, named_with}
+use Rattle.ang_check_denials.specs.Added.{family_of_name, is_shown, is_shown_enumeration, is_shown_type, named_with}
+use Rattle.ang_check_denials.specs.Denials.{is_known}
 use Rattle.ang_check_denials.specs.Names.{is_a_type_named, types_named}
 use Rattle.ang_check_denials.proofs.Kept.{found_of_part, kept_of_part}
 
@@ -218,3 +221,42 @@ unfolding type_of_name
 named_enumeration R m s x name n e =
     by_enumeration R m x name n (position (bytes_eq name) (map (λ (f : Family). f.name) s.names.families)) (type_named (seen_with R m x) name)
     (enumeration_named (seen_with R m x) name) refl e
+
+-- ---- by the script's family of the name
+
+no_family : (c : Option ℕ) (t : Named) → t ≡ family_or_host c None None → is_known t ≡ false → None ≡ c
+no_family (Some c) t e f = let no' : false ≡ true = sym f ∙ ap is_known e in cc
+no_family None t e f = refl
+
+is_the_family : (c host enumeration : Option ℕ) (t : Named) → t ≡ family_or_host c None None → is_known t ≡ true → t ≡ family_or_host c host enumeration
+is_the_family (Some c) host enumeration t e f = e
+is_the_family None host enumeration t e f = let no' : false ≡ true = sym (ap is_known e) ∙ f in cc
+
+pub family_named_is : (R : RegistrationList) (m : ℕ) (s : Scope) (x : ℕ) (name : List ℕ) (t : Named) → t ≡ family_of_name s name → is_known t ≡ true
+    → t ≡ named_with R m s x name
+unfolding type_of_name
+family_named_is R m s x name t e known =
+    is_the_family (position (bytes_eq name) (map (λ (f : Family). f.name) s.names.families)) (type_named (seen_with R m x) name)
+    (enumeration_named (seen_with R m x) name) t e known
+
+pub host_named_is : (R : RegistrationList) (m : ℕ) (s : Scope) (x : ℕ) (name : List ℕ) (t : Named) (host enumeration : Option ℕ) → t ≡ family_of_name s name
+    → is_known t ≡ false → host ≡ type_named (seen_with R m x) name → enumeration ≡ enumeration_named (seen_with R m x) name
+    → family_or_host None host enumeration ≡ named_with R m s x name
+unfolding type_of_name
+host_named_is R m s x name t host enumeration e unknown h g =
+    let none = no_family (position (bytes_eq name) (map (λ (f : Family). f.name) s.names.families)) t e unknown in
+    λ i. family_or_host (none i) (h i) (g i)
+
+pub nothing_left : (xs : List ℕ) → (length xs == 0) ≡ true → xs ≡ []
+nothing_left [] e = refl
+nothing_left (x ∷ xs) e = let none : length (x ∷ xs) ≡ 0 = eqb-true (length (x ∷ xs)) 0 e in absurd (omega (arith, none))
+
+-- where the whole list has no type of the name
+pub nothing_named_is : (R V : RegistrationList) (m : ℕ) (s : Scope) (x : ℕ) (name : List ℕ) (t : Named) (ns : List ℕ) → V ≡ seen R m → ns ≡ types_named R name
+    → t ≡ family_of_name s name → ns ≡ [] → t ≡ named_with R m s x name
+unfolding type_of_name
+nothing_named_is R V m s x name t ns view are e none =
+    let hosts : None ≡ type_named (seen_with R m x) name = sym (ap (find (is_shown_type R V name x)) none) ∙ first_type_is R V m x name ns view are in
+    let enumerations : None ≡ enumeration_named (seen_with R m x) name =
+    sym (ap (find (is_shown_enumeration R V name x)) none) ∙ first_enumeration_is R V m x name ns view are in
+    e ∙ (λ i. family_or_host (position (bytes_eq name) (map (λ (f : Family). f.name) s.names.families)) (hosts i) (enumerations i))

@@ -55,10 +55,10 @@ and_all : (b : Bool) → (b && true) ≡ b
 and_all true = refl
 and_all false = refl
 
-is_itself : (n x : ℕ) → n ≡ x → (n == x) ≡ true
+pub is_itself : (n x : ℕ) → n ≡ x → (n == x) ≡ true
 is_itself n x e = search (arith, e)
 
-is_other : (n x : ℕ) → n ≢ x → (n == x) ≡ false
+pub is_other : (n x : ℕ) → n ≢ x → (n == x) ≡ false
 is_other n x e = search (arith, e)
 
 module _ (passes : ℕ → Bool) (x : ℕ) where

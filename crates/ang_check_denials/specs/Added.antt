@@ -1,6 +1,7 @@
 -- What a use means where a hidden entry is added to what a module sees, told from the entry and from what is seen alone
 -- (docs/LANGUAGE.md, "Denials"). No view with an entry more is made.
-use Rattle.std.specs.Prelude.{ℕ, ◌==◌, Bool, false, not, ◌&&◌, ◌||◌, List, [], ◌∷◌, map, is_some, slice_get, Option, Some, None}
+use Rattle.std.specs.Prelude.{ℕ, ◌==◌, Bool, false, not, ◌&&◌, ◌||◌, List, [], ◌∷◌, map, is_some, slice_get, Option, Some, None, bytes_eq}
+use Rattle.std.specs.List.{position}
 use Rattle.ang_kinds.specs.declared.mask.EntityNo.{EntityNo}
 use Rattle.ang_kinds.specs.declared.types.Pass.TheVariants as pass
 use Rattle.ang_types.specs.declared.arg_type.ArgType.{ArgType}
@@ -21,6 +22,7 @@ use Rattle.ang_check_contest.specs.declared.host.Wanted.{Wanted}
 use Rattle.ang_check_contest.specs.declared.host.Wanted.TheVariants as wanted
 use Rattle.ang_check_contest.specs.declared.host.WantedProperty.{WantedProperty}
 use Rattle.ang_check_contest.specs.declared.host.WantedProperty.TheVariants as property
+use Rattle.ang_names_known.specs.declared.names.Family.{Family}
 use Rattle.ang_names_known.specs.declared.names.ScriptGlobal.{ScriptGlobal}
 use Rattle.ang_names_known.specs.declared.space.Named.{Named}
 use Rattle.ang_names_known.specs.declared.space.Named.TheVariants as named
@@ -28,7 +30,7 @@ use Rattle.ang_check_contest.specs.Added.{added_property}
 use Rattle.ang_check_contest.specs.Host.{found, host_where, property_found, property_where}
 use Rattle.ang_names_known.specs.Items.{is_empty}
 use Rattle.ang_names_known.specs.Lookup.{global_named}
-use Rattle.ang_names_known.specs.Spaces.{family_of_type, space_of_names, type_of_name}
+use Rattle.ang_names_known.specs.Spaces.{family_of_type, family_or_host, space_of_names, type_of_name}
 use Rattle.ang_check_uses.specs.Uses.{candidates_of, functions_of, host_methods, takes_number, value_in}
 use Rattle.ang_check_contest.specs.Scopes.{Scope}
 use Rattle.ang_check_denials.specs.Denials.{is_call}
@@ -94,6 +96,10 @@ is_shown_type R V name x k = is_type_named name (entry_at R k) && is_shown R V x
 
 abbrev pub is_shown_enumeration : RegistrationList → RegistrationList → List ℕ → ℕ → ℕ → Bool
 is_shown_enumeration R V name x k = is_enumeration_named name (entry_at R k) && is_shown R V x k
+
+-- the script's family of a name, as a type
+abbrev pub family_of_name : Scope → List ℕ → Named
+family_of_name s name = family_or_host (position (bytes_eq name) (map (λ (f : Family). f.name) s.names.families)) None None
 
 -- what a name means as a type where entry x is added
 abbrev pub named_with : RegistrationList → ℕ → Scope → ℕ → List ℕ → Named

@@ -4,6 +4,7 @@ use Rattle.ang_kinds.specs.declared.mask.EntityNo.{EntityNo}
 use Rattle.ang_types.specs.declared.arg_type.ArgType.{ArgType}
 use Rattle.ang_types.specs.declared.candidate.Candidate.{Candidate}
 use Rattle.ang_types.specs.Best.{is_best}
+use Rattle.ang_types.specs.Overloads.{Params}
 use Rattle.ang_types.specs.Ranks.{Ancestors}
 use Rattle.ang_view.specs.declared.entry.Entry.{Entry}
 use Rattle.ang_view.specs.declared.entry.EntryKind.{EntryKind}
@@ -52,6 +53,14 @@ made_of R n (Some x) = made_as R n x.signature.name x.owner x.kind
 -- all entries of a list
 unfoldable pub made : RegistrationList → List (Option Candidate)
 made R = map (λ n. made_of R n (entry_at R n)) (numbers_of R)
+
+-- ---- their parameters
+
+abbrev pub params_in : Option Candidate → Option Params
+params_in c = option_map (λ (k : Candidate). k.params) c
+
+abbrev pub params_made : List (Option Candidate) → List (Option Params)
+params_made cs = map params_in cs
 
 -- ---- one of them beside others
 

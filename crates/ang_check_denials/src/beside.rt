@@ -1,18 +1,19 @@
 //! What a module sees beside an entry that is added, for one use.
 ghost use Rattle.std.specs.Prelude.{◌≡◌, [], ◌∷◌, None, false, not, IfOk};
 ghost use Rattle.ang_types.specs.declared.arg_type.ArgType.TheVariants.{Object};
-ghost use Rattle.ang_types.specs.Rivals.{AreRivals};
 ghost use Rattle.ang_names_known.specs.Items.{is_empty};
 ghost use Rattle.ang_check_uses.specs.Uses as uses;
 ghost use Rattle.ang_check_denials.specs.Added as spec;
 ghost use Rattle.ang_check_denials.specs.Names as names;
+ghost use Rattle.ang_check_denials.specs.Others.{AreOthers};
 
 use crate::masked::Masked;
-use crate::named::types_named;
+use crate::named::{TypesNamed, all_named};
+use crate::others::Others;
 use ang_check_contest::{Scope, SeenProperty, Wanted, WantedProperty, host_where, property_where};
 use ang_check_uses::{functions_of, host_methods, types_with_receiver};
 use ang_names_known::BorrowedText;
-use ang_types::{ArgType, Asks, Candidate, Rivals};
+use ang_types::{ArgType, Asks, Candidate};
 use ang_view::View;
 use std::alloc::{AllocError, Global};
 
@@ -20,19 +21,19 @@ use std::alloc::{AllocError, Global};
 #[derive(Drop)]
 pub struct Beside {
     /// The candidates that are seen.
-    pub rivals: Rivals,
+    pub rivals: Others,
     /// The types of all arguments, a receiver's in front.
     pub types: Vec<ArgType>,
     /// The property that is seen.
     pub property: Option<SeenProperty>,
     /// Whether there are functions of the name, which a hidden one would join.
     pub joined: bool,
-    /// The object types and the enumerations of the name in the whole list, seen or hidden, by their numbers.
-    pub named: Vec<u32>,
+    /// The types of the name.
+    pub named: TypesNamed,
     /// The host type that a call of the name makes objects of, or any other number.
     pub made: u32,
     /// The factories of that type that are seen.
-    pub makers: Rivals,
+    pub makers: Others,
 }
 
 /// A number that no host type has.
@@ -64,12 +65,12 @@ pub fn makers_of(
     scope: &Scope<'_>,
     number: u32,
     types: &[ArgType],
-) -> Result<Rivals, AllocError>
-    ensures exact { IfOk result (λ makers. AreRivals makers scope.now.ancestors
+) -> Result<Others, AllocError>
+    ensures exact { IfOk result (λ makers. AreOthers makers scope.now.ancestors
         (spec.factories scope.now.view number) types.now) }
 {
     let seen = factories(alloc, scope.view(), number)?;
-    Rivals::of(alloc, scope.lineage(), seen.as_slice(), types)
+    Others::of(alloc, scope.lineage(), seen.as_slice(), types)
 }
 
 /// Some candidates, for arguments of these types.
@@ -79,19 +80,20 @@ fn of_candidates(
     candidates: &[Candidate],
     types: Vec<ArgType>,
     joined: bool,
-    named: Vec<u32>,
+    named: TypesNamed,
     made: u32,
 ) -> Result<Beside, AllocError>
     ensures rivals { IfOk result
-        (λ b. AreRivals b.rivals scope.now.ancestors candidates.now types.items) }
-    ensures makers { IfOk result (λ b. AreRivals b.makers scope.now.ancestors
+        (λ b. AreOthers b.rivals scope.now.ancestors candidates.now types.items) }
+    ensures makers { IfOk result (λ b. AreOthers b.makers scope.now.ancestors
         (spec.factories scope.now.view b.made) types.items) }
     ensures types { IfOk result (λ b. b.types.items ≡ types.items) }
     ensures property { IfOk result (λ b. b.property ≡ None) }
     ensures joined { IfOk result (λ b. b.joined ≡ joined) }
-    ensures named { IfOk result (λ b. b.named.items ≡ named.items) }
+    ensures named { IfOk result (λ b. b.named.numbers.items ≡ named.numbers.items) }
+    ensures family { IfOk result (λ b. b.named.family ≡ named.family) }
 {
-    let rivals = Rivals::of(alloc, scope.lineage(), candidates, types.as_slice())?;
+    let rivals = Others::of(alloc, scope.lineage(), candidates, types.as_slice())?;
     let makers = makers_of(alloc, scope, made, types.as_slice())?;
     Ok(Beside {
         rivals,
@@ -109,17 +111,18 @@ fn of_property(
     alloc: Global,
     scope: &Scope<'_>,
     property: Option<SeenProperty>,
-    named: Vec<u32>,
+    named: TypesNamed,
 ) -> Result<Beside, AllocError>
-    ensures rivals { IfOk result (λ b. AreRivals b.rivals scope.now.ancestors [] []) }
-    ensures makers { IfOk result (λ b. AreRivals b.makers scope.now.ancestors
+    ensures rivals { IfOk result (λ b. AreOthers b.rivals scope.now.ancestors [] []) }
+    ensures makers { IfOk result (λ b. AreOthers b.makers scope.now.ancestors
         (spec.factories scope.now.view b.made) []) }
     ensures types { IfOk result (λ b. b.types.items ≡ []) }
     ensures property { IfOk result (λ b. b.property ≡ property) }
     ensures joined { IfOk result (λ b. b.joined ≡ false) }
-    ensures named { IfOk result (λ b. b.named.items ≡ named.items) }
+    ensures named { IfOk result (λ b. b.named.numbers.items ≡ named.numbers.items) }
+    ensures family { IfOk result (λ b. b.named.family ≡ named.family) }
 {
-    let rivals = Rivals::of(alloc, scope.lineage(), &[], &[])?;
+    let rivals = Others::of(alloc, scope.lineage(), &[], &[])?;
     let makers = makers_of(alloc, scope, NO_TYPE, &[])?;
     Ok(Beside {
         rivals,
@@ -138,17 +141,18 @@ fn of_functions(
     scope: &Scope<'_>,
     name: &[u8],
     args: &[ArgType],
-    named: Vec<u32>,
+    named: TypesNamed,
 ) -> Result<Beside, AllocError>
-    ensures rivals { IfOk result (λ b. AreRivals b.rivals scope.now.ancestors
+    ensures rivals { IfOk result (λ b. AreOthers b.rivals scope.now.ancestors
         (uses.candidates_of (uses.functions_of scope.now name.now)) args.now) }
-    ensures makers { IfOk result (λ b. AreRivals b.makers scope.now.ancestors
+    ensures makers { IfOk result (λ b. AreOthers b.makers scope.now.ancestors
         (spec.factories scope.now.view b.made) args.now) }
     ensures types { IfOk result (λ b. b.types.items ≡ args.now) }
     ensures property { IfOk result (λ b. b.property ≡ None) }
     ensures joined { IfOk result
         (λ b. b.joined ≡ not (is_empty (uses.functions_of scope.now name.now))) }
-    ensures named { IfOk result (λ b. b.named.items ≡ named.items) }
+    ensures named { IfOk result (λ b. b.named.numbers.items ≡ named.numbers.items) }
+    ensures family { IfOk result (λ b. b.named.family ≡ named.family) }
 {
     let functions = functions_of(alloc, scope, name)?;
     let types = Vec::from_slice(alloc, args)?;
@@ -171,16 +175,17 @@ fn of_factories(
     scope: &Scope<'_>,
     number: u32,
     args: &[ArgType],
-    named: Vec<u32>,
+    named: TypesNamed,
 ) -> Result<Beside, AllocError>
-    ensures rivals { IfOk result (λ b. AreRivals b.rivals scope.now.ancestors
+    ensures rivals { IfOk result (λ b. AreOthers b.rivals scope.now.ancestors
         (spec.factories scope.now.view number) args.now) }
-    ensures makers { IfOk result (λ b. AreRivals b.makers scope.now.ancestors
+    ensures makers { IfOk result (λ b. AreOthers b.makers scope.now.ancestors
         (spec.factories scope.now.view b.made) args.now) }
     ensures types { IfOk result (λ b. b.types.items ≡ args.now) }
     ensures property { IfOk result (λ b. b.property ≡ None) }
     ensures joined { IfOk result (λ b. b.joined ≡ false) }
-    ensures named { IfOk result (λ b. b.named.items ≡ named.items) }
+    ensures named { IfOk result (λ b. b.named.numbers.items ≡ named.numbers.items) }
+    ensures family { IfOk result (λ b. b.named.family ≡ named.family) }
 {
     let candidates = factories(alloc, scope.view(), number)?;
     let types = Vec::from_slice(alloc, args)?;
@@ -202,18 +207,19 @@ fn of_methods(
     name: &[u8],
     receiver: (u32, bool),
     args: &[ArgType],
-    named: Vec<u32>,
+    named: TypesNamed,
 ) -> Result<Beside, AllocError>
-    ensures rivals { IfOk result (λ b. AreRivals b.rivals scope.now.ancestors
+    ensures rivals { IfOk result (λ b. AreOthers b.rivals scope.now.ancestors
         (uses.candidates_of (uses.host_methods scope.now.view receiver.0 name.now))
         (Object receiver.0 receiver.1 ∷ args.now)) }
-    ensures makers { IfOk result (λ b. AreRivals b.makers scope.now.ancestors
+    ensures makers { IfOk result (λ b. AreOthers b.makers scope.now.ancestors
         (spec.factories scope.now.view b.made) (Object receiver.0 receiver.1 ∷ args.now)) }
     ensures types { IfOk result
         (λ b. b.types.items ≡ Object receiver.0 receiver.1 ∷ args.now) }
     ensures property { IfOk result (λ b. b.property ≡ None) }
     ensures joined { IfOk result (λ b. b.joined ≡ false) }
-    ensures named { IfOk result (λ b. b.named.items ≡ named.items) }
+    ensures named { IfOk result (λ b. b.named.numbers.items ≡ named.numbers.items) }
+    ensures family { IfOk result (λ b. b.named.family ≡ named.family) }
 {
     let (number, read_only) = receiver;
     let methods = host_methods(alloc, scope, number, name)?;
@@ -237,18 +243,19 @@ pub fn beside_of(
     name: &[u8],
     asks: &Asks,
 ) -> Result<Beside, AllocError>
-    ensures rivals { IfOk result (λ b. AreRivals b.rivals scope.now.ancestors
+    ensures rivals { IfOk result (λ b. AreOthers b.rivals scope.now.ancestors
         (spec.candidates_for scope.now name.now asks.now) (spec.types_of asks.now)) }
-    ensures makers { IfOk result (λ b. AreRivals b.makers scope.now.ancestors
+    ensures makers { IfOk result (λ b. AreOthers b.makers scope.now.ancestors
         (spec.factories scope.now.view b.made) (spec.types_of asks.now)) }
     ensures types { IfOk result (λ b. b.types.items ≡ spec.types_of asks.now) }
     ensures property { IfOk result
         (λ b. b.property ≡ spec.property_for scope.now name.now asks.now) }
     ensures joined { IfOk result (λ b. b.joined ≡ spec.is_joined scope.now name.now asks.now) }
     ensures named { IfOk result
-        (λ b. b.named.items ≡ names.types_named masked.now.list name.now) }
+        (λ b. b.named.numbers.items ≡ names.types_named masked.now.list name.now) }
+    ensures family { IfOk result (λ b. b.named.family ≡ spec.family_of_name scope.now name.now) }
 {
-    let named = types_named(alloc, masked.whole(), name)?;
+    let named = all_named(alloc, masked.whole(), scope, name)?;
     match asks {
         Asks::Value => {
             let wanted = WantedProperty::Global(BorrowedText::new(name));

@@ -2,20 +2,23 @@
 ghost use Rattle.std.specs.Prelude.{◌≡◌, ◌<◌, ◌≤◌, ◌||◌, ◌&&◌, ◌++◌, [], ◌∷◌, false, if◌then◌else◌, filter, length, option_to_list, IfOk, OnOk};
 ghost use Rattle.ang_view.specs.Hidden.{numbers_of};
 ghost use Rattle.ang_view.specs.Registration.{entry_at, seen};
-ghost use Rattle.ang_types.specs.Rivals.{AreRivals};
-ghost use Rattle.ang_names_known.specs.Spaces as spaces;
+ghost use Rattle.ang_names_known.specs.Kinds.{numbered};
 ghost use Rattle.ang_check_denials.specs.Added as added;
 ghost use Rattle.ang_check_denials.specs.Denials as spec;
+ghost use Rattle.ang_check_denials.specs.Fitting.{IsTable, table_of};
 ghost use Rattle.ang_check_denials.specs.Names as names;
+ghost use Rattle.ang_check_denials.specs.Others.{AreOthers};
 
 use crate::beside::{Beside, beside_of};
+use crate::fitting::table_for;
 use crate::masked::Masked;
 use crate::meanings::adds;
+use crate::named::is_known;
 use crate::sought::help_row;
-use ang_check_contest::Scope;
+use ang_check_contest::{Scope, is_worth_telling};
+use ang_check_uses::type_named;
 use ang_index::Index;
 use ang_kinds::EntityNo;
-use ang_names_known::{Named, Space};
 use ang_types::{Asks, Refused};
 use ang_view::{EntryKind, View};
 use std::alloc::{AllocError, Global};
@@ -32,24 +35,6 @@ fn is_bare(asks: &Asks) -> bool
         | Asks::Make(_, _)
         | Asks::Default(_) => true,
         Asks::Property(_) | Asks::Method(_, _, _) => false,
-    }
-}
-
-/// What the name means as a type.
-fn type_named(scope: &Scope<'_>, name: &[u8]) -> Named
-    ensures exact { result
-        ≡ spaces.type_of_name (spaces.space_of_names scope.now.view scope.now.names) name.now }
-{
-    let space = Space::of_names(scope.view(), scope.names());
-    space.named(name)
-}
-
-fn is_known(named: Named) -> bool
-    ensures exact { result ≡ spec.is_known named }
-{
-    match named {
-        Named::Unknown => false,
-        Named::Object(_) | Named::Enumeration(_) => true,
     }
 }
 
@@ -111,21 +96,26 @@ fn helps(
     beside: &Beside,
     taken: bool,
     number: u32,
+    table: &Option<Vec<Vec<bool>>>,
 ) -> Result<bool, AllocError>
     requires view { scope.now.view ≡ seen masked.now.list masked.now.mask }
     requires taken { taken ≡ spec.is_taken scope.now refused.now asks.now }
-    requires rivals { AreRivals beside.now.rivals scope.now.ancestors
+    requires rivals { AreOthers beside.now.rivals scope.now.ancestors
         (added.candidates_for scope.now refused.now.error.name asks.now) beside.now.types.items }
     requires types { beside.now.types.items ≡ added.types_of asks.now }
     requires property { beside.now.property
         ≡ added.property_for scope.now refused.now.error.name asks.now }
     requires joined { beside.now.joined
         ≡ added.is_joined scope.now refused.now.error.name asks.now }
-    requires makers { AreRivals beside.now.makers scope.now.ancestors
+    requires makers { AreOthers beside.now.makers scope.now.ancestors
         (added.factories scope.now.view beside.now.made) beside.now.types.items }
-    requires named { beside.now.named.items
+    requires named { beside.now.named.numbers.items
         ≡ names.types_named masked.now.list refused.now.error.name }
+    requires family { beside.now.named.family
+        ≡ added.family_of_name scope.now refused.now.error.name }
     requires few { number < 1024 }
+    requires table { IsTable scope.now.ancestors (numbered 0 masked.now.kinds)
+        beside.now.types.items (table_of table.now) }
     ensures exact { IfOk result (λ help. help ≡ spec.helps masked.now.list masked.now.mask
         scope.now refused.now asks.now number) }
 {
@@ -136,7 +126,7 @@ fn helps(
         return Ok(false);
     }
     let name = refused.error.name.as_slice();
-    adds(alloc, masked, scope, name, asks, beside, number)
+    adds(alloc, masked, scope, name, asks, beside, number, table)
 }
 
 /// Puts a number at the end, where it is kept.
@@ -169,22 +159,27 @@ fn helper_at(
     taken: bool,
     count: u32,
     number: u32,
+    table: &Option<Vec<Vec<bool>>>,
 ) -> Result<Option<u32>, AllocError>
     requires view { scope.now.view ≡ seen masked.now.list masked.now.mask }
     requires taken { taken ≡ spec.is_taken scope.now refused.now asks.now }
-    requires rivals { AreRivals beside.now.rivals scope.now.ancestors
+    requires rivals { AreOthers beside.now.rivals scope.now.ancestors
         (added.candidates_for scope.now refused.now.error.name asks.now) beside.now.types.items }
     requires types { beside.now.types.items ≡ added.types_of asks.now }
     requires property { beside.now.property
         ≡ added.property_for scope.now refused.now.error.name asks.now }
     requires joined { beside.now.joined
         ≡ added.is_joined scope.now refused.now.error.name asks.now }
-    requires makers { AreRivals beside.now.makers scope.now.ancestors
+    requires makers { AreOthers beside.now.makers scope.now.ancestors
         (added.factories scope.now.view beside.now.made) beside.now.types.items }
-    requires named { beside.now.named.items
+    requires named { beside.now.named.numbers.items
         ≡ names.types_named masked.now.list refused.now.error.name }
+    requires family { beside.now.named.family
+        ≡ added.family_of_name scope.now refused.now.error.name }
     requires count { count ≡ length masked.now.list }
     requires few { count ≤ 1024 }
+    requires table { IsTable scope.now.ancestors (numbered 0 masked.now.kinds)
+        beside.now.types.items (table_of table.now) }
     ensures exact { IfOk result (λ helper. option_to_list helper ≡ filter
         (spec.helps masked.now.list masked.now.mask scope.now refused.now asks.now)
         (number ∷ [])) }
@@ -192,7 +187,9 @@ fn helper_at(
     if number >= count {
         return Ok(None);
     }
-    let help = helps(alloc, masked, scope, refused, asks, beside, taken, number)?;
+    let help = helps(
+        alloc, masked, scope, refused, asks, beside, taken, number, table,
+    )?;
     Ok(kept(help, number))
 }
 
@@ -205,6 +202,73 @@ pub fn push_number(numbers: &mut Vec<u32>, number: Option<u32>) -> Result<(), Al
         numbers.push(number)?;
     }
     Ok(())
+}
+
+/// The numbers of a row whose entries resolve a refused use, in order. `count` is how many entries there are.
+fn helpers_beside(
+    alloc: Global,
+    masked: &Masked<'_>,
+    scope: &Scope<'_>,
+    refused: &Refused,
+    asks: &Asks,
+    beside: &Beside,
+    taken: bool,
+    count: u32,
+    row: &[u32],
+    table: &Option<Vec<Vec<bool>>>,
+) -> Result<Vec<u32>, AllocError>
+    requires view { scope.now.view ≡ seen masked.now.list masked.now.mask }
+    requires taken { taken ≡ spec.is_taken scope.now refused.now asks.now }
+    requires rivals { AreOthers beside.now.rivals scope.now.ancestors
+        (added.candidates_for scope.now refused.now.error.name asks.now) beside.now.types.items }
+    requires types { beside.now.types.items ≡ added.types_of asks.now }
+    requires property { beside.now.property
+        ≡ added.property_for scope.now refused.now.error.name asks.now }
+    requires joined { beside.now.joined
+        ≡ added.is_joined scope.now refused.now.error.name asks.now }
+    requires makers { AreOthers beside.now.makers scope.now.ancestors
+        (added.factories scope.now.view beside.now.made) beside.now.types.items }
+    requires named { beside.now.named.numbers.items
+        ≡ names.types_named masked.now.list refused.now.error.name }
+    requires family { beside.now.named.family
+        ≡ added.family_of_name scope.now refused.now.error.name }
+    requires count { count ≡ length masked.now.list }
+    requires few { count ≤ 1024 }
+    requires table { IsTable scope.now.ancestors (numbered 0 masked.now.kinds)
+        beside.now.types.items (table_of table.now) }
+    ensures exact { IfOk result (λ numbers. numbers.items ≡ filter
+        (spec.helps masked.now.list masked.now.mask scope.now refused.now asks.now) row.now) }
+{
+    let mut numbers = Vec::new(alloc);
+    for number in row {
+        let helper = helper_at(
+            alloc, masked, scope, refused, asks, beside, taken, count, *number, table,
+        )?;
+        push_number(&mut numbers, helper)?;
+    }
+    Ok(numbers)
+}
+
+/// Which kinds of parameters take each argument of a use that looks at `count` entries, if that is worth to be found out.
+fn table_beside(
+    alloc: Global,
+    masked: &Masked<'_>,
+    scope: &Scope<'_>,
+    beside: &Beside,
+    count: usize,
+) -> Result<Option<Vec<Vec<bool>>>, AllocError>
+    ensures table { IfOk result (λ table. IsTable scope.now.ancestors
+        (numbered 0 masked.now.kinds) beside.now.types.items (table_of table)) }
+{
+    let kinds = masked.kinds();
+    let is_worth = is_worth_telling(count, kinds.len());
+    table_for(
+        alloc,
+        scope.lineage(),
+        kinds,
+        beside.types.as_slice(),
+        is_worth,
+    )
 }
 
 /// The numbers of a row whose entries resolve a refused use, in order. `count` is how many entries there are.
@@ -223,23 +287,18 @@ fn helpers_among(
     ensures exact { IfOk result (λ numbers. numbers.items ≡ filter
         (spec.helps masked.now.list masked.now.mask scope.now refused.now asks.now) row.now) }
 {
-    let mut numbers = Vec::new(alloc);
     if row.is_empty() {
-        return Ok(numbers);
+        return Ok(Vec::new(alloc));
     }
     let beside = beside_of(alloc, masked, scope, refused.error.name.as_slice(), asks)?;
     let taken = is_taken(scope, refused, asks);
-    for number in row {
-        let helper = helper_at(
-            alloc, masked, scope, refused, asks, &beside, taken, count, *number,
-        )?;
-        push_number(&mut numbers, helper)?;
-    }
-    Ok(numbers)
+    let table = table_beside(alloc, masked, scope, &beside, row.len())?;
+    helpers_beside(
+        alloc, masked, scope, refused, asks, &beside, taken, count, row, &table,
+    )
 }
 
-/// The numbers of the hidden entries that would resolve a refused use, rising. `rows` are those of `help_rows`.
-/// The only error is want of memory.
+/// The numbers of the hidden entries that would resolve a use, rising; `rows` as of `help_rows`. The only error is want of memory.
 pub fn helpers(
     alloc: Global,
     masked: &Masked<'_>,

@@ -152,7 +152,7 @@ pub fn made(alloc: Global, whole: &View) -> Result<Vec<Option<Candidate>>, Alloc
 }
 
 /// The candidate at a place, where there is one.
-fn made_at(all: &[Option<Candidate>], number: u32) -> Option<&Candidate>
+pub fn made_at(all: &[Option<Candidate>], number: u32) -> Option<&Candidate>
     ensures exact { option_copied result ≡ slice_index_or all.now number None }
 {
     all.get(number as usize)?.as_ref()

@@ -1,15 +1,17 @@
 //! A registration list, and what a module of a mask does not see of it.
-ghost use Rattle.std.specs.Prelude.{◌≡◌, ◌≤◌, length, option_copied, IfOk};
+ghost use Rattle.std.specs.Prelude.{◌≡◌, ◌≤◌, length, None, option_copied, option_map, slice_index_or, IfOk};
+ghost use Rattle.ang_names_known.specs.Kinds.{Says};
 ghost use Rattle.ang_view.specs.Hidden as spec;
 ghost use Rattle.ang_view.specs.Registration.{entry_at};
 ghost use Rattle.ang_check_denials.specs.Denials as denials;
 ghost use Rattle.ang_check_denials.specs.Made as candidates;
 ghost use Rattle.ang_check_denials.specs.Names as names;
 
-use crate::made::{candidate_among, made};
+use crate::made::{candidate_among, made, made_at};
+use crate::numbered::{Numbered, number_kinds};
 use ang_check_contest::Wanted;
-use ang_kinds::{EntityNo, Mask};
-use ang_types::Candidate;
+use ang_kinds::{EntityNo, Mask, Pass};
+use ang_types::{ArgType, Candidate};
 use ang_view::{EntryKind, View, names_entry};
 use std::alloc::{AllocError, Global};
 use std::marker::Model;
@@ -17,13 +19,14 @@ use std::marker::Model;
 /// A registration list, and what a module of a mask does not see of it.
 ///
 /// Beside it stand its functions, factories and methods as candidates, so that none is made anew for each use that looks
-/// at it.
+/// at it, and the numbers of their parameters' kinds.
 #[derive(Drop)]
 pub struct Masked<'a> {
     whole: &'a View,
     hidden: &'a View,
     mask: Mask,
     made: Vec<Option<Candidate>>,
+    numbered: Numbered,
 }
 
 impl<'a> Model for Masked<'a> {
@@ -31,13 +34,20 @@ impl<'a> Model for Masked<'a> {
     ghost use Rattle.ang_view.specs.Hidden as views;
     ghost use Rattle.ang_check_denials.specs.Made as candidates;
     ghost use Rattle.ang_check_denials.specs.Masked as value;
+    ghost use Rattle.ang_names_known.specs.Kinds.{AreRows};
 
     ghost Value = { value.Masked };
 
-    ghost view = { λ r. record { list = r.whole.now; mask = r.mask.0 } };
+    ghost view = { λ r. record {
+      list = r.whole.now;
+      mask = r.mask.0;
+      kinds = r.numbered.kinds.items;
+    } };
 
     ghost invariant = { λ r. (r.hidden.now ≡ views.hidden r.whole.now r.mask.0)
-        × (r.made.items ≡ candidates.made r.whole.now) };
+        × (r.made.items ≡ candidates.made r.whole.now)
+        × AreRows r.numbered.kinds.items r.numbered.rows
+        (λ t. candidates.params_made (candidates.made r.whole.now)) };
 }
 
 impl<'a> Masked<'a> {
@@ -53,11 +63,13 @@ impl<'a> Masked<'a> {
         ensures mask { IfOk result (λ masked. masked.mask ≡ mask.0) }
     {
         let made = made(alloc, whole)?;
+        let numbered = number_kinds(alloc, made.as_slice())?;
         Ok(Masked {
             whole,
             hidden,
             mask,
             made,
+            numbered,
         })
     }
 
@@ -96,6 +108,29 @@ impl<'a> Masked<'a> {
             ≡ candidates.candidate_in self.now.list number wanted.now }
     {
         candidate_among(self.whole, self.made.as_slice(), wanted, number)
+    }
+
+    /// The entry of this number as a candidate, where it is one. It takes no memory.
+    pub fn made(&self, number: u32) -> Option<&Candidate>
+        ensures exact { option_copied result
+            ≡ slice_index_or (candidates.made self.now.list) number None }
+    {
+        made_at(self.made.as_slice(), number)
+    }
+
+    /// The kinds of the parameters of all candidates, by number.
+    pub fn kinds(&self) -> &[(ArgType, Pass)]
+        ensures same { result.now ≡ self.now.kinds }
+    {
+        self.numbered.kinds.as_slice()
+    }
+
+    /// The numbers of the parameters' kinds of the entry of this number as a candidate, where it is one. It takes no memory.
+    pub fn row(&self, number: u32) -> Option<&[u32]>
+        ensures says { Says 0 self.now.kinds (option_map (λ row. row.now) result)
+            (candidates.params_in (slice_index_or (candidates.made self.now.list) number None)) }
+    {
+        self.numbered.rows.row(number as usize)
     }
 
     /// Whether the entry of this number is there, and its own mask does not meet the module's.

@@ -1,10 +1,10 @@
 //! What a use would mean, where a hidden entry is added to what a module sees.
-ghost use Rattle.std.specs.Prelude.{◌≡◌, not, ◌&&◌, length, List, IfOk, option_copied};
+ghost use Rattle.std.specs.Prelude.{◌≡◌, true, not, ◌&&◌, length, List, IfOk, None, slice_index_or};
 ghost use Rattle.ang_types.specs.declared.asks.Asks.TheVariants as asks_of;
 ghost use Rattle.ang_types.specs.declared.candidate.Candidate.{Candidate};
-ghost use Rattle.ang_types.specs.Rivals.{AreRivals};
+ghost use Rattle.ang_names_known.specs.Kinds.{numbered};
 ghost use Rattle.ang_view.specs.Named.{values_named};
-ghost use Rattle.ang_view.specs.Registration.{entry_at, seen};
+ghost use Rattle.ang_view.specs.Registration.{entry_at, is_function_named, seen};
 ghost use Rattle.ang_check_contest.specs.declared.host.WantedProperty.TheVariants as sought_property;
 ghost use Rattle.ang_check_contest.specs.Added.{added_property};
 ghost use Rattle.ang_check_contest.specs.Host.{property_found};
@@ -12,17 +12,21 @@ ghost use Rattle.ang_names_known.specs.Items.{is_empty};
 ghost use Rattle.ang_names_known.specs.Spaces as spaces;
 ghost use Rattle.ang_check_uses.specs.Uses.{candidates_of, functions_of};
 ghost use Rattle.ang_check_denials.specs.Added as spec;
+ghost use Rattle.ang_check_denials.specs.Fitting.{IsTable, table_of};
 ghost use Rattle.ang_check_denials.specs.Made as candidates;
 ghost use Rattle.ang_check_denials.specs.Names.{types_named};
+ghost use Rattle.ang_check_denials.specs.Others.{AreOthers};
 
 use crate::beside::{Beside, makers_of};
+use crate::fitting::told_by;
 use crate::masked::Masked;
-use crate::named::{is_a_type_named, is_called_by, is_enumeration_named, named_with};
+use crate::named::{is_a_type_named, is_enumeration_named, is_function_at, is_made_by, named_with};
+use crate::others::Others;
 use ang_check_contest::{Scope, SeenProperty, Wanted, WantedProperty, property_at};
 use ang_check_uses::takes_number;
 use ang_kinds::EntityNo;
 use ang_names_known::{BorrowedText, Named, Names, family_of_type};
-use ang_types::{ArgType, Asks, Candidate, Lineage, Rivals};
+use ang_types::{ArgType, Asks, Lineage};
 use ang_view::{EntryKind, View};
 use std::alloc::{AllocError, Global};
 
@@ -143,15 +147,13 @@ fn type_wins(
     beside: &Beside,
 ) -> bool
     requires view { scope.now.view ≡ seen masked.now.list masked.now.mask }
-    requires named { beside.now.named.items ≡ types_named masked.now.list name.now }
+    requires named { beside.now.named.numbers.items ≡ types_named masked.now.list name.now }
+    requires family { beside.now.named.family ≡ spec.family_of_name scope.now name.now }
     ensures exact { result ≡ spec.adds masked.now.list scope.now name.now added
         (spec.named_with masked.now.list masked.now.mask scope.now added name.now) asks_of.Type }
 {
     is_a_type_named(masked.whole(), added, name)
-        && is_number_of(
-            added,
-            named_with(masked, scope, added, name, beside.named.as_slice()),
-        )
+        && is_number_of(added, named_with(masked, scope, added, name, &beside.named))
 }
 
 fn is_number_of(number: u32, named: Named) -> bool
@@ -172,16 +174,14 @@ fn enumeration_wins(
     beside: &Beside,
 ) -> bool
     requires view { scope.now.view ≡ seen masked.now.list masked.now.mask }
-    requires named { beside.now.named.items ≡ types_named masked.now.list name.now }
+    requires named { beside.now.named.numbers.items ≡ types_named masked.now.list name.now }
+    requires family { beside.now.named.family ≡ spec.family_of_name scope.now name.now }
     ensures exact { result ≡ spec.adds masked.now.list scope.now name.now added
         (spec.named_with masked.now.list masked.now.mask scope.now added name.now)
         asks_of.Enumeration }
 {
     is_enumeration_named(masked.whole(), added, name)
-        && is_enumeration_number(
-            added,
-            named_with(masked, scope, added, name, beside.named.as_slice()),
-        )
+        && is_enumeration_number(added, named_with(masked, scope, added, name, &beside.named))
 }
 
 fn is_enumeration_number(number: u32, named: Named) -> bool
@@ -193,39 +193,51 @@ fn is_enumeration_number(number: u32, named: Named) -> bool
     }
 }
 
-/// Whether a candidate that is there would be the best beside the others.
-fn is_won(
-    lineage: &Lineage,
-    candidate: Option<&Candidate>,
-    rivals: &Rivals,
-    types: &[ArgType],
-) -> bool
-    requires size { length rivals.now.0 ≡ length types.now }
-    ensures exact { (cs : List Candidate) → AreRivals rivals.now lineage.now cs types.now →
-        result ≡ candidates.is_won lineage.now cs types.now (option_copied candidate.entry) }
-{
-    match candidate {
-        None => false,
-        Some(candidate) => rivals.would_win(lineage, candidate.params.as_slice(), types),
-    }
-}
-
 /// Whether the function, factory or method that is added, where it is wanted, would be the best of all.
-#[tactic(auto, using(crate::proofs::Making::won_as))]
 fn wins(
     masked: &Masked<'_>,
     lineage: &Lineage,
     added: u32,
     wanted: &Wanted<'_>,
-    rivals: &Rivals,
+    rivals: &Others,
     types: &[ArgType],
+    table: &Option<Vec<Vec<bool>>>,
 ) -> bool
-    requires size { length rivals.now.0 ≡ length types.now }
-    ensures exact { (cs : List Candidate) → AreRivals rivals.now lineage.now cs types.now →
+    requires size { length rivals.now.rivals.0 ≡ length types.now }
+    requires table { IsTable lineage.now (numbered 0 masked.now.kinds) types.now
+        (table_of table.now) }
+    ensures exact { (cs : List Candidate) → AreOthers rivals.now lineage.now cs types.now →
         result ≡ spec.wins lineage.now (candidates.candidate_of wanted.now) cs types.now
         (spec.found_in masked.now.list added wanted.now) }
 {
-    is_won(lineage, masked.candidate(wanted, added), rivals, types)
+    let Some(candidate) = masked.candidate(wanted, added) else {
+        return false;
+    };
+    let told = told_by(table, masked.row(added));
+    rivals.would_win(lineage, candidate.params.as_slice(), types, told)
+}
+
+/// Whether the entry of this number, as a candidate, would be the best of all.
+fn made_wins(
+    masked: &Masked<'_>,
+    lineage: &Lineage,
+    added: u32,
+    rivals: &Others,
+    types: &[ArgType],
+    table: &Option<Vec<Vec<bool>>>,
+) -> bool
+    requires size { length rivals.now.rivals.0 ≡ length types.now }
+    requires table { IsTable lineage.now (numbered 0 masked.now.kinds) types.now
+        (table_of table.now) }
+    ensures exact { (cs : List Candidate) → AreOthers rivals.now lineage.now cs types.now →
+        result ≡ candidates.is_won lineage.now cs types.now
+        (slice_index_or (candidates.made masked.now.list) added None) }
+{
+    let Some(candidate) = masked.made(added) else {
+        return false;
+    };
+    let told = told_by(table, masked.row(added));
+    rivals.would_win(lineage, candidate.params.as_slice(), types, told)
 }
 
 /// Whether the factory that is added would be the best that makes an object of the type of this number.
@@ -236,9 +248,12 @@ fn factory_wins(
     added: u32,
     number: u32,
     beside: &Beside,
+    table: &Option<Vec<Vec<bool>>>,
 ) -> Result<bool, AllocError>
-    requires makers { AreRivals beside.now.makers scope.now.ancestors
+    requires makers { AreOthers beside.now.makers scope.now.ancestors
         (spec.factories scope.now.view beside.now.made) beside.now.types.items }
+    requires table { IsTable scope.now.ancestors (numbered 0 masked.now.kinds)
+        beside.now.types.items (table_of table.now) }
     ensures exact { IfOk result (λ won. won ≡ spec.factory_wins masked.now.list scope.now
         beside.now.types.items added number (spaces.family_of_type number)) }
 {
@@ -249,10 +264,18 @@ fn factory_wins(
     let lineage = scope.lineage();
     let wanted = Wanted::Factory(number);
     if number == beside.made {
-        return Ok(wins(masked, lineage, added, &wanted, &beside.makers, types));
+        return Ok(wins(
+            masked,
+            lineage,
+            added,
+            &wanted,
+            &beside.makers,
+            types,
+            table,
+        ));
     }
     let makers = makers_of(alloc, scope, number, types)?;
-    Ok(wins(masked, lineage, added, &wanted, &makers, types))
+    Ok(wins(masked, lineage, added, &wanted, &makers, types, table))
 }
 
 /// Whether a call of a name would mean the entry that is added, which is a function, a factory or an enumeration.
@@ -263,25 +286,75 @@ fn call_wins(
     added: u32,
     name: &[u8],
     beside: &Beside,
+    table: &Option<Vec<Vec<bool>>>,
 ) -> Result<bool, AllocError>
     requires view { scope.now.view ≡ seen masked.now.list masked.now.mask }
-    requires rivals { AreRivals beside.now.rivals scope.now.ancestors
+    requires rivals { AreOthers beside.now.rivals scope.now.ancestors
         (candidates_of (functions_of scope.now name.now)) beside.now.types.items }
-    requires makers { AreRivals beside.now.makers scope.now.ancestors
+    requires makers { AreOthers beside.now.makers scope.now.ancestors
         (spec.factories scope.now.view beside.now.made) beside.now.types.items }
-    requires named { beside.now.named.items ≡ types_named masked.now.list name.now }
+    requires named { beside.now.named.numbers.items ≡ types_named masked.now.list name.now }
+    requires family { beside.now.named.family ≡ spec.family_of_name scope.now name.now }
+    requires table { IsTable scope.now.ancestors (numbered 0 masked.now.kinds)
+        beside.now.types.items (table_of table.now) }
     ensures exact { IfOk result (λ won. won ≡ spec.call_wins masked.now.list scope.now name.now
         beside.now.types.items added
         (spec.named_with masked.now.list masked.now.mask scope.now added name.now)) }
 {
     let types = beside.types.as_slice();
-    match named_with(masked, scope, added, name, beside.named.as_slice()) {
-        Named::Object(number) => factory_wins(alloc, masked, scope, added, number, beside),
+    match named_with(masked, scope, added, name, &beside.named) {
+        Named::Object(number) => factory_wins(alloc, masked, scope, added, number, beside, table),
         Named::Enumeration(number) => Ok(number == added && takes_number(types)),
         Named::Unknown => {
             let wanted = Wanted::Function(BorrowedText::new(name));
             let lineage = scope.lineage();
-            Ok(wins(masked, lineage, added, &wanted, &beside.rivals, types))
+            Ok(wins(
+                masked,
+                lineage,
+                added,
+                &wanted,
+                &beside.rivals,
+                types,
+                table,
+            ))
+        }
+    }
+}
+
+/// Whether a call of a name would mean the function of this name that is added: it is the best of all, where the name is no
+/// type's.
+#[tactic(auto, using(crate::proofs::Making::function_wins))]
+fn function_means(
+    alloc: Global,
+    masked: &Masked<'_>,
+    scope: &Scope<'_>,
+    added: u32,
+    name: &[u8],
+    beside: &Beside,
+    table: &Option<Vec<Vec<bool>>>,
+) -> Result<bool, AllocError>
+    requires view { scope.now.view ≡ seen masked.now.list masked.now.mask }
+    requires rivals { AreOthers beside.now.rivals scope.now.ancestors
+        (candidates_of (functions_of scope.now name.now)) beside.now.types.items }
+    requires makers { AreOthers beside.now.makers scope.now.ancestors
+        (spec.factories scope.now.view beside.now.made) beside.now.types.items }
+    requires named { beside.now.named.numbers.items ≡ types_named masked.now.list name.now }
+    requires family { beside.now.named.family ≡ spec.family_of_name scope.now name.now }
+    requires table { IsTable scope.now.ancestors (numbered 0 masked.now.kinds)
+        beside.now.types.items (table_of table.now) }
+    requires function { is_function_named name.now (entry_at masked.now.list added) ≡ true }
+    ensures exact { IfOk result (λ won. won ≡ spec.call_wins masked.now.list scope.now name.now
+        beside.now.types.items added
+        (spec.named_with masked.now.list masked.now.mask scope.now added name.now)) }
+{
+    match named_with(masked, scope, added, name, &beside.named) {
+        Named::Unknown => {
+            let lineage = scope.lineage();
+            let types = beside.types.as_slice();
+            Ok(made_wins(masked, lineage, added, &beside.rivals, types, table))
+        }
+        Named::Object(_) | Named::Enumeration(_) => {
+            call_wins(alloc, masked, scope, added, name, beside, table)
         }
     }
 }
@@ -295,19 +368,26 @@ fn call_means(
     added: u32,
     name: &[u8],
     beside: &Beside,
+    table: &Option<Vec<Vec<bool>>>,
 ) -> Result<bool, AllocError>
     requires view { scope.now.view ≡ seen masked.now.list masked.now.mask }
-    requires rivals { AreRivals beside.now.rivals scope.now.ancestors
+    requires rivals { AreOthers beside.now.rivals scope.now.ancestors
         (candidates_of (functions_of scope.now name.now)) beside.now.types.items }
-    requires makers { AreRivals beside.now.makers scope.now.ancestors
+    requires makers { AreOthers beside.now.makers scope.now.ancestors
         (spec.factories scope.now.view beside.now.made) beside.now.types.items }
-    requires named { beside.now.named.items ≡ types_named masked.now.list name.now }
+    requires named { beside.now.named.numbers.items ≡ types_named masked.now.list name.now }
+    requires family { beside.now.named.family ≡ spec.family_of_name scope.now name.now }
+    requires table { IsTable scope.now.ancestors (numbered 0 masked.now.kinds)
+        beside.now.types.items (table_of table.now) }
     ensures exact { IfOk result (λ won. won ≡ (spec.is_called_by masked.now.list name.now added
         && spec.call_wins masked.now.list scope.now name.now beside.now.types.items added
         (spec.named_with masked.now.list masked.now.mask scope.now added name.now))) }
 {
-    if is_called_by(masked.whole(), name, added) {
-        call_wins(alloc, masked, scope, added, name, beside)
+    if is_function_at(masked.whole(), name, added) {
+        return function_means(alloc, masked, scope, added, name, beside, table);
+    }
+    if is_made_by(masked.whole(), name, added) {
+        call_wins(alloc, masked, scope, added, name, beside, table)
     } else {
         Ok(false)
     }
@@ -325,15 +405,19 @@ pub fn adds(
     asks: &Asks,
     beside: &Beside,
     added: u32,
+    table: &Option<Vec<Vec<bool>>>,
 ) -> Result<bool, AllocError>
     requires view { scope.now.view ≡ seen masked.now.list masked.now.mask }
-    requires rivals { AreRivals beside.now.rivals scope.now.ancestors
+    requires rivals { AreOthers beside.now.rivals scope.now.ancestors
         (spec.candidates_for scope.now name.now asks.now) beside.now.types.items }
     requires types { beside.now.types.items ≡ spec.types_of asks.now }
     requires property { beside.now.property ≡ spec.property_for scope.now name.now asks.now }
-    requires makers { AreRivals beside.now.makers scope.now.ancestors
+    requires makers { AreOthers beside.now.makers scope.now.ancestors
         (spec.factories scope.now.view beside.now.made) beside.now.types.items }
-    requires named { beside.now.named.items ≡ types_named masked.now.list name.now }
+    requires named { beside.now.named.numbers.items ≡ types_named masked.now.list name.now }
+    requires family { beside.now.named.family ≡ spec.family_of_name scope.now name.now }
+    requires table { IsTable scope.now.ancestors (numbered 0 masked.now.kinds)
+        beside.now.types.items (table_of table.now) }
     ensures exact { IfOk result (λ won. won ≡ spec.adds masked.now.list scope.now name.now added
         (spec.named_with masked.now.list masked.now.mask scope.now added name.now) asks.now) }
 {
@@ -343,10 +427,18 @@ pub fn adds(
         Asks::Value => Ok(value_means(masked, scope, added, name, beside.property)),
         Asks::Type => Ok(type_wins(masked, scope, added, name, beside)),
         Asks::Enumeration => Ok(enumeration_wins(masked, scope, added, name, beside)),
-        Asks::Call(_) => call_means(alloc, masked, scope, added, name, beside),
+        Asks::Call(_) => call_means(alloc, masked, scope, added, name, beside, table),
         Asks::Make(number, _) | Asks::Default(number) => {
             let wanted = Wanted::Factory(*number);
-            Ok(wins(masked, lineage, added, &wanted, &beside.rivals, types))
+            Ok(wins(
+                masked,
+                lineage,
+                added,
+                &wanted,
+                &beside.rivals,
+                types,
+                table,
+            ))
         }
         Asks::Property(number) => {
             let wanted = WantedProperty::Member(*number, BorrowedText::new(name));
@@ -354,7 +446,15 @@ pub fn adds(
         }
         Asks::Method(number, _, _) => {
             let wanted = Wanted::Method(*number, BorrowedText::new(name));
-            Ok(wins(masked, lineage, added, &wanted, &beside.rivals, types))
+            Ok(wins(
+                masked,
+                lineage,
+                added,
+                &wanted,
+                &beside.rivals,
+                types,
+                table,
+            ))
         }
     }
 }

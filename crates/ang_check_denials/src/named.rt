@@ -1,11 +1,12 @@
 //! Object types and enumerations by name, where a hidden entry is added to what a module sees.
-ghost use Rattle.std.specs.Prelude.{◌≡◌, ◌<◌, [], ◌∷◌, bytes_eq, filter, is_some, map as list_map, option_to_list, IfOk, IfSome, Some};
+ghost use Rattle.std.specs.Prelude.{◌≡◌, ◌<◌, ◌||◌, [], ◌∷◌, false, bytes_eq, filter, is_some, map as list_map, option_to_list, IfOk, IfSome, Some};
 ghost use Rattle.std.specs.List.{position};
 ghost use Rattle.ang_view.specs.Hidden.{seen_with};
 ghost use Rattle.ang_view.specs.Registration as registration;
 ghost use Rattle.ang_view.specs.Registration.{entry_at, seen};
 ghost use Rattle.ang_view.specs.Types as types;
 ghost use Rattle.ang_check_denials.specs.Added as spec;
+ghost use Rattle.ang_check_denials.specs.Denials as denials;
 ghost use Rattle.ang_check_denials.specs.Names as names;
 
 use crate::helpers::push_number;
@@ -15,6 +16,25 @@ use ang_kinds::EntityNo;
 use ang_names_known::{Named, family_or_host};
 use ang_view::{Entry, EntryKind, View};
 use std::alloc::{AllocError, Global};
+
+/// The types of a name, as they are kept for a use of it.
+#[derive(Drop)]
+pub struct TypesNamed {
+    /// The object types and the enumerations of the name in the whole list, seen or hidden, by their numbers.
+    pub numbers: Vec<u32>,
+    /// The script's family of the name, as a type.
+    pub family: Named,
+}
+
+/// Whether a type is found.
+pub fn is_known(named: Named) -> bool
+    ensures exact { result ≡ denials.is_known named }
+{
+    match named {
+        Named::Unknown => false,
+        Named::Object(_) | Named::Enumeration(_) => true,
+    }
+}
 
 /// Whether the entry of this number is an object type of this name.
 fn is_type_named(whole: &View, number: u32, name: &[u8]) -> bool
@@ -73,7 +93,7 @@ fn type_at(whole: &View, name: &[u8], number: EntityNo) -> Option<u32>
 }
 
 /// The numbers of the object types and the enumerations of this name, rising. The only error is want of memory.
-pub fn types_named(alloc: Global, whole: &View, name: &[u8]) -> Result<Vec<u32>, AllocError>
+fn types_named(alloc: Global, whole: &View, name: &[u8]) -> Result<Vec<u32>, AllocError>
     ensures exact { IfOk result (λ numbers. numbers.items ≡ names.types_named whole.now name.now) }
 {
     let mut numbers = Vec::new(alloc);
@@ -167,37 +187,95 @@ fn family_named(scope: &Scope<'_>, name: &[u8]) -> Option<usize>
     scope.names().family_named(name)
 }
 
-/// What a name means as a type, where an entry is added to what a module sees. `numbers` are those of all object types and
-/// enumerations of the name, seen or hidden. It takes no memory.
-#[tactic(auto, unfolding(ang_names_known::specs::Spaces::type_of_name))]
+/// The script's family of this name, as a type.
+fn family_of_name(scope: &Scope<'_>, name: &[u8]) -> Named
+    ensures exact { result ≡ spec.family_of_name scope.now name.now }
+{
+    family_or_host(family_named(scope, name), None, None)
+}
+
+/// What is kept of the types of this name. The only error is want of memory.
+pub fn all_named(
+    alloc: Global,
+    whole: &View,
+    scope: &Scope<'_>,
+    name: &[u8],
+) -> Result<TypesNamed, AllocError>
+    ensures numbers { IfOk result
+        (λ named. named.numbers.items ≡ names.types_named whole.now name.now) }
+    ensures family { IfOk result
+        (λ named. named.family ≡ spec.family_of_name scope.now name.now) }
+{
+    let numbers = types_named(alloc, whole, name)?;
+    let family = family_of_name(scope, name);
+    Ok(TypesNamed { numbers, family })
+}
+
+/// What a name that is no family's means as a type, where an entry is added to what a module sees.
+#[tactic(auto, using(crate::proofs::Types::host_named_is))]
+fn host_named_with(
+    masked: &Masked<'_>,
+    scope: &Scope<'_>,
+    added: u32,
+    name: &[u8],
+    named: &TypesNamed,
+) -> Named
+    requires view { scope.now.view ≡ seen masked.now.list masked.now.mask }
+    requires numbers { named.now.numbers.items ≡ names.types_named masked.now.list name.now }
+    requires family { named.now.family ≡ spec.family_of_name scope.now name.now }
+    requires unknown { denials.is_known named.now.family ≡ false }
+    ensures exact { result
+        ≡ spec.named_with masked.now.list masked.now.mask scope.now added name.now }
+{
+    let numbers = named.numbers.as_slice();
+    let host = type_with(masked, scope.view(), added, name, numbers);
+    let enumeration = enumeration_with(masked, scope.view(), added, name, numbers);
+    family_or_host(None, host, enumeration)
+}
+
+/// What a name means as a type, where an entry is added to what a module sees. It takes no memory.
+#[tactic(auto, using(crate::proofs::Types::family_named_is, crate::proofs::Types::nothing_named_is))]
 pub fn named_with(
     masked: &Masked<'_>,
     scope: &Scope<'_>,
     added: u32,
     name: &[u8],
-    numbers: &[u32],
+    named: &TypesNamed,
 ) -> Named
     requires view { scope.now.view ≡ seen masked.now.list masked.now.mask }
-    requires numbers { numbers.now ≡ names.types_named masked.now.list name.now }
+    requires numbers { named.now.numbers.items ≡ names.types_named masked.now.list name.now }
+    requires family { named.now.family ≡ spec.family_of_name scope.now name.now }
     ensures exact { result
         ≡ spec.named_with masked.now.list masked.now.mask scope.now added name.now }
 {
-    let family = family_named(scope, name);
-    let host = type_with(masked, scope.view(), added, name, numbers);
-    let enumeration = enumeration_with(masked, scope.view(), added, name, numbers);
-    family_or_host(family, host, enumeration)
+    if is_known(named.family) {
+        return named.family;
+    }
+    if named.numbers.as_slice().is_empty() {
+        return named.family;
+    }
+    host_named_with(masked, scope, added, name, named)
 }
 
-/// Whether an entry is a function or an enumeration of this name, or a factory of a type of this name.
-pub fn is_called_by(whole: &View, name: &[u8], number: u32) -> bool
-    ensures exact { result ≡ spec.is_called_by whole.now name.now number }
+/// Whether the entry of this number is a function of this name.
+pub fn is_function_at(whole: &View, name: &[u8], number: u32) -> bool
+    ensures exact { result ≡ registration.is_function_named name.now (entry_at whole.now number) }
+{
+    match whole.get(EntityNo(number)) {
+        None => false,
+        Some(entry) => is_function_named(entry, name),
+    }
+}
+
+/// Whether the entry of this number is an enumeration of this name, or a factory of a type of this name.
+pub fn is_made_by(whole: &View, name: &[u8], number: u32) -> bool
+    ensures exact { result ≡ (types.is_enumeration_named name.now (entry_at whole.now number)
+        || spec.is_factory_of whole.now name.now (entry_at whole.now number)) }
 {
     match whole.get(EntityNo(number)) {
         None => false,
         Some(entry) => {
-            is_function_named(entry, name)
-                || is_enumeration_named(whole, number, name)
-                || is_factory_of(whole, name, entry)
+            is_enumeration_named(whole, number, name) || is_factory_of(whole, name, entry)
         }
     }
 }

@@ -20,7 +20,7 @@ pub use callables::{CallTarget, Callables};
 pub use choosing::maker_meant;
 pub use hosts::{entity_of, host_methods, params_with_receiver};
 pub use picking::{called_at, types_with_receiver};
-pub use resolving::{resolution_of, why};
+pub use resolving::{resolution_of, type_named, why};
 pub use scripts::functions_of;
 pub use uses::{Callable, Called, EnumerationValue, Reach, Resolution};
 pub use values::{takes_number, value_of};

@@ -77,7 +77,7 @@ fn global_meant(scope: &Scope<'_>, name: &[u8]) -> Resolution
 }
 
 /// What the name means as a type.
-fn type_named(scope: &Scope<'_>, name: &[u8]) -> Named
+pub fn type_named(scope: &Scope<'_>, name: &[u8]) -> Named
     ensures exact { result
         ≡ spaces.type_of_name (spaces.space_of_names scope.now.view scope.now.names) name.now }
 {
