@@ -65,7 +65,7 @@ home_to : (import : ScriptFunction) (j n : ℕ) (o : Option ScriptFunction) (g :
 home_to import j n None g e = absurd (let x : ⊥ = cc in x)
 home_to import j n (Some f) g e = home_if j n g (same_call import f) e
 
-home_number : (import : ScriptFunction) (j : ℕ) (o : Option ℕ) (fs : List ScriptFunction) (g : Routine) → link_to_number import j o fs ≡ Ok g → g.home ≡ j
+pub home_number : (import : ScriptFunction) (j : ℕ) (o : Option ℕ) (fs : List ScriptFunction) (g : Routine) → link_to_number import j o fs ≡ Ok g → g.home ≡ j
 home_number import j None fs g e = absurd (let x : ⊥ = cc in x)
 home_number import j (Some n) fs g e = home_to import j n (slice_get fs n) g e
 
@@ -83,9 +83,9 @@ bound_fits ms good i j index p q decl (Some f) g here there import e =
 -- ---- a call
 
 -- a choice is a function of the list, with values for its parameters
-record IsChoice (fs : List ScriptFunction) (n : ℕ) (f : ScriptFunction) (args : List Value) (slots : List Slot) : Type 0 where
-  at : slice_get fs n ≡ Some f
-  arguments : arguments_of f args ≡ Some slots
+pub record IsChoice (fs : List ScriptFunction) (n : ℕ) (f : ScriptFunction) (args : List Value) (slots : List Slot) : Type 0 where
+  pub at : slice_get fs n ≡ Some f
+  pub arguments : arguments_of f args ≡ Some slots
 
 record AreSame (n k : ℕ) (f g : ScriptFunction) (xs ys : List Slot) : Type 0 where
   number : n ≡ k
@@ -115,13 +115,13 @@ function_is : (fs : List ScriptFunction) (m : ℕ) (o : Option ScriptFunction) (
 function_is fs m None args n f slots at e = absurd (let x : ⊥ = cc in x)
 function_is fs m (Some g) args n f slots at e = callable_is (is_callable g) fs m g args n f slots at e
 
-number_is : (o : Option ℕ) (fs : List ScriptFunction) (args : List Value) (n : ℕ) (f : ScriptFunction) (slots : List Slot) → of_number o fs args ≡ Chosen n f slots → IsChoice fs n f args slots
+pub number_is : (o : Option ℕ) (fs : List ScriptFunction) (args : List Value) (n : ℕ) (f : ScriptFunction) (slots : List Slot) → of_number o fs args ≡ Chosen n f slots → IsChoice fs n f args slots
 number_is None fs args n f slots e = absurd (let x : ⊥ = cc in x)
 number_is (Some m) fs args n f slots e = function_is fs m (slice_get fs m) args n f slots refl e
 
 -- ---- its arguments are numbers
 
-abbrev AreNumbers : List Slot → Type 0
+abbrev pub AreNumbers : List Slot → Type 0
 AreNumbers [] = Unit {0}
 AreNumbers (x ∷ xs) = ((n : ℕ) × (x ≡ Bits n)) × AreNumbers xs
 
@@ -152,9 +152,9 @@ plain_number None v s e = absurd (let x : ⊥ = cc in x)
 plain_number (Some p) v s e = slot_number p v s e
 
 -- as many numbers as there are parameters
-record AreFor (ps : List ScriptParameter) (slots : List Slot) : Type 0 where
-  count : length slots ≡ length ps
-  numbers : AreNumbers slots
+pub record AreFor (ps : List ScriptParameter) (slots : List Slot) : Type 0 where
+  pub count : length slots ≡ length ps
+  pub numbers : AreNumbers slots
 
 none_for : (slots : List Slot) → [] ≡ slots → AreFor [] slots
 none_for slots e = subst (λ l. AreFor [] l) e (record { count = refl; numbers = tt })
@@ -175,7 +175,7 @@ all_for (p ∷ ps) [] slots e = absurd (let x : ⊥ = cc in x)
 all_for (p ∷ ps) (v ∷ vs) slots e =
     front_for p ps (argument_of p v) (arguments_for ps vs) slots (λ s h. plain_number (primitive_of p.written.ty) v s h) (λ xs h. all_for ps vs xs h) e
 
-arguments_are : (f : ScriptFunction) (vs : List Value) (slots : List Slot) → arguments_of f vs ≡ Some slots → AreFor f.params slots
+pub arguments_are : (f : ScriptFunction) (vs : List Value) (slots : List Slot) → arguments_of f vs ≡ Some slots → AreFor f.params slots
 unfolding arguments_of
 arguments_are f vs slots e = all_for f.params vs slots e
 
@@ -183,7 +183,7 @@ more_numbers : (xs : List Slot) (n : ℕ) → AreNumbers xs → AreNumbers (xs +
 more_numbers [] n h = ((n, refl), tt)
 more_numbers (x ∷ xs) n h = (h.0, more_numbers xs n h.1)
 
-turned_numbers : (xs : List Slot) → AreNumbers xs → AreNumbers (reverse xs)
+pub turned_numbers : (xs : List Slot) → AreNumbers xs → AreNumbers (reverse xs)
 turned_numbers [] h = tt
 turned_numbers (x ∷ xs) h =
     subst AreNumbers (sym (reverse-append (x ∷ []) xs)) (subst (λ y. AreNumbers (reverse xs ++ y ∷ [])) (sym h.0.1) (more_numbers (reverse xs) h.0.0 (turned_numbers xs h.1)))
@@ -194,7 +194,7 @@ numbers_renamed r (x ∷ xs) h =
     let same : renamed r x ≡ x = ap (renamed r) h.0.1 ∙ sym h.0.1 in
     ap (λ y. y ∷ renamed_all r xs) same ∙ ap (λ l. x ∷ l) (numbers_renamed r xs h.1)
 
-numbers_counted : (xs : List Slot) (v : RunWorld) → AreNumbers xs → IsCounted [] v → IsCounted xs v
+pub numbers_counted : (xs : List Slot) (v : RunWorld) → AreNumbers xs → IsCounted [] v → IsCounted xs v
 numbers_counted [] v h p = p
 numbers_counted (x ∷ xs) v h p = subst (λ y. IsCounted (y ∷ xs) v) (sym h.0.1) (push_none (Bits h.0.0) xs v (bits_name_none h.0.0) (numbers_counted xs v h.1 p))
 

@@ -42,7 +42,7 @@ emptied_at (l ∷ ls) (suc m) = emptied_at ls m
 abbrev pub with_globals : ℕ → List Slot → RunWorld → RunWorld
 with_globals m l w = record w { globals = slice_set w.globals m l }
 
-back_globals : (vs : List Slot) (w : RunWorld) → (give_back vs w).globals ≡ w.globals
+pub back_globals : (vs : List Slot) (w : RunWorld) → (give_back vs w).globals ≡ w.globals
 back_globals [] w = refl
 back_globals (v ∷ vs) w = give_globals v (give_back vs w) ∙ back_globals vs w
 

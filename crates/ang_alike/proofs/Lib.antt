@@ -15,3 +15,11 @@ pub mod Compared
 pub mod Sessions
 pub mod Unrefused
 pub mod Reading
+pub mod ListsStay
+pub mod TypedPrograms
+pub mod TypedLinks
+pub mod TypedWorlds
+pub mod TypedModules
+pub mod TypedRuns
+pub mod TypedSteps
+pub mod TypedTurns

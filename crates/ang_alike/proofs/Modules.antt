@@ -116,13 +116,13 @@ at_same P [] i o h k = k
 at_same P (p ∷ ps) zero o h k = h
 at_same P (p ∷ ps) (suc i) o h k = at_same P ps i o h k
 
-at_more : (ps : List (Option ModuleState)) (m : ℕ) → slice_index_or (ps ++ None ∷ []) m None ≡ slice_index_or ps m None
+pub at_more : (ps : List (Option ModuleState)) (m : ℕ) → slice_index_or (ps ++ None ∷ []) m None ≡ slice_index_or ps m None
 at_more [] zero = refl
 at_more [] (suc m) = refl
 at_more (p ∷ ps) zero = refl
 at_more (p ∷ ps) (suc m) = at_more ps m
 
-at_unbound : (ps : List (Option ModuleState)) (i m : ℕ) → slice_index_or (map (option_map (unbound_module i)) ps) m None ≡ option_map (unbound_module i) (slice_index_or ps m None)
+pub at_unbound : (ps : List (Option ModuleState)) (i m : ℕ) → slice_index_or (map (option_map (unbound_module i)) ps) m None ≡ option_map (unbound_module i) (slice_index_or ps m None)
 at_unbound [] i m = refl
 at_unbound (p ∷ ps) i zero = refl
 at_unbound (p ∷ ps) i (suc m) = at_unbound ps i m
@@ -200,7 +200,7 @@ same_linked ps qs same h =
 
 -- ---- a module that is the same as runs know it
 
-by_number : {A : Type 0} (m i : ℕ) → ((m ≡ i) → A) → ((m ≢ i) → A) → (b : Bool) → (m == i) ≡ b → A
+pub by_number : {A : Type 0} (m i : ℕ) → ((m ≡ i) → A) → ((m ≢ i) → A) → (b : Bool) → (m == i) ≡ b → A
 by_number m i f g true e = f (eqb-true m i e)
 by_number m i f g false e = g (eqb-false m i e)
 
@@ -233,11 +233,11 @@ good_more ms h = record {
   linked = same_linked ms.places (ms.places ++ None ∷ []) (λ m. ap built_at (at_more ms.places m)) h.linked;
 }
 
-none_empty : (o : Option ModuleState) → is_none o ≡ true → o ≡ None
+pub none_empty : (o : Option ModuleState) → is_none o ≡ true → o ≡ None
 none_empty None e = refl
 none_empty (Some m) e = absurd (let x : ⊥ = cc in x)
 
-end_none : (ps : List (Option ModuleState)) → slice_index_or ps (length ps) None ≡ None
+pub end_none : (ps : List (Option ModuleState)) → slice_index_or ps (length ps) None ≡ None
 end_none [] = refl
 end_none (p ∷ ps) = end_none ps
 
@@ -255,20 +255,20 @@ good_new ms name mask order h =
 
 -- ---- no import leads to a module any more, and another one stands in its place
 
-flat_unbound : (i : ℕ) (ls : List (Option Routine)) (k : ℕ) → option_flatten (slice_get (unbound_links i ls) k) ≡ option_flatten (option_map (unbound_link i) (slice_get ls k))
+pub flat_unbound : (i : ℕ) (ls : List (Option Routine)) (k : ℕ) → option_flatten (slice_get (unbound_links i ls) k) ≡ option_flatten (option_map (unbound_link i) (slice_get ls k))
 flat_unbound i [] k = refl
 flat_unbound i (l ∷ ls) zero = refl
 flat_unbound i (l ∷ ls) (suc k) = flat_unbound i ls k
 
-record IsFree (i : ℕ) (o : Option (Option Routine)) (g : Routine) : Type 0 where
-  leads : option_flatten o ≡ Some g
-  elsewhere : g.home ≢ i
+pub record IsFree (i : ℕ) (o : Option (Option Routine)) (g : Routine) : Type 0 where
+  pub leads : option_flatten o ≡ Some g
+  pub elsewhere : g.home ≢ i
 
 free_if : (i : ℕ) (f g : Routine) (b : Bool) → (f.home == i) ≡ b → (if b then None else (Some f)) ≡ Some g → IsFree i (Some (Some f)) g
 free_if i f g true e h = absurd (let x : ⊥ = cc in x)
 free_if i f g false e h = record { leads = h; elsewhere = subst (λ (x : Routine). x.home ≢ i) (let s : f ≡ g = cc in s) (eqb-false f.home i e) }
 
-free_of : (i : ℕ) (o : Option (Option Routine)) (g : Routine) → option_flatten (option_map (unbound_link i) o) ≡ Some g → IsFree i o g
+pub free_of : (i : ℕ) (o : Option (Option Routine)) (g : Routine) → option_flatten (option_map (unbound_link i) o) ≡ Some g → IsFree i o g
 free_of i None g h = absurd (let x : ⊥ = cc in x)
 free_of i (Some None) g h = absurd (let x : ⊥ = cc in x)
 free_of i (Some (Some f)) g h = free_if i f g (f.home == i) refl h
@@ -325,14 +325,14 @@ all_none (x ∷ xs) (suc k) = all_none xs k
 -- ---- an import of a module leads elsewhere
 
 -- the link that was put, or one that was there
-abbrev IsPut : ℕ → Option Routine → ℕ → Routine → List (Option Routine) → Type 0
+abbrev pub IsPut : ℕ → Option Routine → ℕ → Routine → List (Option Routine) → Type 0
 IsPut index link k g ls = ((k ≡ index) × (link ≡ Some g)) ⊎ (option_flatten (slice_get ls k) ≡ Some g)
 
 put_later : (index k : ℕ) (link l : Option Routine) (g : Routine) (ls : List (Option Routine)) → IsPut index link k g ls → IsPut (suc index) link (suc k) g (l ∷ ls)
 put_later index k link l g ls (inl e) = inl (ap suc e.0, e.1)
 put_later index k link l g ls (inr e) = inr e
 
-links_put : (ls : List (Option Routine)) (index : ℕ) (link : Option Routine) (k : ℕ) (g : Routine) → option_flatten (slice_get (slice_set ls index link) k) ≡ Some g → IsPut index link k g ls
+pub links_put : (ls : List (Option Routine)) (index : ℕ) (link : Option Routine) (k : ℕ) (g : Routine) → option_flatten (slice_get (slice_set ls index link) k) ≡ Some g → IsPut index link k g ls
 links_put [] index link k g e = inr e
 links_put (l ∷ ls) zero link zero g e = inl (refl, e)
 links_put (l ∷ ls) zero link (suc k) g e = inr e

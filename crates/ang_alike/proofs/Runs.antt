@@ -30,7 +30,7 @@ use Rattle.ang_alike.proofs.Modules.{AreSoundModules}
 
 -- ---- sources of modules
 
-tree_at : (ms : List Module) (m : ℕ) → slice_index_or (trees_of ms) m nothing ≡ (module_at ms m).tree
+pub tree_at : (ms : List Module) (m : ℕ) → slice_index_or (trees_of ms) m nothing ≡ (module_at ms m).tree
 tree_at [] m = refl
 tree_at (x ∷ xs) zero = refl
 tree_at (x ∷ xs) (suc m) = tree_at xs m

@@ -1,3 +1,4 @@
 pub mod SourcesAlike
 pub mod Alike
 pub mod Read
+pub mod Misfits

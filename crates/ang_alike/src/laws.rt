@@ -1,4 +1,5 @@
-//! What holds of two engines whose registries show the same to the masks of builds.
+//! What holds of two engines whose registries show the same to the masks of builds; and of commands whose runs would end
+//! where they meet a misfit.
 //!
 //! What holds of two runs that differ in the numbers of script objects alone.
 ghost use Rattle.std.specs.Prelude.{ℕ};
@@ -7,6 +8,7 @@ ghost use Rattle.ang_typed.specs.Typed.{Program};
 ghost use Rattle.ang_meaning.specs.Environment.{Environment};
 ghost use Rattle.ang_source.specs.Meaning.{Codes};
 ghost use Rattle.ang_alike.specs.SourcesAlike.{AreSoundSources, AreAlikeInRuns};
+ghost use Rattle.ang_alike.specs.Misfits.{AllStayTyped, MisfitsDoNotMatter};
 ghost use Rattle.ang_alike.specs.Read.{RepliesTell};
 ghost use Rattle.ang_alike.specs.Alike.{HiddenDoesNotMatter, AnswersDecide, ToldAlikeReplyAlike, ToldAlikeReplySame, UnrefusedReplyAlike, UnrefusedReplySame};
 
@@ -52,4 +54,13 @@ pub fn unrefused_alike()
 /// what a host knows of its registrations, masks and drivers.
 pub fn replies_tell()
     ensures alike { RepliesTell }
+{}
+
+/// No run of a command meets a misfit: a value of another kind than what it meets wants, or a place that is not there. For commands
+/// in turn have the replies that they would have if each run ended with a fault at the first misfit that it meets, whatever fault.
+/// After each command all objects and globals are typed, whatever was built anew, bound, discarded or removed.
+#[tactic(auto, using(crate::proofs::TypedTurns::misfits_do_not_matter, crate::proofs::TypedTurns::all_stay_typed))]
+pub fn no_run_meets_a_misfit()
+    ensures replies { MisfitsDoNotMatter }
+    ensures typed { AllStayTyped }
 {}

@@ -2,6 +2,8 @@
 //! commands have the same replies. Below that, the numbers of script objects do not show in what the
 //! bodies of sound trees do. A host reads off a reply whether it tells of a refusal, where the law does
 //! not bind.
+//!
+//! Nor does it matter what a run does where it meets a misfit: none meets one.
 #![tactic(auto)]
 
 mod host;

@@ -26,7 +26,7 @@ use Rattle.ang_meaning.proofs.Counting.{many_append, bits_name_none, null_names_
 use Rattle.ang_meaning.proofs.Counted.{counted_as}
 use Rattle.ang_source.specs.Meaning.{kind_of, default_in, callee_of, compound_of, step_of, spot_of, targets_behind, targets_of, brought_to, evaluate, evaluate_all, evaluate_argument}
 use Rattle.ang_source_typed.specs.Types.{SlotType, Number, Key, Family, Modules, Owners, IsA, HasType}
-use Rattle.ang_source_typed.specs.TypedProgram.{Parameter, Signature, types_of, AreClasses, IsCallee, IsHandle, host_params, result_by, IsVariable, IsTarget, Types, TypesAll, TypesArgument}
+use Rattle.ang_source_typed.specs.TypedProgram.{Parameter, Signature, types_of, AreClasses, IsCallee, IsHandle, kind_in, host_params, result_by, IsVariable, IsTarget, Types, TypesAll, TypesArgument}
 use Rattle.ang_source_typed.specs.Runs.{HasTree, out_by, out_types}
 use Rattle.ang_source_typed.specs.Guarded.{Guard, misfits}
 use Rattle.ang_source_typed.specs.Guarded as guarded
@@ -34,7 +34,7 @@ use Rattle.ang_source_typed.proofs.Values.{typed_length, both_typed, split_typed
 use Rattle.ang_source_typed.proofs.Operations.{DoesWell, converts, negates, complements, denies, operates, compares, same, casts}
 use Rattle.ang_source_typed.proofs.HostCalls.{asks}
 use Rattle.ang_source_typed.proofs.Ends.{Good, At, IsGoodEnd, IsGoodAll, Go, applied_good, chosen_good, subsumed, push_number, give_all_good}
-use Rattle.ang_source_typed.proofs.Making.{default_typed, make_good}
+use Rattle.ang_source_typed.proofs.Making.{make_good}
 use Rattle.ang_source_typed.proofs.Targets.{IsGoodCall, IsSpot, IsTargets, replied_good}
 use Rattle.ang_source_typed.proofs.Variables.{Both, placed, one_op, two_op, read_good, stored_good, changed_good, member_read_good, member_stored_good, member_changed_good}
 
@@ -44,6 +44,11 @@ null_of : (z : Environment) (ms : Modules) (own : Owners) (os : ScriptObjects) (
 null_of z ms own os Number h = absurd h
 null_of z ms own os (Key d) h = tt
 null_of z ms own os (Family m c) h = tt
+
+begins : (z : Environment) (ms : Modules) (own : Owners) (os : ScriptObjects) (ty : SlotType) → HasType z ms own os ty (default_of (kind_in ty))
+begins z ms own os Number = tt
+begins z ms own os (Key d) = tt
+begins z ms own os (Family m c) = tt
 
 pub default_names : (k : ValueKind) (x : Thing) → names x (default_of k) ≡ 0
 default_names holds_a.Number x = bits_name_none 0 x
@@ -288,7 +293,7 @@ module _ (z : Environment) (ms : Modules) (T m : ℕ) (classes : (k : ℕ) → A
         (
           g.0,
           nothing_pushed p.type (default_in from) locals below ls under w g.1
-              (subst (λ s. HasType z ms (g.1).own w.objects s (default_in from)) (sym h.1) (default_typed z ms (g.1).own w.objects (ms m).view m from)) (default_names (kind_of from)),
+              (subst (λ k. HasType z ms (g.1).own w.objects p.type (default_of k)) h.1 (begins z ms (g.1).own w.objects p.type)) (default_names (kind_of from)),
         ),
         refl,
       )

@@ -14,13 +14,15 @@ use Rattle.ang_types.specs.declared.arg_type.ArgType.{ArgType}
 use Rattle.ang_typed.specs.Typed as t
 use Rattle.ang_host.specs.declared.event.Role.{Role}
 use Rattle.ang_host.specs.declared.event.Role.TheVariants.{Making, Calling, Property}
+use Rattle.ang_meaning.specs.declared.class.ValueKind.{ValueKind}
+use Rattle.ang_meaning.specs.declared.class.ValueKind.TheVariants as holds_a
 use Rattle.ang_meaning.specs.declared.host.HostValueType.{HostValueType}
 use Rattle.ang_meaning.specs.declared.host.HostValueType.TheVariants.{Nothing, Plain, Handle}
 use Rattle.ang_meaning.specs.declared.host.HostUse.{HostUse}
 use Rattle.ang_meaning.specs.declared.routine.Passing.{Passing}
 use Rattle.ang_meaning.specs.declared.routine.Passing.TheVariants.{In, Out}
 use Rattle.ang_meaning.specs.Environment.{Environment, class_in, may_call, may_access, may_write}
-use Rattle.ang_source.specs.Meaning.{passing_of, passings_of, routine}
+use Rattle.ang_source.specs.Meaning.{kind_of, passing_of, passings_of, routine}
 use Rattle.ang_source_typed.specs.Types.{SlotType, Number, Key, Family, Modules, slot_type, field_types, global_types, IsUnder, IsA}
 use Rattle.ang_source_typed.specs.Paths.{some_ends}
 
@@ -74,6 +76,12 @@ abbrev pub IsHandle : SlotType → Type 0
 IsHandle Number = ⊥
 IsHandle (Key d) = Unit {0}
 IsHandle (Family m c) = Unit {0}
+
+-- what kind of value a place of this type holds
+abbrev pub kind_in : SlotType → ValueKind
+kind_in Number = holds_a.Number
+kind_in (Key d) = holds_a.Handle
+kind_in (Family m c) = holds_a.Handle
 
 -- In a setting with these modules, in module m:
 module _ (z : Environment) (ms : Modules) (m : ℕ) where
@@ -214,10 +222,10 @@ module _ (z : Environment) (ms : Modules) (m : ℕ) where
     TypesAll locals before all t.none = all ≡ before
     TypesAll locals before all (t.more a args) = (p : Parameter) × TypesArgument locals p a × TypesAll locals (p ∷ before) all args
 
-    -- An `&out` value is of its parameter's type, and its variable may hold it.
+    -- An `&out` parameter begins with 0 or null, as its type does, and its variable may hold what is of the type.
     pub TypesArgument : List SlotType → Parameter → t.Arg → Type 0
     TypesArgument locals p (t.by_value a e) = (p.passing ≢ Out) × Types locals p.type e
-    TypesArgument locals p (t.out x from to) = (p.passing ≡ Out) × (p.type ≡ slot_type (ms m).view m from)
+    TypesArgument locals p (t.out x from to) = (p.passing ≡ Out) × (kind_in p.type ≡ kind_of from)
         × ((s : SlotType) × IsVariable locals x s × IsTarget x × IsA z ms p.type s)
 
   abbrev pub TypesOption : List SlotType → SlotType → Option t.Expr → Type 0

@@ -1,4 +1,0 @@
-pub mod Asked
-pub mod Beyond
-pub mod Registered
-pub mod Rows

@@ -1,0 +1,15 @@
+pub mod Asked
+pub mod Beyond
+pub mod Registered
+pub mod Rows
+pub mod Given
+pub mod HostTypes
+pub mod Contexts
+pub mod Typed
+pub mod Owned
+pub mod Imports
+pub mod Kin
+pub mod Fields
+pub mod Methods
+pub mod Narrowed
+pub mod Settings
