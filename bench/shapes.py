@@ -461,35 +461,39 @@ WRONG = ["y", "y()", "f(1)", "f(1,true)", "q(1)", "q()", "T()", "t.s(1)", "t.p",
 
 
 @shape(
-    overloads=(0, 2000), hidden=(0, 900), places=(1, 5), wrong=(0, len(WRONG) - 1), where=(0, 3), values=(0, 400), chain=(0, 250),
-    named=(0, 2),
+    overloads=(0, 2000), hidden=(0, 900), places=(1, 5), wrong=(0, len(WRONG) - 1), where=(0, 3), values=(0, 998), chain=(0, 250),
+    named=(0, 2), other=(0, len(WRONG)), seen=(0, 900),
 )  # fmt: skip
-def floods(s, overloads, hidden, places, wrong, where, values, chain, named):
-    """As many bodies or initializers with an error as there is room for, over functions that are hidden or the script's own."""
+def floods(s, overloads, hidden, places, wrong, where, values, chain, named, other, seen):
+    """As many bodies or initializers with an error as there is room for, of one kind or of two in turn, over functions that are seen,
+    hidden or the script's own."""
     words = ["function 0 0 void q", "function 0 0 void f", "method T 0 void s"][named]
-    s.profile += ["mask 00000001", "type T 0", "mask 00000002"]
-    s.profile += [f"{words}({listed(n, places, 0)})" for n in range(hidden)]
-    for n in range(min(values, ENTRIES - hidden) // 2):
+    seen = min(seen, ENTRIES - hidden)
+    s.profile += ["mask 00000001", "type T 0", *(f"{words}({listed(n, places, 0)})" for n in range(seen)), "mask 00000002"]
+    s.profile += [f"{words}({listed(n, places, 0)})" for n in range(seen, seen + hidden)]
+    for n in range(min(values, ENTRIES - hidden - seen) // 2):
         s.profile += [f"enum Some{n}", f"value Some{n} V 1"]
     for n in range(overloads):
         s.add_function(f"void f({listed(n, places, 0)}){{}}")
-    text = WRONG[wrong] if places == 1 or "(1)" not in WRONG[wrong] else WRONG[wrong].replace("(1)", f"({','.join(['1'] * places)})")
-    errors(s, text, where, chain)
+    given = f"({','.join(['1'] * places)})"
+    errors(s, [WRONG[it].replace("(1)", given) for it in (wrong, other - 1 if other else wrong)], where, chain)
 
 
-def errors(s, text, where, chain):
-    """As many errors as there is room for: of initializers, of functions, of methods, of one method."""
+def errors(s, wrong, where, chain):
+    """As many errors as there is room for, by these in turn: of initializers, of functions, of methods, of one method."""
+    turns = itertools.cycle(wrong)
     if where == 0:
-        while s.add("int " + s.name() + "=" + text + "".join(f",{s.name()}={text}" for _ in range(30)) + ";"):
-            pass
+        for _ in range(FUNCTIONS // 31):
+            if not s.add(f"int {','.join(f'{s.name()}={next(turns)}' for _ in range(31))};"):
+                return
     elif where == 1:
-        s.fill(lambda n: text + ";", "(T@ t){", each=1)
+        s.fill(lambda n: next(turns) + ";", "(T@ t){", each=1)
     else:
         names = s.names(chain + 1)
         for n, name in enumerate(names):
             s.add(f"class {name}{f':{names[n - 1]}' if n else ''}{{}}")
         for _ in range(FAMILIES - chain - 1):
-            body = "".join(f"void {s.name()}(){{{text};}}" for _ in range(30 if where == 2 else 250))
+            body = "".join(f"void {s.name()}(){{{next(turns)};}}" for _ in range(30 if where == 2 else 250))
             if not s.add(f"class {s.name()}:{names[-1]}{{{body}}}"):
                 return
 

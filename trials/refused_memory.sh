@@ -20,7 +20,8 @@
 #     of memory, before which there may be the ends of objects that this answer gave up, and no event is missing. Asks and posts
 #     are compared apart, since all of a reply stand before its events: until then they are the usual ones, and as many as a
 #     reply lists host calls, but for those that list `memory`. Where the conversation says `used`, there are as many
-#     objects as were made and did not end.
+#     objects as were made and did not end; and the ticks may be the first line that is otherwise, where a command since the
+#     `used` before wants memory in any case, so that it may have stopped sooner.
 # Prints a line for each way to end with the number of runs, each run that did not end well, and the number of those.
 set -eu
 cd "$(dirname "$0")/.."
@@ -115,8 +116,10 @@ wanted_memory() {
         /^end / { alive-- }
         /^objects / && $2 != alive { wrong = 1 }
         /^done$/ { if (asks > calls || asks < calls - unasked) wrong = 1; asks = calls = unasked = 0 }
+        /^(fault|refused) / && tolower($0) ~ /memory$/ { wanted = 1 }
         !otherwise && $0 != usual[++at] { otherwise = 1 }
-        otherwise && !told && !/^end / { told = 1; memory = tolower($0) ~ /memory$/ }
+        otherwise && !told && !/^end / { told = 1; memory = /^ticks / ? wanted : tolower($0) ~ /memory$/ }
+        /^ticks / { wanted = 0 }
         END { exit !memory || wrong }
     ' "$folder/whole" "$folder/out"
 }

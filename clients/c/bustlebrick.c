@@ -143,13 +143,16 @@ bb_state bb_begin(bb_engine *engine, const char *text, size_t bytes)
     return begin(engine, pieces, 2);
 }
 
-/* Goes on after an ask, which is answered so, or after a post. */
+/* Goes on after a post. */
+static bb_state go_past(bb_engine *engine)
+{
+    bb_tell(engine);
+    return engine->state;
+}
+
+/* Goes on after an ask, which is answered so. */
 static bb_state go_on(bb_engine *engine, const bb_answer *answer)
 {
-    if (engine->ask.posted) {
-        bb_tell(engine);
-        return engine->state;
-    }
     engine->input[0] = (struct piece){engine->answer, bb_write_answer(engine->answer, answer)};
     engine->input_at = 0;
     engine->input_count = 1;
@@ -160,7 +163,9 @@ static bb_state go_on(bb_engine *engine, const bb_answer *answer)
 bb_state bb_resume(bb_engine *engine, const bb_answer *answer)
 {
     bb_state state = turn(engine, BB_ASKS);
-    return state == BB_ASKS ? go_on(engine, answer) : state;
+    if (state != BB_ASKS)
+        return state;
+    return engine->ask.posted ? go_past(engine) : go_on(engine, answer);
 }
 
 static void leave_host(bb_engine **engine)
@@ -168,22 +173,44 @@ static void leave_host(bb_engine **engine)
     (*engine)->in_host = false;
 }
 
+static const bb_answer nothing = {BB_VOID, 0, {BB_NULL, {0}}};
+
 /* Asks the host's function, which an exception may leave. */
 static void ask_host(bb_engine *engine, bb_answer *answer)
 {
     __attribute__((cleanup(leave_host))) bb_engine *asking = engine;
     asking->in_host = true;
+    *answer = nothing;
     asking->host(asking->data, &asking->ask, answer);
+}
+
+/* Tells it what is posted, and all that is posted behind that. */
+static void tell_host(bb_engine *engine)
+{
+    __attribute__((cleanup(leave_host))) bb_engine *telling = engine;
+    telling->in_host = true;
+    do {
+        bb_answer dropped = nothing;
+        telling->host(telling->data, &telling->ask, &dropped);
+    } while (bb_next_post(telling));
+}
+
+static bb_state by_host(bb_engine *engine)
+{
+    if (engine->ask.posted) {
+        tell_host(engine);
+        return go_past(engine);
+    }
+    bb_answer answer;
+    ask_host(engine, &answer);
+    return go_on(engine, &answer);
 }
 
 /* Goes on to the command's end by the host's function, if there is one. */
 static bb_state by_callback(bb_engine *engine, bb_state state)
 {
-    while (state == BB_ASKS && engine->host) {
-        bb_answer answer = {BB_VOID, 0, {BB_NULL, {0}}};
-        ask_host(engine, &answer);
-        state = go_on(engine, &answer);
-    }
+    while (state == BB_ASKS && engine->host)
+        state = by_host(engine);
     return state;
 }
 

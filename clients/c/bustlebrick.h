@@ -185,12 +185,13 @@ const char *bb_outcome(const bb_engine *engine, size_t *bytes);
 /* Cancels the command that is done, from any thread and from a signal's handler: the next growth of the engine's heap is
    refused, and so the command ends with `fault Memory`, `refused BuildMemory` or `refused Memory`, as where memory is
    used up, and the engine takes the next one. The first 128 growths of a command, with which it is read, are not refused
-   so; a run that grows nothing, as an empty loop, goes on to the end of its budget. Without a command it does nothing.
-   The engine must not be freed meanwhile. */
+   so; a run that grows nothing, as an empty loop, goes on to the end of its budget. What a script posts next is refused
+   likewise, and ends it with `fault Host 4294967280`. Without a command it does nothing. The engine must not be freed
+   meanwhile. */
 void bb_cancel(bb_engine *engine);
 
 /* How many milliseconds each command from the next one on may take, with the host's answers; 0, as at first, is no limit.
-   After them a growth of the heap is refused, as by bb_cancel. It is told to within some 10 milliseconds. Only by the
+   After them a growth of the heap, or a post, is refused, as by bb_cancel. It is told to within some 10 milliseconds. Only by the
    thread that made the engine; in another one it does nothing. */
 void bb_set_timeout(bb_engine *engine, uint64_t milliseconds);
 

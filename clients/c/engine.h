@@ -11,6 +11,7 @@ enum {
     MOST_ARGUMENTS = 32,
     MOST_PIECES = 5,
     MOST_ANSWER = 64,       /* bytes of an answer's line */
+    MOST_FRONT = 64,        /* bytes of an ask's line in front of its values: two numbers of 32 bits, a key, some 20 more */
     MOST_COMMAND = 16777216 /* bytes of a command */
 };
 
@@ -41,9 +42,10 @@ void bb_arrived(struct bb_stack *stack);
 
 /* ---- Lines (lines.c) */
 
-/* The ask or the post whose line a text begins with; the values are put where `values` is. Gives where the line ends,
-   behind its LF, or NULL where the text begins with none. */
-const char *bb_read_ask(const char *text, const char *end, bb_ask *ask, bb_value values[MOST_ARGUMENTS]);
+/* The line of an ask or of a post with which a text begins: what stands in front of its values, and then these, which are put
+   where `values` is. Each gives where it ends, the second behind the line's LF; or NULL where there is none. */
+const char *bb_read_front(const char *text, const char *end, bb_ask *ask);
+const char *bb_read_values(const char *text, const char *end, bb_ask *ask, bb_value values[MOST_ARGUMENTS]);
 
 /* Writes the line of an answer, with its LF, and gives its bytes. */
 size_t bb_write_answer(char line[MOST_ANSWER], const bb_answer *answer);
@@ -66,6 +68,13 @@ enum bb_stop {
     BB_TO_HEAR,  /* it has read all that the host said, and wants the next command, or the answer to an ask */
     BB_FOR_ROOM, /* there are many posts, which the host is to take before the program goes on */
     BB_AT_END
+};
+
+/* What the line of the post that was read last has in front of its values: most posts have the same as the one before. */
+struct bb_front {
+    char text[MOST_FRONT];
+    size_t bytes; /* 0 until one was read */
+    bb_ask ask;
 };
 
 struct bb_engine {
@@ -92,6 +101,7 @@ struct bb_engine {
 
     bb_ask ask;
     bb_value values[MOST_ARGUMENTS];
+    struct bb_front front;
     struct bb_batch *batch; /* NULL until the host takes posts at once */
     char answer[MOST_ANSWER];
 

@@ -21,17 +21,19 @@ __attribute__((always_inline)) static inline bool take(struct reader *reader, co
     return true;
 }
 
-static bool is_digit(char byte)
+/* What a byte is as a digit: below 10, if it is one. */
+static inline unsigned digit_of(char byte)
 {
-    return '0' <= byte && byte <= '9';
+    return (unsigned)(unsigned char)byte - '0';
 }
 
 static inline bool take_number(struct reader *reader, uint64_t *number)
 {
     const char *from = reader->at;
     uint64_t sum = 0;
-    for (; reader->at < reader->end && is_digit(*reader->at); reader->at++)
-        sum = sum * 10 + (uint64_t)(*reader->at - '0');
+    unsigned digit;
+    for (; reader->at < reader->end && (digit = digit_of(*reader->at)) < 10; reader->at++)
+        sum = sum * 10 + digit;
     *number = sum;
     return reader->at > from;
 }
@@ -58,7 +60,7 @@ static inline bool take_integer(struct reader *reader, bb_value *value)
 
 static inline bool take_value(struct reader *reader, bb_value *value)
 {
-    if (reader->at < reader->end && (is_digit(*reader->at) || *reader->at == '-'))
+    if (reader->at < reader->end && (digit_of(*reader->at) < 10 || *reader->at == '-'))
         return take_integer(reader, value);
     value->as.u64 = 0;
     if (take(reader, "#")) {
@@ -74,21 +76,21 @@ static inline bool take_value(struct reader *reader, bb_value *value)
     return value->as.truth || take(reader, "false");
 }
 
-/* `(V,V)` */
+/* `V,V)`, behind the parenthesis, with the end of the line */
 static inline bool take_values(struct reader *reader, bb_ask *ask, bb_value *values)
 {
-    ask->count = 0;
-    ask->values = values;
-    if (!take(reader, "("))
+    size_t count = 0;
+    if (!take(reader, ")"))
+        do {
+            if (count == MOST_ARGUMENTS || !take_value(reader, &values[count]))
+                return false;
+            count++;
+        } while (take(reader, ","));
+    if (count && !take(reader, ")"))
         return false;
-    if (take(reader, ")"))
-        return true;
-    do {
-        if (ask->count == MOST_ARGUMENTS || !take_value(reader, &values[ask->count]))
-            return false;
-        ask->count++;
-    } while (take(reader, ","));
-    return take(reader, ")");
+    ask->count = count;
+    ask->values = values;
+    return take(reader, "\n");
 }
 
 static inline bool take_ask_kind(struct reader *reader, bb_ask_kind *kind)
@@ -116,14 +118,20 @@ static inline bool take_object(struct reader *reader, bb_ask *ask)
 }
 
 /* `ask DRIVER KIND F OBJECT (V,V)`, or the same with `post` */
-const char *bb_read_ask(const char *text, const char *end, bb_ask *ask, bb_value values[MOST_ARGUMENTS])
+const char *bb_read_front(const char *text, const char *end, bb_ask *ask)
 {
     struct reader reader = {text, end};
     ask->posted = take(&reader, "post ");
     bool is_one = (ask->posted || take(&reader, "ask ")) && take_small_number(&reader, &ask->driver) &&
                   take_ask_kind(&reader, &ask->kind) && take_small_number(&reader, &ask->function) && take(&reader, " ") &&
-                  take_object(&reader, ask) && take(&reader, " ") && take_values(&reader, ask, values) && take(&reader, "\n");
+                  take_object(&reader, ask) && take(&reader, " (");
     return is_one ? reader.at : NULL;
+}
+
+const char *bb_read_values(const char *text, const char *end, bb_ask *ask, bb_value values[MOST_ARGUMENTS])
+{
+    struct reader reader = {text, end};
+    return take_values(&reader, ask, values) ? reader.at : NULL;
 }
 
 /* ---- Writing answers, each of which has room: the longest, a key, has 28 bytes */

@@ -13,13 +13,33 @@ struct bb_batch {
     size_t run_count, value_count;
 };
 
+/* Reads what the line of a post has in front of its values. It stands apart, since it is seldom another than the last one. */
+__attribute__((noinline)) static const char *read_other_front(struct bb_front *front, const char *text, const char *end)
+{
+    const char *values = bb_read_front(text, end, &front->ask);
+    front->bytes = values && values - text <= MOST_FRONT ? (size_t)(values - text) : 0;
+    memcpy(front->text, text, front->bytes);
+    return values;
+}
+
+static inline const char *read_front(struct bb_front *front, const char *text, const char *end)
+{
+    size_t bytes = front->bytes;
+    bool is_same = bytes && bytes <= (size_t)(end - text) && memcmp(text, front->text, bytes) == 0;
+    return is_same ? text + bytes : read_other_front(front, text, end);
+}
+
 /* Reads the post that stands at `output_at`, if one does, and gives where it ends. */
-static const char *read_post(const bb_engine *engine, bb_ask *ask, bb_value values[MOST_ARGUMENTS])
+static inline const char *read_post(bb_engine *engine, bb_ask *ask, bb_value values[MOST_ARGUMENTS])
 {
     if (engine->output_at == engine->output_bytes)
         return NULL;
     const char *text = engine->output + engine->output_at, *end = engine->output + engine->output_bytes;
-    return *text == 'p' ? bb_read_ask(text, end, ask, values) : NULL;
+    const char *at = *text == 'p' ? read_front(&engine->front, text, end) : NULL;
+    if (!at)
+        return NULL;
+    *ask = engine->front.ask;
+    return bb_read_values(at, end, ask, values);
 }
 
 bool bb_next_post(bb_engine *engine)

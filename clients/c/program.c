@@ -112,21 +112,19 @@ uint64_t bb_now(void)
     return (uint64_t)now.tv_sec * 1000 + (uint64_t)now.tv_nsec / 1000000;
 }
 
-/* Whether the command has taken too long. That is told once. */
+/* Whether the command has taken too long. */
 static bool is_late(bb_engine *engine)
 {
-    if (!engine->deadline || bb_now() < engine->deadline)
+    if (bb_now() < engine->deadline)
         return false;
     engine->deadline = 0;
     return true;
 }
 
-/* Whether the next growth of a command is refused because it was cancelled, or takes too long. */
-static bool is_cancelled(bb_engine *engine)
+/* Whether the command is to end, because it was cancelled, or takes too long. That is told once. */
+static inline bool is_ending(bb_engine *engine)
 {
-    if (engine->growths <= READING)
-        return false;
-    if (is_late(engine))
+    if (engine->deadline && is_late(engine))
         return true;
     return atomic_load_explicit(&engine->cancelled, memory_order_relaxed) &&
            atomic_exchange_explicit(&engine->cancelled, false, memory_order_relaxed);
@@ -140,7 +138,7 @@ static bool is_granted(bb_engine *engine, size_t used, size_t more)
     if (engine->growths == engine->refuse_at)
         return false;
 #endif
-    if (is_cancelled(engine))
+    if (engine->growths > READING && is_ending(engine))
         return false;
     return more <= engine->memory_now && used <= engine->memory_now - more;
 }
@@ -239,22 +237,34 @@ static bool has_room(bb_engine *engine, size_t bytes)
     return true;
 }
 
-/* What is written to standard error is dropped: the status says it. */
+static inline bool is_post(const char *bytes, size_t count)
+{
+    return count > 5 && memcmp(bytes, "post ", 5) == 0;
+}
+
+static ssize_t refused(bb_engine *engine, int error)
+{
+    engine->error = error;
+    return -1;
+}
+
+/* What is written to standard error is dropped: the status says it. A post for which the program takes no memory is where a
+   command may be ended that grows nothing. */
 ssize_t bb_write(int stream, const void *bytes, size_t count)
 {
     bb_engine *engine = now;
-    if (stream == ERRORS)
-        return (ssize_t)count;
-    if (stream != OUTPUT || !has_room(engine, count)) {
-        engine->error = stream != OUTPUT ? EBADF : ENOMEM;
-        return -1;
-    }
+    if (stream != OUTPUT)
+        return stream == ERRORS ? (ssize_t)count : refused(engine, EBADF);
+    if (is_post(bytes, count) && is_ending(engine))
+        return refused(engine, ECANCELED);
+    if (!has_room(engine, count))
+        return refused(engine, ENOMEM);
     if (count)
         memcpy(engine->output + engine->output_bytes, bytes, count);
     engine->output_bytes += count;
     engine->output[engine->output_bytes] = 0;
     engine->has_written = true;
-    if (engine->output_bytes >= MOST_POSTS && memcmp(engine->output, "post ", 5) == 0)
+    if (engine->output_bytes >= MOST_POSTS && is_post(engine->output, engine->output_bytes))
         stop(engine, BB_FOR_ROOM);
     return (ssize_t)count;
 }
@@ -263,6 +273,13 @@ ssize_t bb_write(int stream, const void *bytes, size_t count)
 ssize_t bb_write_plainly(int stream, const void *bytes, size_t count)
 {
     return bb_write(stream, bytes, count);
+}
+
+/* Whether a line is an ask, which is read then. */
+static bool is_ask(bb_engine *engine, const char *line, const char *end)
+{
+    const char *values = bb_read_front(line, end, &engine->ask);
+    return values && !engine->ask.posted && bb_read_values(values, end, &engine->ask, engine->values) == end;
 }
 
 bb_state bb_take_last_line(bb_engine *engine)
@@ -277,7 +294,7 @@ bb_state bb_take_last_line(bb_engine *engine)
     bb_state state = BB_ENDED;
     if (bytes == 5 && memcmp(line, "done\n", 5) == 0)
         state = BB_DONE;
-    else if (bb_read_ask(line, line_end, &engine->ask, engine->values) == line_end && !engine->ask.posted)
+    else if (is_ask(engine, line, line_end))
         state = BB_ASKS;
     if (state != BB_ENDED) {
         engine->output_bytes -= bytes;

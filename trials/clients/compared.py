@@ -67,8 +67,8 @@ def rows():
 
 
 def run(words):
-    """What a program prints, and its status."""
-    ran = subprocess.run(words, stdout=subprocess.PIPE, timeout=SECONDS)
+    """What a program prints, and its status. What it says on standard error, of most wrong lines, is not shown."""
+    ran = subprocess.run(words, stdout=subprocess.PIPE, stderr=subprocess.DEVNULL, timeout=SECONDS)
     return ran.stdout.decode(), ran.returncode
 
 
@@ -114,7 +114,7 @@ class Trial:
         print(f"{self.compared} {what}, {' and '.join(self.ways)}: {counts}", flush=True)
 
     def compare_all(self, count=1000, seed=1):
-        """All of them, and then the kinds of lines of the generated ones."""
+        """All of them. The kinds of lines of the generated ones come before how many of these differ."""
         for name, profile, session in examples():
             self.compare(name, profile, session)
         with tempfile.TemporaryDirectory() as room:
@@ -131,9 +131,9 @@ class Trial:
             self.begin()
             write(profile, generated.PROFILE)
             self._compare_generated(profile, session, range(count), seed)
-            self.tell("generated sessions")
         for word, number in self.words.most_common():
             print(f"    {number:7} {word}")
+        self.tell("generated sessions")
 
     def _compare_generated(self, profile, session, numbers, seed):
         for at in numbers:

@@ -17,10 +17,14 @@ from compared import SECONDS, Trial, commands  # noqa: E402
 from playing import sample_drivers  # noqa: E402
 
 
+# runs a program whose standard error is not shown, as that of asrun is not
+QUIET = ["sh", "-c", 'exec "$@" 2> /dev/null', "sh"]
+
+
 def remote(program, profile, session):
     """What asremote prints, less its own lines, and its status."""
     drivers = sample_drivers.Drivers()
-    talk = Conversation([program, "--profile", profile, "--drivers", "3"], drivers.answer)
+    talk = Conversation([*QUIET, program, "--profile", profile, "--drivers", "3"], drivers.answer)
     with open(session, newline="") as file:
         text = file.read()
     printed, number = [], 1

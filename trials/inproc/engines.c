@@ -27,9 +27,10 @@ static bool is_right(bool right, const char *what)
 
 /* ---- What all parts use: an engine with the module `m` */
 
-static const char profile[] = "mask 00000001\nfunction 0 0 void put(int64)\n";
+static const char profile[] = "mask 00000001\nfunction 0 0 void put(int64)\nposted 0 1 void tell(int64)\n";
 
 static const char script[] = "void run(int64 n) { for (int64 i = 0; i < n; i++) put(i); }\n"
+                             "void tells(int64 n) { for (int64 i = 0; i < n; i++) tell(i); }\n"
                              "void spin() { while (true) {} }\n"
                              "int two() { return 2; }\n";
 
@@ -477,23 +478,34 @@ static void *set_short_timeout(void *engine)
     return NULL;
 }
 
-/* Runs that would take minutes end at their timeout, by asks or by events; what is quick, and what has none, does not. */
+enum { TIMEOUT = 50 };
+
+/* A run that would take minutes, and ends at its timeout. Gives the milliseconds that it took. */
+static double ended_late(bb_engine *engine, const char *command, const char *outcome)
+{
+    double begun = milliseconds();
+    is_right(is_answered(engine, command, outcome), "a timeout ends a run");
+    double taken = milliseconds() - begun;
+    is_right(taken >= TIMEOUT - 10, "a timeout comes not too early");
+    is_right(is_well(engine), "the command after a timeout");
+    return taken;
+}
+
+/* Runs that would take minutes end at their timeout, by asks or by posts; what is quick, and what has none, does not. */
 static void timeouts(void)
 {
-    enum { TRIES = 10, TIMEOUT = 50 };
+    enum { TRIES = 10 };
     int64_t sum = 0;
     bb_options it = options(add, &sum);
     it.budget = 2147483647;
     bb_engine *engine = started(&it);
     double longest = 0;
+    bb_set_timeout(engine, TIMEOUT);
     for (int number = 0; number < TRIES; number++) {
-        bb_set_timeout(engine, TIMEOUT);
-        double begun = milliseconds();
-        is_right(is_answered(engine, "call m (1000000000) void run(int64)", "fault Memory"), "a timeout ends a run");
-        double taken = milliseconds() - begun;
-        is_right(taken >= TIMEOUT - 10, "a timeout comes not too early");
-        longest = taken > longest ? taken : longest;
-        is_right(is_well(engine), "the command after a timeout");
+        double asked = ended_late(engine, "call m (1000000000) void run(int64)", "fault Memory");
+        double posted = ended_late(engine, "call m (1000000000) void tells(int64)", "fault Host 4294967280");
+        longest = asked > longest ? asked : longest;
+        longest = posted > longest ? posted : longest;
     }
     bb_set_timeout(engine, UINT64_MAX);
     is_right(is_answered(engine, "call m (100000) void run(int64)", "ok"), "a long timeout ends nothing");
@@ -503,7 +515,7 @@ static void timeouts(void)
     pthread_create(&thread, NULL, set_short_timeout, engine);
     pthread_join(thread, NULL);
     is_right(is_answered(engine, "call m (100000) void run(int64)", "ok"), "a timeout of another thread is not set");
-    printf("timeouts: %d runs ended after %d milliseconds, the last of them after %.0f\n", TRIES, TIMEOUT, longest);
+    printf("timeouts: %d runs ended after %d milliseconds, the last of them after %.0f\n", 2 * TRIES, TIMEOUT, longest);
     bb_free(engine);
 }
 

@@ -140,6 +140,29 @@ static void all(const char *name, bb_engine *engine, way *done)
     printf("%s: %zu posts\n", name, 3 * POSTS + heard);
 }
 
+static bb_engine *to_cancel;
+
+static void cancel(void *data, const bb_ask *ask, bb_answer *answer)
+{
+    host(data, ask, answer);
+    if (heard == 10)
+        bb_cancel(to_cancel);
+}
+
+/* A script that posts on and on ends where its command is cancelled: the posts that the library has by then are heard. */
+static void ends_by_a_cancel(void)
+{
+    static const char more[] = "call m (100000) void many(int64)\n";
+    to_cancel = prepared(cancel);
+    heard = out_of_order = 0;
+    bb_state state = bb_command(to_cancel, more, sizeof more - 1);
+    wants(state == BB_DONE && ends_so(to_cancel, "fault Host 4294967280"), "a cancel ends a script that posts");
+    wants(10 <= heard && heard < 10000 && out_of_order == 0, "what was posted before is heard");
+    counts_up(to_cancel, by_callback, "call m (5) void many(int64)\n", "ok", 5);
+    wants(bb_free(to_cancel) == BB_ENDED, "it is freed");
+    puts("a cancel ends a script that posts");
+}
+
 int main(void)
 {
     bb_engine *one = prepared(host), *two = prepared(NULL);
@@ -147,6 +170,7 @@ int main(void)
     all("posts by the callback", one, by_callback);
     all("posts by steps", two, by_steps);
     all("posts at once", two, at_once);
+    ends_by_a_cancel();
     wants(most_runs > 100 && most_calls > 800, "many posts are taken at once");
     wants(!bb_take_posts(two, &runs) && !runs, "nothing is taken where nothing waits");
     static const char many[] = "call m (5000) void many(int64)\n";

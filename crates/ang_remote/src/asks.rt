@@ -1,7 +1,8 @@
 //! The text of an ask, and of a post.
-ghost use Rattle.std.specs.Prelude.{◌≡◌, ◌++◌, OnOk, IfOk, codes, decimal, flat_map};
+ghost use Rattle.std.specs.Prelude.{◌≡◌, ◌≤◌, ◌++◌, length, OnOk, IfOk, codes, decimal, flat_map};
 ghost use Rattle.ang_remote.specs.Asks.{value_text, values_text, kind_text, is_posted_call, word_text, line_text};
 
+use crate::short_line::{FEW, SHORT, write_line};
 use ang_kinds::Value;
 use asrun_lines::{push_key, push_number, push_object, push_signed, push_text};
 use std::alloc::{AllocError, Global};
@@ -98,12 +99,38 @@ fn word(posted: bool) -> &'static str
 /// Most lines have no more bytes than this, so that room is made once.
 const USUAL: usize = 64;
 
-/// `ask DRIVER KIND F OBJECT (V,V)`, as a line; where it is posted, the same with `post`.
-///
-/// # Errors
-/// A growth of memory was refused.
+/// A text of these bytes.
+fn copied(alloc: Global, line: &[u8]) -> Result<Vec<u8>, AllocError>
+    ensures exact { IfOk result (λ r. r.items ≡ line.now) }
+{
+    let mut out = Vec::with_capacity(alloc, USUAL)?;
+    out.extend_from_slice(line)?;
+    Ok(out)
+}
+
+/// The line of two values at most.
+fn short_line(
+    alloc: Global,
+    posted: bool,
+    driver: u32,
+    kind: AskKind,
+    f: u32,
+    object: Option<u64>,
+    values: &[Value],
+) -> Result<Vec<u8>, AllocError>
+    requires few { length values.now ≤ 2 }
+    ensures exact { IfOk result
+        (λ r. r.items ≡ line_text posted driver kind f object values.now) }
+{
+    let mut line = [0; SHORT];
+    let at = write_line(&mut line, posted, driver, kind, f, object, values);
+    copied(alloc, &line[at..])
+}
+
+/// The line of any number of values.
 #[tactic(auto, using(crate::proofs::Texts::texts), unfolding(crate::specs::Asks::line_text))]
-pub fn ask_line(
+#[inline(never)]
+fn long_line(
     alloc: Global,
     posted: bool,
     driver: u32,
@@ -128,4 +155,26 @@ pub fn ask_line(
     push_values(&mut out, values)?;
     push_text(&mut out, ")\n")?;
     Ok(out)
+}
+
+/// `ask DRIVER KIND F OBJECT (V,V)`, as a line; where it is posted, the same with `post`.
+///
+/// # Errors
+/// A growth of memory was refused.
+pub fn ask_line(
+    alloc: Global,
+    posted: bool,
+    driver: u32,
+    kind: AskKind,
+    f: u32,
+    object: Option<u64>,
+    values: &[Value],
+) -> Result<Vec<u8>, AllocError>
+    ensures exact { IfOk result
+        (λ r. r.items ≡ line_text posted driver kind f object values.now) }
+{
+    if values.len() <= FEW {
+        return short_line(alloc, posted, driver, kind, f, object, values);
+    }
+    long_line(alloc, posted, driver, kind, f, object, values)
 }

@@ -1,11 +1,12 @@
 //! One host call over a line: the ask is written, and the answer is read. What is posted has none.
-ghost use Rattle.std.specs.Prelude.{◌≡◌};
+ghost use Rattle.std.specs.Prelude.{◌≡◌, ◌≤◌, length};
 ghost use Rattle.ang_remote.specs.Asks.{line_text};
-ghost use Rattle.ang_remote.specs.Wires.{IsExchanged, IsAnswered, heard_as};
+ghost use Rattle.ang_remote.specs.Wires.{IsExchanged, IsWritten, IsAnswered, heard_as};
 
 use crate::answers::{BAD_FORM, INPUT_ENDED, MOST_ANSWER, NOT_READ, NOT_WRITTEN, Said, said_by};
 use crate::asks::{AskKind, ask_line};
 use crate::lines::{Heard, read_line};
+use crate::short_line::{FEW, SHORT, write_line};
 use crate::writing::write_text;
 use ang_kinds::Value;
 use std::alloc::Global;
@@ -33,6 +34,25 @@ fn read_answer<R: Read>(alloc: Global, reader: &mut R) -> Said
     heard_as(heard, &line)
 }
 
+/// Writes the line of two values at most, for which it takes no memory. False where that failed: a front of it is written then.
+fn write_short<W: Write>(
+    writer: &mut W,
+    posted: bool,
+    driver: u32,
+    kind: AskKind,
+    f: u32,
+    object: Option<u64>,
+    values: &[Value],
+) -> bool
+    requires few { length values.now ≤ 2 }
+    ensures written { IsWritten (W.contents writer.old) (W.contents writer.new)
+        (line_text posted driver kind f object values.now) result }
+{
+    let mut line = [0; SHORT];
+    let at = write_line(&mut line, posted, driver, kind, f, object, values);
+    write_text(writer, &line[at..])
+}
+
 /// Asks the driver of this number, and gives what is said to it. What is posted is written alone, and `void` is taken for
 /// its answer.
 pub fn exchange<R: Read, W: Write>(
@@ -50,6 +70,13 @@ pub fn exchange<R: Read, W: Write>(
         (W.contents writer.old) (W.contents writer.new) (R.remaining reader.old)
         (R.remaining reader.new) result posted }
 {
+    if posted && values.len() <= FEW {
+        return if write_short(writer, posted, driver, kind, f, object, values) {
+            Said::Void
+        } else {
+            Said::Fault(NOT_WRITTEN)
+        };
+    }
     let Ok(line) = ask_line(alloc, posted, driver, kind, f, object, values) else {
         return Said::Memory;
     };

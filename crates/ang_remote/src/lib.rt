@@ -12,6 +12,7 @@ mod keys;
 pub mod laws;
 mod lines;
 mod remote;
+mod short_line;
 mod writing;
 
 pub use answers::{BAD_FORM, INPUT_ENDED, KEY_LIVE, NOT_LIVE, NOT_READ, NOT_WRITTEN, OTHER_KIND};

@@ -50,20 +50,28 @@ pub struct RemoteOptions {
 pub fn command_line<'a>(alloc: Global) -> Result<Command<'a>, AllocError>
     ensures exact { IfOk result (λ c. app_of c ≡ program) }
 {
-    let profile = Arg::new(alloc, "profile").long("profile").required(true);
-    let drivers = Arg::new(alloc, "drivers").long("drivers");
-    let budget = Arg::new(alloc, "budget").long("budget");
-    let echo = Arg::new(alloc, "echo")
-        .long("echo")
-        .action(ArgAction::SetTrue);
     Command::new(alloc, "asremote")
         .version(VERSION)
         .about(ABOUT)
         .after_help(FORMATS)
-        .arg(profile.help(PROFILE_HELP))?
-        .arg(drivers.help(DRIVERS_HELP))?
-        .arg(budget.help(BUDGET_HELP))?
-        .arg(echo.help(ECHO_HELP))
+        .arg(
+            Arg::new(alloc, "profile")
+                .long("profile")
+                .required(true)
+                .help(PROFILE_HELP),
+        )?
+        .arg(
+            Arg::new(alloc, "drivers")
+                .long("drivers")
+                .help(DRIVERS_HELP),
+        )?
+        .arg(Arg::new(alloc, "budget").long("budget").help(BUDGET_HELP))?
+        .arg(
+            Arg::new(alloc, "echo")
+                .long("echo")
+                .action(ArgAction::SetTrue)
+                .help(ECHO_HELP),
+        )
 }
 
 /// The number of drivers that is given, or 1 where none is. None where it is no number from 1 to the most.

@@ -58,20 +58,29 @@ pub struct RunOptions {
 pub fn command_line<'a>(alloc: Global) -> Result<Command<'a>, AllocError>
     ensures exact { IfOk result (λ c. app_of c ≡ program) }
 {
-    let profile = Arg::new(alloc, "profile").long("profile").required(true);
-    let session = Arg::new(alloc, "session").long("session").required(true);
-    let budget = Arg::new(alloc, "budget").long("budget");
-    let trace = Arg::new(alloc, "trace")
-        .long("trace")
-        .action(ArgAction::SetTrue);
     Command::new(alloc, "asrun")
         .version(VERSION)
         .about(ABOUT)
         .after_help(FORMATS)
-        .arg(profile.help(PROFILE_HELP))?
-        .arg(session.help(SESSION_HELP))?
-        .arg(budget.help(BUDGET_HELP))?
-        .arg(trace.help(TRACE_HELP))
+        .arg(
+            Arg::new(alloc, "profile")
+                .long("profile")
+                .required(true)
+                .help(PROFILE_HELP),
+        )?
+        .arg(
+            Arg::new(alloc, "session")
+                .long("session")
+                .required(true)
+                .help(SESSION_HELP),
+        )?
+        .arg(Arg::new(alloc, "budget").long("budget").help(BUDGET_HELP))?
+        .arg(
+            Arg::new(alloc, "trace")
+                .long("trace")
+                .action(ArgAction::SetTrue)
+                .help(TRACE_HELP),
+        )
 }
 
 /// The options of a command line that was read. None where the budget is no number from 1 to the most.

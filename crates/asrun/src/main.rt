@@ -52,24 +52,19 @@ fn run_boxes(
     crate::session(alloc, profile, session, &mut out, boxes, options.budget)
 }
 
-/// Opens the files and runs the session.
-///
-/// # Errors
-/// A growth of memory was refused before the session.
-fn run_files(rt: &HostRuntime, options: &RunOptions) -> Result<ProgramExit, AllocError> {
-    let Some(profile) = open_or_say(rt, options.profile.as_str()) else {
-        return Ok(ProgramExit::CannotOpen);
-    };
-    let Some(session) = open_or_say(rt, options.session.as_str()) else {
-        return Ok(ProgramExit::CannotOpen);
-    };
+/// Runs the session of these files with these drivers, and says on standard error what it can't print.
+fn run_opened(
+    rt: &HostRuntime,
+    options: &RunOptions,
+    profile: File,
+    session: File,
+    boxes: Vec<Box<dyn Driver>>,
+) -> ProgramExit
+    requires few { length boxes.items < 2 ^ 60 }
+{
     let alloc = rt.alloc();
     let mut profile = Kept::new(alloc, profile);
     let mut session = Kept::new(alloc, session);
-    let mut boxes: Vec<Box<dyn Driver>> = Vec::new(alloc);
-    boxes.push(Box::new(alloc, Console::new(alloc)?)?)?;
-    boxes.push(Box::new(alloc, Counter::new(alloc)?)?)?;
-    boxes.push(Box::new(alloc, Cell::new(alloc)?)?)?;
     let SessionEnd { outcome, drivers } = run_boxes(rt, options, &mut profile, &mut session, boxes);
     drop(drivers);
     print_outcome(rt, NAME, outcome);
@@ -77,7 +72,58 @@ fn run_files(rt: &HostRuntime, options: &RunOptions) -> Result<ProgramExit, Allo
         print_profile_line(rt, alloc, NAME, profile.text());
         print_session_line(rt, alloc, NAME, session.text());
     }
-    Ok(ProgramExit::Ran(outcome))
+    ProgramExit::Ran(outcome)
+}
+
+/// Makes the drivers, opens the files and runs the session.
+///
+/// # Errors
+/// A growth of memory was refused before the session.
+fn run_files(rt: &HostRuntime, options: &RunOptions) -> Result<ProgramExit, AllocError> {
+    let alloc = rt.alloc();
+    let mut boxes: Vec<Box<dyn Driver>> = Vec::new(alloc);
+    boxes.push(Box::new(alloc, Console::new(alloc)?)?)?;
+    boxes.push(Box::new(alloc, Counter::new(alloc)?)?)?;
+    boxes.push(Box::new(alloc, Cell::new(alloc)?)?)?;
+    let Some(profile) = open_or_say(rt, options.profile.as_str()) else {
+        return Ok(ProgramExit::CannotOpen);
+    };
+    let Some(session) = open_or_say(rt, options.session.as_str()) else {
+        return Ok(ProgramExit::CannotOpen);
+    };
+    Ok(run_opened(rt, options, profile, session, boxes))
+}
+
+/// The words of the command line. None where one of them is not text, which is said on standard error.
+///
+/// # Errors
+/// They could not be read, or a growth of memory was refused.
+fn words_of(rt: &HostRuntime) -> io::Result<Option<Vec<String>>> {
+    match env::args(rt) {
+        Ok(words) => {
+            let words: Vec<String> = words.collect(rt.alloc())?;
+            Ok(Some(words))
+        }
+        Err(error) if error.kind() == io::ErrorKind::InvalidData => {
+            let _ = eprintln!(rt; "asrun: an argument is not text in UTF-8");
+            Ok(None)
+        }
+        Err(error) => Err(error),
+    }
+}
+
+/// Prints what is wrong with a command line, or the help that it asks for.
+fn print_error(rt: &HostRuntime, error: &clap::Error) -> ProgramExit {
+    if error.kind() == clap::error::ErrorKind::OutOfMemory {
+        print_no_memory(rt, NAME);
+        return ProgramExit::NoMemory;
+    }
+    let _ = error.print(rt);
+    if error.use_stderr() {
+        ProgramExit::BadCommandLine
+    } else {
+        ProgramExit::Helped
+    }
 }
 
 /// Reads the command line, and runs the files that it names.
@@ -85,30 +131,14 @@ fn run_files(rt: &HostRuntime, options: &RunOptions) -> Result<ProgramExit, Allo
 /// # Errors
 /// A growth of memory was refused before the session.
 fn run_words(rt: &HostRuntime) -> io::Result<ProgramExit> {
-    let alloc = rt.alloc();
-    let words: Vec<String> = match env::args(rt) {
-        Ok(words) => words.collect(alloc)?,
-        Err(error) if error.kind() == io::ErrorKind::InvalidData => {
-            let _ = eprintln!(rt; "asrun: an argument is not text in UTF-8");
-            return Ok(ProgramExit::BadCommandLine);
-        }
-        Err(error) => return Err(error),
+    let Some(words) = words_of(rt)? else {
+        return Ok(ProgramExit::BadCommandLine);
     };
+    let alloc = rt.alloc();
     let words: Vec<&str> = words.iter().map(|word| word.as_str()).collect(alloc)?;
     match options::options(alloc, words.as_slice()) {
         Ok(options) => Ok(run_files(rt, &options)?),
-        Err(error) if error.kind() == clap::error::ErrorKind::OutOfMemory => {
-            print_no_memory(rt, NAME);
-            Ok(ProgramExit::NoMemory)
-        }
-        Err(error) => {
-            let _ = error.print(rt);
-            Ok(if error.use_stderr() {
-                ProgramExit::BadCommandLine
-            } else {
-                ProgramExit::Helped
-            })
-        }
+        Err(error) => Ok(print_error(rt, &error)),
     }
 }
 

@@ -1,15 +1,48 @@
 //! Reading the command line.
 ghost use Rattle.std.specs.Prelude.{◌≡◌, ◌≤◌, true, false, Some, IfOk, IfErr, IsErrAnd, codes, map, string_bytes};
-ghost use Rattle.clap.specs.Words.{kind_of};
+ghost use Rattle.clap.specs.Words.{app_of, kind_of};
 ghost use Rattle.clap.specs.declared.error.kind.ErrorKind.TheVariants.{OutOfMemory};
 ghost use Rattle.asrun_lines.specs.Budget.{budget_given};
-ghost use Rattle.asrun.specs.Options.{given, flag, is_right, AsksVersion, IsVersion};
+ghost use Rattle.asrun.specs.Options.{program, given, flag, is_right, AsksVersion, IsVersion};
 
 use crate::command;
 use crate::command::{chosen, command_line};
-use clap::Error;
 use clap::error::ErrorKind;
+use clap::{Command, Error};
 use std::alloc::Global;
+
+/// What the words say by this command line, as `options` answers it.
+fn options_by<'a>(
+    alloc: Global,
+    command: &mut Command<'a>,
+    words: &'a [&'a str],
+) -> Result<command::RunOptions, Error>
+    requires program { app_of command.old ≡ program }
+    ensures profile { IfOk result (λ o. given (codes "profile") (map (λ w. w.now) words.now)
+        ≡ Some (string_bytes o.profile)) }
+    ensures session { IfOk result (λ o. given (codes "session") (map (λ w. w.now) words.now)
+        ≡ Some (string_bytes o.session)) }
+    ensures budget { IfOk result (λ o. budget_given
+        (given (codes "budget") (map (λ w. w.now) words.now)) ≡ Some o.budget) }
+    ensures trace { IfOk result (λ o. flag (codes "trace") (map (λ w. w.now) words.now)
+        ≡ Some (codes "true") → o.trace ≡ true) }
+    ensures no_trace { IfOk result (λ o. flag (codes "trace") (map (λ w. w.now) words.now)
+        ≡ Some (codes "false") → o.trace ≡ false) }
+    ensures most { IfOk result (λ o. o.budget ≤ 2147483647) }
+    ensures least { IfOk result (λ o. 1 ≤ o.budget) }
+    ensures refused { IfErr result (λ e. is_right (map (λ w. w.now) words.now) ≡ true →
+        kind_of e ≡ OutOfMemory) }
+    ensures version { AsksVersion (map (λ w. w.now) words.now) → IsErrAnd result IsVersion }
+{
+    let matches = command.try_get_matches_from_mut(words)?;
+    match chosen(alloc, &matches)? {
+        Some(options) => Ok(options),
+        None => {
+            let text = "--budget takes a number from 1 to 2147483647";
+            Err(command.error(ErrorKind::ValueValidation, text)?)
+        }
+    }
+}
 
 /// What the words of the command line say; the first is the program's name.
 ///
@@ -34,12 +67,7 @@ pub fn options<'a>(alloc: Global, words: &'a [&'a str]) -> Result<command::RunOp
     ensures version { AsksVersion (map (λ w. w.now) words.now) → IsErrAnd result IsVersion }
 {
     let mut command = command_line(alloc)?;
-    let matches = command.try_get_matches_from_mut(words)?;
-    match chosen(alloc, &matches)? {
-        Some(options) => Ok(options),
-        None => {
-            let text = "--budget takes a number from 1 to 2147483647";
-            Err(command.error(ErrorKind::ValueValidation, text)?)
-        }
-    }
+    let read = options_by(alloc, &mut command, words);
+    drop(command);
+    read
 }

@@ -9,7 +9,7 @@ use ang_check::check;
 use ang_engine_build::{NoProgram, Program, build_sections};
 use ang_kinds::{List, Mask};
 use ang_lex::lex;
-use ang_names::{Names, declare};
+use ang_names::declare;
 use ang_parse::parse;
 use ang_registry::{Registry, View};
 use ang_tree::Script;
@@ -47,14 +47,11 @@ fn is_put_registered(registry: &mut Registry) -> bool {
     registry.function(0, 0, b"void put(int)").is_ok()
 }
 
-// The drop of names is written out at each place: there is one.
-fn let_go(_names: Names) {}
-
 fn functions_of(built: Result<Program, NoProgram>) -> Option<usize> {
     match built {
         Ok(program) => {
             let count = program.names.functions().len();
-            let_go(program.names);
+            drop(program.names);
             Some(count)
         }
         Err(_) => None,
@@ -101,7 +98,7 @@ fn is_accepted(alloc: Global, view: &View, scripts: &[Script], stage: Stage) -> 
         Ok(names) => {
             let is_accepted = stage == Stage::Declared
                 || check(alloc, view, &names, scripts).is_ok();
-            let_go(names);
+            drop(names);
             is_accepted
         }
         Err(_) => false,

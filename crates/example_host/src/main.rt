@@ -2,8 +2,10 @@
 //! (docs/RATTLE_HOST.md, "A whole host").
 #![tactic(auto)]
 
-ghost use Rattle.std.specs.Prelude.{◌≡◌, ◌∷◌, [], Some, IfOk};
+ghost use Rattle.std.specs.Prelude.{◌≡◌, ◌∷◌, [], Some, OnOk};
 ghost use Rattle.ang_engine.specs.Sound.{IsSound};
+ghost use Rattle.ang_host.specs.Boxes.{members};
+ghost use Rattle.ang_host.specs.Members.{AreFresh, states_of};
 ghost use Rattle.example_host.specs.Offered.{masks_of};
 
 use ang_drivers::Console;
@@ -42,20 +44,21 @@ uint64 join() { return ticket(); }
 /// A script of a player that looks for what players don't see.
 const PEEK: &str = "uint64 peek() { return given; }\n";
 
-/// What scripts may ask, each entry under a mask. Of driver 0 the functions 0 and 1, of driver 1 the
-/// function 0, and, for the staff alone, its property 0.
+/// Registers what scripts may ask, each entry under a mask. Of driver 0 the functions 0 and 1, of driver 1
+/// the function 0, and, for the staff alone, its property 0.
 #[tactic(auto, using(crate::proofs::Masks::masks_added))]
-fn offered(alloc: Global) -> Result<Registry, RegError>
-    ensures masks { IfOk result (λ r. masks_of r.entries ≡ Some 1 ∷ Some 1 ∷ Some 1 ∷ Some 2 ∷ []) }
+fn register(registry: &mut Registry) -> Result<(), RegError>
+    requires empty { registry.old.entries ≡ [] }
+    ensures masks { OnOk result
+        (masks_of registry.new.entries ≡ Some 1 ∷ Some 1 ∷ Some 1 ∷ Some 2 ∷ []) }
 {
-    let mut registry = Registry::new(alloc);
     registry.set_default_mask(PLAYERS);
     registry.function(0, 0, b"void print(int64)")?;
     registry.function(0, 1, b"int64 sum(int64, int64)")?;
     registry.function(1, 0, b"uint64 ticket()")?;
     registry.set_default_mask(STAFF);
     registry.global_property(1, 0, b"const uint64 given")?;
-    Ok(registry)
+    Ok(())
 }
 
 fn bytes(alloc: Global, text: &str) -> Result<List<u8>, AllocError> {
@@ -92,6 +95,17 @@ fn print_tickets(rt: &HostRuntime, reply: &Reply) -> io::Result<()> {
     Ok(())
 }
 
+/// Does a command, and prints its reply and the tickets that were given. Answers how the command ended.
+fn apply(rt: &HostRuntime, engine: &mut Engine, command: Command) -> io::Result<Outcome>
+    requires sound { IsSound ⟦<dyn Driver as Driver>⟧ engine.old }
+    ensures sound { IsSound ⟦<dyn Driver as Driver>⟧ engine.new }
+{
+    let reply = engine.apply(command);
+    print_reply(rt, &reply)?;
+    print_tickets(rt, &reply)?;
+    Ok(reply.outcome)
+}
+
 /// Gives the module a script and builds it.
 fn build(rt: &HostRuntime, engine: &mut Engine, script: &str) -> io::Result<()>
     requires sound { IsSound ⟦<dyn Driver as Driver>⟧ engine.old }
@@ -99,9 +113,10 @@ fn build(rt: &HostRuntime, engine: &mut Engine, script: &str) -> io::Result<()>
 {
     let alloc = rt.alloc();
     let (name, text) = (bytes(alloc, QUEST)?, bytes(alloc, script)?);
-    print_reply(rt, &engine.apply(Command::AddSection { name, text }))?;
+    apply(rt, engine, Command::AddSection { name, text })?;
     let (name, budget) = (bytes(alloc, QUEST)?, TICKS);
-    print_reply(rt, &engine.apply(Command::Build { name, budget }))
+    apply(rt, engine, Command::Build { name, budget })?;
+    Ok(())
 }
 
 /// Calls the function of the script that has this declaration, with these values.
@@ -112,15 +127,25 @@ fn call(rt: &HostRuntime, engine: &mut Engine, decl: &str, args: &[Value]) -> io
     let alloc = rt.alloc();
     let (name, decl) = (bytes(alloc, QUEST)?, bytes(alloc, decl)?);
     let args = List::from_vec(Vec::from_slice(alloc, args)?);
-    let reply = engine.apply(Command::Call {
+    let command = Command::Call {
         name,
         decl,
         args,
         budget: TICKS,
-    });
-    print_reply(rt, &reply)?;
-    print_tickets(rt, &reply)?;
-    Ok(reply.outcome)
+    };
+    apply(rt, engine, command)
+}
+
+/// Asks the script for a reward, and prints it.
+fn take_reward(rt: &HostRuntime, engine: &mut Engine) -> io::Result<()>
+    requires sound { IsSound ⟦<dyn Driver as Driver>⟧ engine.old }
+    ensures sound { IsSound ⟦<dyn Driver as Driver>⟧ engine.new }
+{
+    let outcome = call(rt, engine, "int64 reward(int64)", &[Value::Int(3)])?;
+    if let Outcome::Done(Some(Value::Int(reward))) = outcome {
+        println!(rt; "the reward is {reward}")?;
+    }
+    Ok(())
 }
 
 /// Makes a module for a player, gives it a script, calls it, and then gives it another.
@@ -129,32 +154,19 @@ fn run_scripts(rt: &HostRuntime, engine: &mut Engine) -> io::Result<()>
     ensures sound { IsSound ⟦<dyn Driver as Driver>⟧ engine.new }
 {
     let (name, mask) = (bytes(rt.alloc(), QUEST)?, PLAYERS);
-    print_reply(rt, &engine.apply(Command::NewModule { name, mask }))?;
+    apply(rt, engine, Command::NewModule { name, mask })?;
     build(rt, engine, REWARD)?;
-    let outcome = call(rt, engine, "int64 reward(int64)", &[Value::Int(3)])?;
-    if let Outcome::Done(Some(Value::Int(reward))) = outcome {
-        println!(rt; "the reward is {reward}")?;
-    }
+    take_reward(rt, engine)?;
     call(rt, engine, "uint64 join()", &[])?;
     call(rt, engine, "uint64 join()", &[])?;
     build(rt, engine, PEEK)
 }
 
-/// Makes the engine over the registrations and the drivers, which are number 0 and 1, and discards it
-/// at the end.
-fn run(rt: &HostRuntime) -> io::Result<()> {
-    let alloc = rt.alloc();
-    let Ok(registry) = offered(alloc) else {
-        return eprintln!(rt; "a registration was refused");
-    };
-    let mut boxes: Vec<Box<dyn Driver>> = Vec::new(alloc);
-    boxes.push(Box::new(alloc, Console::new(alloc)?)?)?;
-    boxes.push(Box::new(alloc, Tickets::new())?)?;
-    let drivers = match Drivers::new(boxes) {
-        Ok(drivers) => drivers,
-        Err((why, _)) => return eprintln!(rt; "the drivers were refused: {why:?}"),
-    };
-    match Engine::new(alloc, registry, drivers) {
+/// Makes the engine over the registry and the drivers, and discards it at the end.
+fn run_engine(rt: &HostRuntime, registry: Registry, drivers: Drivers) -> io::Result<()>
+    requires fresh { AreFresh (states_of ⟦<dyn Driver as Driver>⟧ (members drivers)) }
+{
+    match Engine::new(rt.alloc(), registry, drivers) {
         Ok(mut engine) => {
             let ended = run_scripts(rt, &mut engine);
             drop(engine.discard());
@@ -170,6 +182,39 @@ fn run(rt: &HostRuntime) -> io::Result<()> {
             drop(registry);
             drop(drivers.into_boxes());
             eprintln!(rt; "no engine was made: {why:?}")
+        }
+    }
+}
+
+/// Makes the list of drivers and what is over it.
+fn run_drivers(
+    rt: &HostRuntime,
+    registry: Registry,
+    boxes: Vec<Box<dyn Driver>>,
+) -> io::Result<()> {
+    match Drivers::new(boxes) {
+        Ok(drivers) => run_engine(rt, registry, drivers),
+        Err((why, boxes)) => {
+            drop(registry);
+            drop(boxes);
+            eprintln!(rt; "the drivers were refused: {why:?}")
+        }
+    }
+}
+
+/// Makes the drivers, which are number 0 and 1, registers what scripts may ask of them, and runs the scripts.
+fn run(rt: &HostRuntime) -> io::Result<()> {
+    let alloc = rt.alloc();
+    let mut boxes: Vec<Box<dyn Driver>> = Vec::new(alloc);
+    boxes.push(Box::new(alloc, Console::new(alloc)?)?)?;
+    boxes.push(Box::new(alloc, Tickets::new())?)?;
+    let mut registry = Registry::new(alloc);
+    match register(&mut registry) {
+        Ok(()) => run_drivers(rt, registry, boxes),
+        Err(_) => {
+            drop(registry);
+            drop(boxes);
+            eprintln!(rt; "a registration was refused")
         }
     }
 }

@@ -3,6 +3,8 @@
 #![tactic(auto)]
 
 ghost use Rattle.ang_engine.specs.Sound.{IsSound};
+ghost use Rattle.ang_host.specs.Boxes.{members};
+ghost use Rattle.ang_host.specs.Members.{AreFresh, states_of};
 
 mod doors;
 
@@ -36,16 +38,15 @@ bool enter(int key) {
 }
 ";
 
-/// What scripts may ask, each entry under a mask. The driver's number is 0.
-fn offered(alloc: Global) -> Result<Registry, RegError> {
-    let mut registry = Registry::new(alloc);
+/// Registers what scripts may ask, each entry under a mask. The driver's number is 0.
+fn register(registry: &mut Registry) -> Result<(), RegError> {
     registry.set_default_mask(PLAYERS);
     registry.type_(b"Door", 0)?;
     registry.factory(b"Door", 0, b"Door@ f()")?;
     registry.method(b"Door", 0, b"void open()")?;
     registry.method(b"Door", 1, b"void close()")?;
     registry.method(b"Door", 2, b"bool is_open() const")?;
-    Ok(registry)
+    Ok(())
 }
 
 fn bytes(alloc: Global, text: &str) -> Result<List<u8>, AllocError> {
@@ -59,6 +60,16 @@ fn print_reply(rt: &HostRuntime, reply: &Reply) -> io::Result<()> {
     io::writer(rt).write_all(&text)
 }
 
+/// Does a command and prints its reply. Answers how the command ended.
+fn apply(rt: &HostRuntime, engine: &mut Engine, command: Command) -> io::Result<Outcome>
+    requires sound { IsSound ⟦<dyn Driver as Driver>⟧ engine.old }
+    ensures sound { IsSound ⟦<dyn Driver as Driver>⟧ engine.new }
+{
+    let reply = engine.apply(command);
+    print_reply(rt, &reply)?;
+    Ok(reply.outcome)
+}
+
 /// Makes the module, gives it its script and builds it.
 fn build(rt: &HostRuntime, engine: &mut Engine) -> io::Result<()>
     requires sound { IsSound ⟦<dyn Driver as Driver>⟧ engine.old }
@@ -66,11 +77,12 @@ fn build(rt: &HostRuntime, engine: &mut Engine) -> io::Result<()>
 {
     let alloc = rt.alloc();
     let (name, mask) = (bytes(alloc, MODULE)?, PLAYERS);
-    print_reply(rt, &engine.apply(Command::NewModule { name, mask }))?;
+    apply(rt, engine, Command::NewModule { name, mask })?;
     let (name, text) = (bytes(alloc, MODULE)?, bytes(alloc, SCRIPT)?);
-    print_reply(rt, &engine.apply(Command::AddSection { name, text }))?;
+    apply(rt, engine, Command::AddSection { name, text })?;
     let (name, budget) = (bytes(alloc, MODULE)?, TICKS);
-    print_reply(rt, &engine.apply(Command::Build { name, budget }))
+    apply(rt, engine, Command::Build { name, budget })?;
+    Ok(())
 }
 
 /// Calls the function of the script that has this declaration, with these values.
@@ -81,14 +93,13 @@ fn call(rt: &HostRuntime, engine: &mut Engine, decl: &str, args: &[Value]) -> io
     let alloc = rt.alloc();
     let (name, decl) = (bytes(alloc, MODULE)?, bytes(alloc, decl)?);
     let args = List::from_vec(Vec::from_slice(alloc, args)?);
-    let reply = engine.apply(Command::Call {
+    let command = Command::Call {
         name,
         decl,
         args,
         budget: TICKS,
-    });
-    print_reply(rt, &reply)?;
-    Ok(reply.outcome)
+    };
+    apply(rt, engine, command)
 }
 
 /// Tries a key at the door, and says whether it opens it.
@@ -114,19 +125,11 @@ fn use_engine(rt: &HostRuntime, engine: &mut Engine) -> io::Result<()>
     try_key(rt, engine, 7)
 }
 
-/// Makes the engine over the registrations and the driver, and discards it at the end.
-fn run(rt: &HostRuntime) -> io::Result<()> {
-    let alloc = rt.alloc();
-    let Ok(registry) = offered(alloc) else {
-        return eprintln!(rt; "a registration was refused");
-    };
-    let mut boxes: Vec<Box<dyn Driver>> = Vec::new(alloc);
-    boxes.push(Box::new(alloc, Doors::new(alloc))?)?;
-    let drivers = match Drivers::new(boxes) {
-        Ok(drivers) => drivers,
-        Err((why, _)) => return eprintln!(rt; "the drivers were refused: {why:?}"),
-    };
-    match Engine::new(alloc, registry, drivers) {
+/// Makes the engine over the registry and the drivers, and discards it at the end.
+fn run_engine(rt: &HostRuntime, registry: Registry, drivers: Drivers) -> io::Result<()>
+    requires fresh { AreFresh (states_of ⟦<dyn Driver as Driver>⟧ (members drivers)) }
+{
+    match Engine::new(rt.alloc(), registry, drivers) {
         Ok(mut engine) => {
             let ended = use_engine(rt, &mut engine);
             drop(engine.discard());
@@ -142,6 +145,38 @@ fn run(rt: &HostRuntime) -> io::Result<()> {
             drop(registry);
             drop(drivers.into_boxes());
             eprintln!(rt; "no engine was made: {why:?}")
+        }
+    }
+}
+
+/// Makes the list of drivers and what is over it.
+fn run_drivers(
+    rt: &HostRuntime,
+    registry: Registry,
+    boxes: Vec<Box<dyn Driver>>,
+) -> io::Result<()> {
+    match Drivers::new(boxes) {
+        Ok(drivers) => run_engine(rt, registry, drivers),
+        Err((why, boxes)) => {
+            drop(registry);
+            drop(boxes);
+            eprintln!(rt; "the drivers were refused: {why:?}")
+        }
+    }
+}
+
+/// Makes the driver, registers what scripts may ask of it, and runs the script.
+fn run(rt: &HostRuntime) -> io::Result<()> {
+    let alloc = rt.alloc();
+    let mut boxes: Vec<Box<dyn Driver>> = Vec::new(alloc);
+    boxes.push(Box::new(alloc, Doors::new(alloc))?)?;
+    let mut registry = Registry::new(alloc);
+    match register(&mut registry) {
+        Ok(()) => run_drivers(rt, registry, boxes),
+        Err(_) => {
+            drop(registry);
+            drop(boxes);
+            eprintln!(rt; "a registration was refused")
         }
     }
 }

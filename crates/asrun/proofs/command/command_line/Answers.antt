@@ -9,19 +9,19 @@ use Rattle.asrun.proofs.command.command_line.Goals as goal
 pub returns : goal.returns
 returns c =
     let profile_is : rule_of c.help.result ≡ profile_rule =
-    ap rule_of c.help.ensures ∙ ap rule_of c.required-profile.ensures
+    ap rule_of c.help.ensures ∙ ap rule_of c.required.ensures
     ∙ ap (λ (a : Arg). rule_of (record a { required = true })) c.long.ensures
-    ∙ ap (λ (r : Rule). record r { long = Some (codes "profile"); required = true }) c.new.ensures.rule in
+    ∙ ap (λ (r : Rule). record r { long = Some (codes "profile"); required = true }) c.new-2.ensures.rule in
     let local : c.help.result.global ≡ false =
-    ap (λ (a : Arg). a.global) c.help.ensures ∙ ap (λ (a : Arg). a.global) c.required-profile.ensures ∙ ap (λ (a : Arg). a.global) c.long.ensures ∙ c.new.ensures.optional.1 in
+    ap (λ (a : Arg). a.global) c.help.ensures ∙ ap (λ (a : Arg). a.global) c.required.ensures ∙ ap (λ (a : Arg). a.global) c.long.ensures ∙ c.new-2.ensures.optional.1 in
     let session_is : rule_of c.help-2.result ≡ session_rule =
-    ap rule_of c.help-2.ensures ∙ ap rule_of c.required-session.ensures
+    ap rule_of c.help-2.ensures ∙ ap rule_of c.required-2.ensures
     ∙ ap (λ (a : Arg). rule_of (record a { required = true })) c.long-2.ensures
-    ∙ ap (λ (r : Rule). record r { long = Some (codes "session"); required = true }) c.new-2.ensures.rule in
+    ∙ ap (λ (r : Rule). record r { long = Some (codes "session"); required = true }) c.new-3.ensures.rule in
     let budget_is : rule_of c.help-3.result ≡ budget_rule = search rules in
     let trace_is : rule_of c.help-4.result ≡ trace_rule = search rules in
     let told : app_of c.after_help.result ≡ with_version (new_app (codes "asrun")) =
-    ap app_of_fields c.after_help.ensures ∙ ap app_of_fields c.about.ensures ∙ ap app_of_fields c.version.ensures ∙ ap with_version c.new-5.ensures.app in
+    ap app_of_fields c.after_help.ensures ∙ ap app_of_fields c.about.ensures ∙ ap app_of_fields c.version.ensures ∙ ap with_version c.new.ensures.app in
     let first : app_of c.in_ok-arg.field-0 ≡ with_rule (with_version (new_app (codes "asrun"))) profile_rule =
     c.in_ok-arg.ensures.shape local ∙ ap₂ with_rule told profile_is in
     let second : app_of c.in_ok-arg-2.field-0 ≡ with_rule (with_rule (with_version (new_app (codes "asrun"))) profile_rule) session_rule =
