@@ -23,3 +23,4 @@ pub mod TypedModules
 pub mod TypedRuns
 pub mod TypedSteps
 pub mod TypedTurns
+pub mod TypedAsMeant

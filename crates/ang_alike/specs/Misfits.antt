@@ -1,6 +1,6 @@
 -- A command once more, where a run may end with a fault where it meets a misfit, and that this makes no difference (docs/CLAIMS.md, "What a script means"). A
 -- misfit is a value of another kind than what it meets wants, or a place that is not there.
-use Rattle.std.specs.Prelude.{ℕ, false, true, List, [], ◌∷◌, reverse, Option, Some, None, if◌then◌else◌, slice_get, slice_index_or}
+use Rattle.std.specs.Prelude.{◌≡◌, ℕ, false, true, List, [], ◌∷◌, reverse, Option, Some, None, if◌then◌else◌, slice_get, slice_index_or}
 use Rattle.std.specs.List.{list_any}
 use Rattle.ang_kinds.specs.declared.error.Denial.{Denial}
 use Rattle.ang_kinds.specs.declared.value.Value.{Value}
@@ -13,7 +13,7 @@ use Rattle.ang_meaning.specs.Results.{Reply as RunReply}
 use Rattle.ang_source.specs.Meaning.{nothing, codes_in, routine}
 use Rattle.ang_source_typed.specs.Types.{TypedModule, Modules, IsGood}
 use Rattle.ang_source_typed.specs.Runs.{IsTypedSetting}
-use Rattle.ang_source_typed.specs.Guarded.{Guard, misfits}
+use Rattle.ang_source_typed.specs.Guarded.{Guard, AsMeant, misfits}
 use Rattle.ang_source_typed.specs.Guarded as guarded
 use Rattle.ang_check_laws.specs.Registered.{RegistryCall, after_calls}
 use Rattle.ang_check_laws.specs.Registered as registry
@@ -127,12 +127,16 @@ pub record IsTypedBetween (w : World) : Type 0 where
 abbrev pub list_of : List RegistryCall → Grouped
 list_of calls = grouped (after_calls registry.nothing calls)
 
+-- Where a misfit does what the meaning says, a command whose runs are guarded is the command. So what is said of those is said of the engine's.
+abbrev pub GuardsChangeNothing : Type 0
+GuardsChangeNothing = (R : Grouped) (w : World) (c : Command) (inputs : List Input) → step AsMeant R w c inputs ≡ engine.step R w c inputs
+
 -- Commands in turn over a registry's list have the replies, and lead through the worlds, that they would have if each run ended with a fault at the first misfit
 -- that it meets, whatever fault. So no run meets one.
 abbrev pub MisfitsDoNotMatter : Type 0
 MisfitsDoNotMatter = (y : Guard) (calls : List RegistryCall) (cs : List BoundedCommand) (rs : List Reply) (v : World)
     → InTurn Takes (list_of calls) no_modules cs rs v → InTurn (GuardedTakes y) (list_of calls) no_modules cs rs v
 
--- After each of them all is typed: no live object loses its class, whatever was built anew, bound, discarded or removed since it was made.
+-- After each of them all is typed: live objects are of classes that fit all places that hold them, whatever was built anew, bound, discarded or removed since.
 abbrev pub AllStayTyped : Type 0
 AllStayTyped = (calls : List RegistryCall) (cs : List BoundedCommand) (rs : List Reply) (v : World) → InTurn Takes (list_of calls) no_modules cs rs v → IsTypedBetween v

@@ -8,7 +8,7 @@ ghost use Rattle.ang_typed.specs.Typed.{Program};
 ghost use Rattle.ang_meaning.specs.Environment.{Environment};
 ghost use Rattle.ang_source.specs.Meaning.{Codes};
 ghost use Rattle.ang_alike.specs.SourcesAlike.{AreSoundSources, AreAlikeInRuns};
-ghost use Rattle.ang_alike.specs.Misfits.{AllStayTyped, MisfitsDoNotMatter};
+ghost use Rattle.ang_alike.specs.Misfits.{AllStayTyped, GuardsChangeNothing, MisfitsDoNotMatter};
 ghost use Rattle.ang_alike.specs.Read.{RepliesTell};
 ghost use Rattle.ang_alike.specs.Alike.{HiddenDoesNotMatter, AnswersDecide, ToldAlikeReplyAlike, ToldAlikeReplySame, UnrefusedReplyAlike, UnrefusedReplySame};
 
@@ -58,9 +58,11 @@ pub fn replies_tell()
 
 /// No run of a command meets a misfit: a value of another kind than what it meets wants, or a place that is not there. For commands
 /// in turn have the replies that they would have if each run ended with a fault at the first misfit that it meets, whatever fault.
-/// After each command all objects and globals are typed, whatever was built anew, bound, discarded or removed.
-#[tactic(auto, using(crate::proofs::TypedTurns::misfits_do_not_matter, crate::proofs::TypedTurns::all_stay_typed))]
+/// Where a misfit does what the meaning says, such a command is the engine's own. After each command all objects and globals are
+/// typed, whatever was built anew, bound, discarded or removed.
+#[tactic(auto, using(crate::proofs::TypedAsMeant::guards_change_nothing, crate::proofs::TypedTurns::misfits_do_not_matter, crate::proofs::TypedTurns::all_stay_typed))]
 pub fn no_run_meets_a_misfit()
+    ensures unguarded { GuardsChangeNothing }
     ensures replies { MisfitsDoNotMatter }
     ensures typed { AllStayTyped }
 {}

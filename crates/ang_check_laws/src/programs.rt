@@ -7,7 +7,7 @@ ghost use Rattle.ang_check_laws.specs.Typed.{TypesGoUp, ExpressionsAreTyped, Sta
 ghost use Rattle.ang_check_laws.specs.Typed.{FunctionsAreTyped, MethodsAreTyped, ConstructorsAreTyped, InitializersAreTyped};
 ghost use Rattle.ang_check_laws.specs.Typed.{ProgramsAreTyped, ProgramIsTyped};
 
-/// The program of a build without errors is typed: each expression gives a value of the type that is wanted where it stands,
+/// The program of a build without errors is typed: each expression gives a value of the kind that is wanted where it stands,
 /// each class has the fields and the methods of what stands above it, and each body ends as its function's result wants.
 pub fn program_is_typed()
     ensures each { ProgramIsTyped }
