@@ -7,7 +7,7 @@ ghost use Rattle.ang_check_contest.specs.Scores.{in_front, ranks_if};
 ghost use Rattle.ang_check_contest.specs.Told as spec;
 
 use ang_kinds::Pass;
-use ang_types::{ArgType, Lineage, rank_of_argument};
+use ang_types::{ArgType, Lineage, push_ranks, rank_of_argument};
 use std::alloc::{AllocError, Global};
 use std::marker::Model;
 
@@ -70,9 +70,7 @@ fn ranks_of_argument(
     let mut row = Vec::with_capacity(alloc, kinds.len().saturating_add(2))?;
     row.push(rank_of_argument(lineage, changed, Pass::RefInOut, argument))?;
     row.push(rank_of_argument(lineage, read_only, Pass::RefInOut, argument))?;
-    for kind in kinds {
-        row.push(rank_of_argument(lineage, kind.0, kind.1, argument))?;
-    }
+    push_ranks(lineage, kinds, argument, &mut row)?;
     Ok(row)
 }
 

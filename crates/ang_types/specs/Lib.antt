@@ -5,3 +5,4 @@ pub mod Overloads
 pub mod Best
 pub mod Rivals
 pub mod Refusals
+pub mod Rows

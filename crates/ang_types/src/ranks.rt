@@ -95,7 +95,7 @@ fn rank_of_enumeration(from: u32, to: u32) -> Option<u8>
     None
 }
 
-fn rank_of_const(from: bool, to: bool) -> Option<u8>
+pub(crate) fn rank_of_const(from: bool, to: bool) -> Option<u8>
     ensures exact { result ≡ const_rank from to }
 {
     match (from, to) {
@@ -105,7 +105,7 @@ fn rank_of_const(from: bool, to: bool) -> Option<u8>
     }
 }
 
-fn greatest_of(form: u8, constness: Option<u8>, class: Option<u8>) -> Option<u8>
+pub(crate) fn greatest_of(form: u8, constness: Option<u8>, class: Option<u8>) -> Option<u8>
     ensures exact { result ≡ greatest form constness class }
 {
     Some(form.max(constness?.max(class?)))
