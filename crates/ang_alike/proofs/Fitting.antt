@@ -31,7 +31,8 @@ use Rattle.ang_meaning.proofs.AlikeOperations.{value_renamed}
 use Rattle.ang_source.specs.Meaning.{routine}
 use Rattle.ang_engine_build.specs.Named.{HasNamesOf}
 use Rattle.ang_engine_build.proofs.Programs.{program-named}
-use Rattle.ang_engine_call.specs.Calls.{is_callable, primitive_of, plain_slot, arguments_of, arguments_for, argument_of, in_front, result_of}
+use Rattle.ang_engine_call.specs.Calls.{is_callable, plain_slot, arguments_of, arguments_for, argument_of, in_front, result_of}
+use Rattle.ang_types.specs.ArgTypes.{primitive_of}
 use Rattle.ang_engine_call.specs.Named.{function_named_by}
 use Rattle.ang_engine_modules.specs.Modules.{Module, module_at, LinkFits, TakesSoMany}
 use Rattle.ang_engine_modules.specs.declared.reply.Refusal.{Refusal}

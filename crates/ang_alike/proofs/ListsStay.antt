@@ -20,7 +20,8 @@ use Rattle.ang_meaning.specs.declared.routine.Passing.{Passing}
 use Rattle.ang_meaning.specs.declared.routine.Spot.{Spot}
 use Rattle.ang_meaning.specs.declared.routine.Spot.TheVariants as spot
 use Rattle.ang_meaning.specs.declared.routine.Target.{Target}
-use Rattle.ang_meaning.specs.Numbers.{Changed, Into, Never, is_signed}
+use Rattle.ang_kinds.specs.Primitives.{is_signed}
+use Rattle.ang_meaning.specs.Numbers.{Changed, Into, Never}
 use Rattle.ang_meaning.specs.World.{World, Tried, Yes, No, or_else, hold, give, memory_step}
 use Rattle.ang_meaning.specs.Environment.{Environment, Found, Enters, Misses, target, has_objects, params_of}
 use Rattle.ang_meaning.specs.Hosts.{Done, Fine, Fails}

@@ -8,6 +8,7 @@ use Rattle.ang_tree.specs.Stmt.{Every}
 use Rattle.ang_view.specs.Registration.{RegistrationList}
 use Rattle.ang_types.specs.declared.arg_type.ArgType.{ArgType}
 use Rattle.ang_types.specs.declared.arg_type.ArgType.TheVariants as type
+use Rattle.ang_types.specs.ArgTypes.{primitive_of}
 use Rattle.ang_typed.specs.Typed as t
 use Rattle.ang_names_known.specs.declared.names.ScriptFunction.{ScriptFunction}
 use Rattle.ang_names_known.specs.declared.names.ScriptParameter.{ScriptParameter}
@@ -29,7 +30,7 @@ use Rattle.ang_source_typed.specs.Guarded as guarded
 use Rattle.ang_source_typed.proofs.Values.{Leads, leads_then, leads_world, give_leads, give_all_leads}
 use Rattle.ang_source_typed.proofs.Bodies.{calls_meet_no_misfit}
 use Rattle.ang_source_typed.proofs.Initializers.{initializers_meet_no_misfit}
-use Rattle.ang_engine_call.specs.Calls.{primitive_of, plain_slot, argument_of, arguments_for, arguments_of, in_front}
+use Rattle.ang_engine_call.specs.Calls.{plain_slot, argument_of, arguments_for, arguments_of, in_front}
 use Rattle.ang_engine_modules.specs.Modules.{module_at, trees_of}
 use Rattle.ang_engine_modules.specs.Executed.{setting_for, routines_from, initializers_of}
 use Rattle.ang_engine_modules.specs.Executed as executed

@@ -6,7 +6,7 @@ use Rattle.std.proofs.lemmas.Option.{same_Some}
 use Rattle.ang_types.specs.declared.arg_type.ArgType.{ArgType}
 use Rattle.ang_types.specs.declared.candidate.Candidate.{Candidate}
 use Rattle.ang_types.specs.Best.{best_of}
-use Rattle.ang_types.specs.Overloads.{Params, params_at, params_in, rank_at, IsViable, IsLess, IsBetter, IsViableAt, IsBest}
+use Rattle.ang_types.specs.Overloads.{Params, params_at, rank_at, IsViable, IsLess, IsBetter, IsViableAt, IsBest}
 use Rattle.ang_types.specs.Ranks.{Ancestors, argument_rank}
 use Rattle.ang_types.specs.Rivals.{IsAtMost}
 use Rattle.ang_types.proofs.BestLaws.{best_of-says}

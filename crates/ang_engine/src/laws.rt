@@ -1,11 +1,13 @@
 //! Laws of the definitions that the contracts of `Engine` speak of, each the contract of a function that does
-//! nothing. They state a theorem for readers, and no program calls them.
-ghost use Rattle.std.specs.Prelude.{◌≡◌, ℕ, List, false};
+//! nothing, and one of `Engine` itself. They state a theorem for readers, and no program calls them.
+ghost use Rattle.std.specs.Prelude.{◌≡◌, ℕ, List, false, IfOk};
 ghost use Rattle.std.specs.List.{AllZip, list_any};
 ghost use Rattle.ang_view.specs.declared.group.Group.{Group};
 ghost use Rattle.ang_view.specs.Groups.{Grouped, is_named_outside, left_outside};
 ghost use Rattle.ang_view.specs.Only.{IsWithin, only};
 ghost use Rattle.ang_view.specs.Registration.{RegistrationList};
+ghost use Rattle.ang_host.specs.Boxes.{members};
+ghost use Rattle.ang_host.specs.Members.{states_of, AreFresh};
 ghost use Rattle.ang_host.specs.declared.event.HostEvent.{HostEvent};
 ghost use Rattle.ang_meaning.specs.World.{Input, World as RunWorld};
 ghost use Rattle.ang_engine_modules.specs.Loaded.{modules_of};
@@ -20,6 +22,35 @@ ghost use Rattle.ang_engine_modules.specs.Keeping.{keeps_group, place_keeps};
 ghost use Rattle.ang_engine.specs.Groups.{AllStand, Removed, StepStands, removal, uses_group};
 ghost use Rattle.ang_engine.specs.Sound.{AreSoundModules, HaveDrivers, IsSoundPlace};
 ghost use Rattle.ang_engine.specs.Step.{IsEntitled, step};
+
+use crate::engine::Engine;
+use crate::refused::NewRefused;
+use ang_engine_modules::Command;
+use ang_host::{Driver, Drivers};
+use ang_registry::Registry;
+use std::alloc::Global;
+
+/// Who begins with idle drivers meets whatever `Engine::apply` and `Engine::discard` ask, with any commands, and has idle
+/// drivers again. So `IsSound`, which they ask and promise, need not be read: `Engine::new` gives it, and each command keeps it.
+pub fn commands_in_turn(
+    alloc: Global,
+    registry: Registry,
+    drivers: Drivers,
+    commands: Vec<Command>,
+) -> Result<Vec<Box<dyn Driver>>, NewRefused>
+    requires fresh { AreFresh (states_of ⟦<dyn Driver as Driver>⟧ (members drivers)) }
+    ensures fresh { IfOk result
+        (λ boxes. AreFresh (states_of ⟦<dyn Driver as Driver>⟧ boxes.items)) }
+{
+    let mut engine = match Engine::new(alloc, registry, drivers) {
+        Ok(engine) => engine,
+        Err(refused) => return Err(refused),
+    };
+    for command in commands {
+        drop(engine.apply(command));
+    }
+    Ok(engine.discard())
+}
 
 /// Where a value is given up, the ends of host objects are listed and nothing else: no host call is made. The
 /// same holds of all that is listed where an engine ends, which is what the drivers follow in

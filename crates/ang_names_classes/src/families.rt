@@ -1,5 +1,6 @@
 //! The classes and interfaces of a build, with what stands above each.
 ghost use Rattle.std.specs.Prelude.{◌≡◌, ◌≤◌, ◌<◌, [], length, slice_get, IfOk};
+ghost use Rattle.std.specs.Option.{option_map_or};
 ghost use Rattle.ang_names_graph.specs.Graphs as graphs;
 ghost use Rattle.ang_names_graph.specs.Graphs.{leads};
 ghost use Rattle.ang_names_graph.specs.Tables.{Shows};
@@ -121,7 +122,8 @@ fn rank_of(
 /// How many fields the class or interface of this number declares itself.
 fn field_count_at(families: &[Declaring<'_, '_>], number: usize) -> usize
     ensures exact { (E : spaces.Space) →
-        result ≡ length (hierarchy.field_types_in E (slice_get families.now number)) }
+        result
+        ≡ length (option_map_or (hierarchy.field_types E) (slice_get families.now number) []) }
 {
     match families.get(number) {
         None => 0,

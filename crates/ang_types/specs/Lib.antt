@@ -1,3 +1,4 @@
+pub mod ArgTypes
 pub mod Integers
 pub mod Marks
 pub mod Ranks
