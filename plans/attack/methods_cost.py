@@ -1,0 +1,2 @@
+# how often each
+import re
