@@ -6,12 +6,16 @@ those of bench/classes, which have classes of their own, with those of bench/obj
 bench/imports, which import functions of other modules. The program lists and prints what is asked of the host, which is in its
 seconds.
 
-    python3 bench/machine.py ASRUN [--original MACHINE] [--modes plain,bare,counted,listed] [--rounds N] [--check] [SCRIPT ...]
+    python3 bench/machine.py ASRUN [--original MACHINE] [--modes plain,bare,counted,listed] [--unheard BENCH_PROGRAMS]
+        [--rounds N] [--check] [SCRIPT ...]
 
 ASRUN is the executable of crates/asrun and MACHINE that of bench/original/machine.cpp, whose modes are named there. A round runs
 each once, one after the other, and the quickest of N rounds counts (5, if left out). Seconds are processor time. Those of the
 program are the time of a session that builds and calls, less that of a session that only builds; those of the original are taken
 around the call. Each answer is compared with the one that the script's head states.
+
+With --unheard, the executable of crates/bench_programs, scripts that ask the host have a second line: what they take where events
+are only counted and nothing is listed or printed, as in the original but in its mode `listed`.
 
 --check measures nothing: it tells whether a script runs with the ticks that its head states, and with one less does not.
 
@@ -27,7 +31,7 @@ import tempfile
 from dataclasses import dataclass
 from pathlib import Path
 
-from processes import run_session, write
+from processes import lines_of, processor_seconds, run_session, write
 
 HEAD = re.compile(r"// ticks (\d+)\n// answer (-?\d+)\n(?:// events (\d+)\n)?")
 IMPORT = re.compile(r'^import (.+) from "(\w+)";$', re.MULTILINE)
@@ -65,9 +69,11 @@ class Script:
 
 @dataclass
 class Figures:
-    """Seconds of the quickest rounds: of the program, and of the original engine in each mode."""
+    """Seconds of the quickest rounds: of the program, of it with events only counted, where that was measured, and of the original
+    engine in each mode."""
 
     ours: float
+    unheard: float | None
     original: dict
 
 
@@ -140,6 +146,25 @@ class Program:
         return self.seconds(commands + more, lines + outcomes, events)
 
 
+class Unheard:
+    """A program of this project that runs a script and only counts its events."""
+
+    def __init__(self, path, folder):
+        self.path, self.folder = path, folder
+
+    def seconds(self, words, expected):
+        printed = f"{self.folder}/unheard"
+        seconds = processor_seconds([self.path, "script", *words], printed)
+        if [line.split(": ")[-1] for line in lines_of(printed)] != expected:
+            raise Refused("with events only counted it prints " + " / ".join(lines_of(printed)))
+        return seconds
+
+    def call(self, script):
+        """The processor time of its `main`."""
+        called = self.seconds([str(script.path), str(MOST_TICKS)], ["ok %d" % script.answer])
+        return called - self.seconds([str(script.path)], [])
+
+
 class Original:
     """The original engine, by the program of bench/original/machine.cpp."""
 
@@ -154,15 +179,18 @@ class Original:
         return float(done.stdout)
 
 
-def measured(script, program, original, modes, rounds):
-    builds, calls = [], []
+def measured(script, program, unheard, original, modes, rounds):
+    builds, calls, counted = [], [], []
     others = {mode: [] for mode in modes}
     for _ in range(rounds):
         builds.append(program.build(script))
         calls.append(program.build_and_call(script, MOST_TICKS, "ok %d" % script.answer, script.events))
+        if unheard and script.events:
+            counted.append(unheard.call(script))
         for mode in modes:
             others[mode].append(original.seconds(script, mode))
-    return Figures(min(calls) - min(builds), {mode: min(taken) for mode, taken in others.items()})
+    least = {mode: min(taken) for mode, taken in others.items()}
+    return Figures(min(calls) - min(builds), min(counted, default=None), least)
 
 
 def check(script, program):
@@ -180,9 +208,16 @@ def heading(modes):
 def line_of(script, figures):
     if figures.ours <= 0:
         raise Refused("the call takes no time that could be measured")
-    speed = script.ticks / figures.ours / 1e6
-    line = "%-12s %12d %16.1f %8.3f" % (script.name, script.ticks, speed, figures.ours)
-    return line + "".join(" %8.3f %6.2f" % (taken, taken / figures.ours) for taken in figures.original.values())
+    line = figures_of(script.name, script.ticks, figures.ours, figures.original)
+    if figures.unheard is None:
+        return line
+    others = {mode: taken for mode, taken in figures.original.items() if mode != "listed"}
+    return line + "\n" + figures_of("  unheard", script.ticks, figures.unheard, others)
+
+
+def figures_of(name, ticks, seconds, original):
+    line = "%-12s %12d %16.1f %8.3f" % (name, ticks, ticks / seconds / 1e6, seconds)
+    return line + "".join(" %8.3f %6.2f" % (taken, taken / seconds) for taken in original.values())
 
 
 def geometric_mean(ratios):
@@ -207,9 +242,9 @@ def each_of(scripts, act):
     return answers, refused
 
 
-def measure_all(scripts, program, original, modes, rounds):
+def measure_all(scripts, program, unheard, original, modes, rounds):
     def measure(script):
-        figures = measured(script, program, original, modes, rounds)
+        figures = measured(script, program, unheard, original, modes, rounds)
         print(line_of(script, figures))
         return figures
 
@@ -225,6 +260,7 @@ def options():
     reader.add_argument("asrun")
     reader.add_argument("--original")
     reader.add_argument("--modes")
+    reader.add_argument("--unheard", metavar="BENCH_PROGRAMS")
     reader.add_argument("--rounds", type=int, default=5)
     reader.add_argument("--check", action="store_true")
     reader.add_argument("scripts", nargs="*", type=Path)
@@ -252,7 +288,8 @@ def act_on(scripts, program, chosen):
     if chosen.check:
         _, refused = each_of(scripts, lambda script: check(script, program))
         return refused
-    return measure_all(scripts, program, Original(chosen.original), modes_of(scripts, chosen), chosen.rounds)
+    unheard = Unheard(chosen.unheard, program.folder) if chosen.unheard else None
+    return measure_all(scripts, program, unheard, Original(chosen.original), modes_of(scripts, chosen), chosen.rounds)
 
 
 def main():

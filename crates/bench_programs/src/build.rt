@@ -246,7 +246,7 @@ fn measure_text(
     measure_builds(rt, registry, name, text, builds)
 }
 
-fn read_file(rt: &HostRuntime, path: &str, text: &mut Vec<u8>) -> io::Result<()> {
+pub(crate) fn read_file(rt: &HostRuntime, path: &str, text: &mut Vec<u8>) -> io::Result<()> {
     let _ = File::open(rt, path)?.read_to_end(text)?;
     Ok(())
 }

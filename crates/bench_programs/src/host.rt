@@ -5,6 +5,7 @@ ghost use Rattle.ang_engine.specs.Sound.{IsSound};
 ghost use Rattle.ang_host.specs.Boxes.{members};
 ghost use Rattle.ang_host.specs.Members.{AreFresh, states_of};
 
+use crate::script::count_script;
 use crate::show_use;
 use ang_drivers::Counter;
 use ang_engine::{Command, Engine, Held, Limits, NewRefused, Outcome, Reply, Unheard};
@@ -48,8 +49,8 @@ fn new_module(alloc: Global) -> Result<Command, AllocError> {
     Ok(Command::NewModule { name, mask })
 }
 
-fn add_section(alloc: Global) -> Result<Command, AllocError> {
-    let (name, text) = (bytes(alloc, BENCH)?, bytes(alloc, SCRIPT)?);
+fn add_section(alloc: Global, script: &str) -> Result<Command, AllocError> {
+    let (name, text) = (bytes(alloc, BENCH)?, bytes(alloc, script)?);
     Ok(Command::AddSection { name, text })
 }
 
@@ -79,13 +80,13 @@ fn apply_unheard(
     Ok(())
 }
 
-/// Builds the script.
-fn build(alloc: Global, engine: &mut Engine) -> Result<(), AllocError>
+/// Builds a script.
+pub(crate) fn build(alloc: Global, engine: &mut Engine, script: &str) -> Result<(), AllocError>
     requires sound { IsSound ⟦<dyn Driver as Driver>⟧ engine.old }
     ensures sound { IsSound ⟦<dyn Driver as Driver>⟧ engine.new }
 {
     apply(engine, new_module(alloc))?;
-    apply(engine, add_section(alloc))?;
+    apply(engine, add_section(alloc, script))?;
     apply(engine, build_module(alloc))
 }
 
@@ -94,14 +95,24 @@ fn number(alloc: Global, count: u32) -> Result<List<Value>, AllocError> {
     Ok(List::from_vec(args))
 }
 
-/// The call that asks so many times.
-fn bumps(alloc: Global, count: u32) -> Result<Command, AllocError> {
+/// A call of the script's function.
+pub(crate) fn call_of(
+    alloc: Global,
+    decl: &str,
+    args: List<Value>,
+    budget: u64,
+) -> Result<Command, AllocError> {
     Ok(Command::Call {
         name: bytes(alloc, BENCH)?,
-        decl: bytes(alloc, "int64 bumps(int64)")?,
-        args: number(alloc, count)?,
-        budget: TICKS,
+        decl: bytes(alloc, decl)?,
+        args,
+        budget,
     })
+}
+
+/// The call that asks so many times.
+fn bumps(alloc: Global, count: u32) -> Result<Command, AllocError> {
+    call_of(alloc, "int64 bumps(int64)", number(alloc, count)?, TICKS)
 }
 
 fn outcome_text(alloc: Global, outcome: Outcome) -> Result<Vec<u8>, AllocError> {
@@ -130,12 +141,15 @@ fn heard(alloc: Global, engine: &mut Engine, count: u32) -> Result<(usize, Vec<u
 
 /// How many host calls and ends are counted.
 #[derive(Clone, Copy)]
-struct Counts {
-    asked: usize,
-    ended: usize,
+pub(crate) struct Counts {
+    pub(crate) asked: usize,
+    pub(crate) ended: usize,
 }
 
-fn text_counted(alloc: Global, answer: Unheard) -> Result<(Counts, Vec<u8>), AllocError> {
+pub(crate) fn text_counted(
+    alloc: Global,
+    answer: Unheard,
+) -> Result<(Counts, Vec<u8>), AllocError> {
     let (asked, ended) = (answer.asked, answer.ended);
     match outcome_text(alloc, answer.outcome) {
         Ok(text) => Ok((Counts { asked, ended }, text)),
@@ -231,7 +245,7 @@ fn run_script(rt: &HostRuntime, engine: &mut Engine, count: Option<u32>) -> io::
     requires sound { IsSound ⟦<dyn Driver as Driver>⟧ engine.old }
     ensures sound { IsSound ⟦<dyn Driver as Driver>⟧ engine.new }
 {
-    build(rt.alloc(), engine)?;
+    build(rt.alloc(), engine, SCRIPT)?;
     let Some(count) = count else {
         return call_each(rt, engine);
     };
@@ -239,12 +253,31 @@ fn run_script(rt: &HostRuntime, engine: &mut Engine, count: Option<u32>) -> io::
     measure_unheard(rt, engine, count)
 }
 
-/// Runs the script on an engine, and discards that at the end.
-fn run_on(rt: &HostRuntime, engine: Engine, count: Option<u32>) -> io::Result<()>
+/// What is done with an engine.
+#[derive(Clone, Copy)]
+pub(crate) enum Job<'a> {
+    /// The same calls twice, or the time of each where there is a count.
+    Bumps(Option<u32>),
+    /// Another script is built, and its `main` called where there is a budget.
+    Script(&'a str, Option<u64>),
+}
+
+fn do_job(rt: &HostRuntime, engine: &mut Engine, job: Job<'_>) -> io::Result<()>
+    requires sound { IsSound ⟦<dyn Driver as Driver>⟧ engine.old }
+    ensures sound { IsSound ⟦<dyn Driver as Driver>⟧ engine.new }
+{
+    match job {
+        Job::Bumps(count) => run_script(rt, engine, count),
+        Job::Script(script, budget) => count_script(rt, engine, script, budget),
+    }
+}
+
+/// Does a job with an engine, and discards that at the end.
+fn run_on(rt: &HostRuntime, engine: Engine, job: Job<'_>) -> io::Result<()>
     requires sound { IsSound ⟦<dyn Driver as Driver>⟧ engine }
 {
     let mut engine = engine;
-    let ended = run_script(rt, &mut engine, count);
+    let ended = do_job(rt, &mut engine, job);
     drop(engine.discard());
     ended
 }
@@ -261,28 +294,24 @@ fn end_refused(rt: &HostRuntime, refused: NewRefused) -> io::Result<()> {
 }
 
 /// Makes the engine of these drivers.
-fn run_with(
-    rt: &HostRuntime,
-    registry: Registry,
-    drivers: Drivers,
-    count: Option<u32>,
-) -> io::Result<()>
+fn run_with(rt: &HostRuntime, registry: Registry, drivers: Drivers, job: Job<'_>) -> io::Result<()>
     requires fresh { AreFresh (states_of ⟦<dyn Driver as Driver>⟧ (members drivers)) }
 {
     match Engine::new(rt.alloc(), registry, drivers) {
-        Ok(engine) => run_on(rt, engine, count),
+        Ok(engine) => run_on(rt, engine, job),
         Err(refused) => end_refused(rt, refused),
     }
 }
 
-fn run_over(
+/// Does a job with an engine of these boxes.
+pub(crate) fn run_over(
     rt: &HostRuntime,
     registry: Registry,
     boxes: Vec<Box<dyn Driver>>,
-    count: Option<u32>,
+    job: Job<'_>,
 ) -> io::Result<()> {
     match Drivers::new(boxes) {
-        Ok(drivers) => run_with(rt, registry, drivers, count),
+        Ok(drivers) => run_with(rt, registry, drivers, job),
         Err((why, _)) => eprintln!(rt; "the drivers were refused: {why:?}"),
     }
 }
@@ -295,7 +324,7 @@ fn run_count(rt: &HostRuntime, count: Option<u32>) -> io::Result<()> {
     if add_counters(&mut registry).is_err() {
         return eprintln!(rt; "a registration was refused");
     }
-    run_over(rt, registry, boxes, count)
+    run_over(rt, registry, boxes, Job::Bumps(count))
 }
 
 /// Takes the time of the calls that these words ask for. Without words compares what calls answer.

@@ -1,17 +1,21 @@
 //! Benchmarks: how fast sections are read and built, and what it takes a host to have events listed.
 //!
-//! `bench_programs build FILE TURNS [BUILDS]` and `bench_programs host COUNT` print figures. Without words the program
-//! does a small piece of each job, and prints what is the same in every run.
+//! `bench_programs build FILE TURNS [BUILDS]` and `bench_programs host COUNT` print figures, `bench_programs script FILE
+//! [BUDGET]` runs a script for others to measure. Without words the program does a small piece of the first two jobs, and
+//! prints what is the same in every run.
 #![tactic(auto)]
 
 mod build;
 mod host;
+mod script;
 
 use std::process::ExitCode;
 use std::{env, io};
 
 fn show_use(rt: &HostRuntime) -> io::Result<u8> {
-    eprintln!(rt; "bench_programs [build FILE TURNS [BUILDS] | host COUNT]")?;
+    eprintln!(rt;
+        "bench_programs [build FILE TURNS [BUILDS] | host COUNT | script FILE [BUDGET]]"
+    )?;
     Ok(2)
 }
 
@@ -30,6 +34,7 @@ fn obey(rt: &HostRuntime, words: &[String]) -> io::Result<u8> {
     match job.as_str() {
         "build" => build::run(rt, words),
         "host" => host::run(rt, words),
+        "script" => script::run(rt, words),
         _ => show_use(rt),
     }
 }
