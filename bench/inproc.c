@@ -3,7 +3,8 @@
        inproc ASREMOTE PROFILE [CALLS [ROUNDS]]
 
    PROFILE is a path, where the profile of both is written. In each round each row is done CALLS times (20,000), and the
-   time of one counts; prints the median of ROUNDS rounds (25) and the lower tenth, as a table. Then some rows are laid
+   time of one counts. A tenth as many go before, which don't count, so that no row begins cold behind those of the other
+   process; prints the median of ROUNDS rounds (25) and the lower tenth, as a table. Then some rows are laid
    beside others, by the median of what their quotient was in each round. bench/remote.py --library runs it. */
 #define _GNU_SOURCE
 #include "bustlebrick.h"
@@ -300,14 +301,16 @@ int main(int count, char **words)
     long calls = count > 3 ? atol(words[3]) : 20000, rounds = count > 4 ? atol(words[4]) : 25;
     if (count < 3 || calls < 1 || rounds < 1 || rounds > MOST_ROUNDS)
         fail("ASREMOTE PROFILE [CALLS [ROUNDS]]");
+    long warm = (calls + 9) / 10;
     bb_engine *engine = prepared(words[1], words[2]);
     for (long round = 0; round < rounds; round++)
         for (int row = 0; row < ROWS; row++) {
+            do_row(row, engine, warm);
             double before = now_us();
             do_row(row, engine, calls);
             times[row][round] = (now_us() - before) / (double)calls;
         }
-    if (asked != (uint64_t)(7 * calls * rounds))
+    if (asked != (uint64_t)(7 * (calls + warm) * rounds))
         fail("asks are missing");
     printf("%ld calls in each of %ld rounds, in microseconds, with a host in C (%s)\n\n", calls, rounds, bb_version());
     print_times(rounds);

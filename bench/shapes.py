@@ -292,6 +292,31 @@ def tables(s, classes, chain, fields, methods, same, wanted, interfaces, every, 
         s.add(f"{heading}{{}}")
 
 
+@shape(chain=(1, 250), span=(1, 250), many=(1, 4000), pool=(1, 250))
+def crowds(s, chain, span, many, pool):
+    """A chain of classes, the first of which have methods: names each of which so many of them have, by one or two handles."""
+    names = s.names(chain)
+    heads = [f"class {name}{f':{names[n - 1]}' if n else ''}{{" for n, name in enumerate(names)]
+    pool, span = min(pool, chain), min(span, chain)
+    bodies, room, count = [""] * chain, s.room() - sum(len(it) + 1 for it in heads), 0
+    while True:
+        word = s.name()
+        row = [f"void {word}({','.join(names[i] + '@' for i in handles_of(n, pool))}){{}}" for n in range(min(many, pool + pool**2))]
+        room -= sum(map(len, row))
+        if room < 0 or count + len(row) > 250 * span:
+            break
+        for text in row:
+            bodies[count // 250] += text
+            count += 1
+    for head, body in zip(heads, bodies):
+        s.add(f"{head}{body}}}")
+
+
+def handles_of(number, pool):
+    """The places of one class or two, that no other number has."""
+    return [number] if number < pool else digits(number - pool, pool, 2)
+
+
 # ---- expressions and statements
 
 TYPES = ["int8", "uint8", "bool", "int", "int64", "uint64", "H@", "uint16", "E"]

@@ -7,7 +7,9 @@ It begins at the contracts of `Engine::apply`, `Engine::discard` and `session`, 
 laws of a conversation; or at those that are named, each PLACE as `ang_engine/src/engine.rt:Engine::apply`. From there it goes name by name:
 to the definitions of specs/ that a clause cites, to those that they cite, and so on. Where one names a type of Rust, by `specs.declared` or
 in a function's head, it goes to the `struct` or `enum`, to the value that an `impl Model` gives it in contracts, and of a `trait` to all
-clauses. With `--by-laws` a parser that is a function stands for the law that says by a grammar what it gives. It prints
+clauses. With `--by-laws` a law stands for a definition of which it says what counts: by a grammar what a parser gives, by relations which
+candidate is picked, what a profile declares (not which one is refused), that places of statements mean nothing, that `IsSound` is met. It
+prints
 
 - each contract, with how many lines it reaches, and how many of them none before it does;
 - each file, crates as in crates.txt, and in a crate what is cited before what cites it, with how many lines of it are reached and, without
@@ -28,8 +30,17 @@ from cited import TOP, cited_by, crates, known, own_or_used, rust_file  # noqa: 
 
 CONTRACTS = ("ang_engine/src/engine.rt:Engine::apply", "ang_engine/src/engine.rt:Engine::discard", "asrun_session/src/whole.rt:session")
 CONVERSATION = ("asremote/src/conversation.rt:converse", "asremote/src/laws.rt:a_session_turn_by_turn", "asremote/src/laws.rt:numbers_stay")
-# What a law determines, by its place, so that the law can be read in its place.
-LAWS = {"ang_parse/specs/Answers.antt:script_of": "ang_parse/src/laws.rt:one_answer"}
+DECLARED = "declared_type_alone declared_property declared_method declared_function declared_factory".split()
+# What need not be read where a law is, by its place: the law says of it what counts.
+LAWS = {
+    "ang_parse/specs/Answers.antt:script_of": "ang_parse/src/laws.rt:one_answer",
+    **{f"ang_decl/specs/Parsed.antt:{name}": "ang_decl/src/laws.rt:one_answer" for name in DECLARED},
+    "ang_types/specs/Best.antt:best_of": "ang_types/src/laws.rt:best_says",
+    "ang_check_stmt/specs/Positions.antt:inner_positions": "ang_source/src/laws.rt:places_mean_nothing",
+    "ang_check/specs/Positions.antt:constructor_positions": "ang_source/src/laws.rt:places_mean_nothing",
+    "ang_engine/specs/Sound.antt:IsSound": "ang_alike/src/in_turn.rt:commands_in_turn",
+    "asrun_session/specs/Whole.antt:start_of": "asrun_session/src/laws.rt:starts_are_declared",
+}
 
 
 class Closure:

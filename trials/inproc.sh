@@ -12,7 +12,8 @@
 #                library prints what asrun prints, with the same status, by the callback, by steps, and with posts at once
 #     engines    texts that are no command, options and calls out of turn; wrong threads, and 8 threads with an engine each;
 #                engines in one another's callbacks, while a script waits; 10,000 engines with a script that waits; 400 cancels
-#                at random moments; timeouts; scripts that use up the memory of their engine; exceptions out of callbacks
+#                at random moments; timeouts; scripts that use up the memory of their engine; long lists of events; exceptions out of
+#                callbacks
 #     posts      functions that are posted, by the callback, by steps and many at once: in their order, and before what is
 #                asked after them
 #     growths    each growth of the heap is refused in turn, in each command of the examples
@@ -69,7 +70,7 @@ sessions() {
 
 engines() {
     built plain -O2
-    "$folder/plain/engines" forms threads waits many cancels timeouts memory || bad=1
+    "$folder/plain/engines" forms threads waits many cancels timeouts memory lists || bad=1
     "$folder/plain/throws" || bad=1
 }
 
@@ -110,7 +111,7 @@ checked() {
     prints "game.cpp, with sanitizers" clients/game.expected "$folder/sanitized/game_cpp"
     prints "game.c under valgrind" clients/game.expected $valgrind "$folder/watched/game_c"
     prints "game.cpp under valgrind" clients/game.expected $valgrind "$folder/watched/game_cpp"
-    "$folder/sanitized/engines" forms threads waits some cancels timeouts memory || bad=1
+    "$folder/sanitized/engines" forms threads waits some cancels timeouts memory lists || bad=1
     "$folder/sanitized/throws" || bad=1
     "$folder/sanitized/posts" || bad=1
     "$folder/sanitized/growths" crates/examples/data/objects.profile crates/examples/data/objects.session || bad=1

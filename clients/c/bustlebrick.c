@@ -120,6 +120,7 @@ static bb_state begin(bb_engine *engine, const struct piece *pieces, size_t coun
     engine->has_written = false;
     if (engine->line_is_lent)
         bb_leave_line(engine);
+    bb_leave_lists(engine);
     atomic_store_explicit(&engine->cancelled, false, memory_order_relaxed);
     engine->deadline = engine->timeout ? sum_of_times(bb_now(), engine->timeout) : 0;
     bb_run(engine);
@@ -333,6 +334,8 @@ bb_state bb_free(bb_engine *engine)
         return state;
     bb_unmap_stack(&engine->stack);
     free(engine->line);
+    for (size_t at = 0; at < LISTS; at++)
+        free(engine->lists[at].block);
     free(engine->batch);
     free(engine->output);
     free(engine);

@@ -204,11 +204,13 @@ bb_state bb_state_of(const bb_engine *engine);
    where the processor lacks what the object was built for (x86-64-v2). Before that 0. */
 int bb_status(const bb_engine *engine);
 
-/* The bytes of the heap that the engine has now, in blocks as malloc makes them; one of 136 bytes, which the library keeps
-   for the texts of lines, counts while one stands in it. Where there is a limit (memory_bytes), a growth above it is
-   refused, and that is want of memory in the command, as of bb_cancel. So that a command can be read whatever was used up
-   before it, each may take 64 KiB and eight times its bytes above what there was when it began, but never more than one
-   and a half of the limit; where it has not even these, the engine ends with the status 3. */
+/* The bytes of the heap that the engine has now, in blocks as malloc makes them. Blocks that the library keeps from one command
+   to the next count while something stands in them: one of 136 bytes for the texts of lines; and two for long lists, mostly those
+   of a command's events, of which what the list wanted counts. These two have 2 MiB at most, and a 32nd of memory_bytes. Where
+   there is a limit (memory_bytes), a growth above it is refused, and that is want of memory in the command, as of bb_cancel. So
+   that a command can be read whatever was used up before it, each may take 64 KiB and eight times its bytes above what there was
+   when it began, but never more than one and a half of the limit; where it has not even these, the engine ends with the
+   status 3. */
 size_t bb_memory_used(const bb_engine *engine);
 
 /* The bytes of its stack that are in memory, in whole pages: what was ever used of it. */

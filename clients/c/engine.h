@@ -11,6 +11,7 @@ enum {
     MOST_ARGUMENTS = 32,
     MOST_PIECES = 5,
     MOST_ANSWER = 64,       /* bytes of an answer's line */
+    LISTS = 2,              /* blocks for long lists: the events, and their arguments */
     MOST_FRONT = 64,        /* bytes of an ask's line in front of its values: two numbers of 32 bits, a key, some 20 more */
     MOST_COMMAND = 16777216 /* bytes of a command */
 };
@@ -77,6 +78,14 @@ struct bb_front {
     bb_ask ask;
 };
 
+/* A block for a long list of the program, which is kept when the program gives it back, so that the next command has it: that
+   of the events above all, for which the system would zero each page anew. */
+struct bb_list {
+    char *block; /* NULL for none */
+    size_t room;
+    size_t counted; /* the bytes that the program has of it, 0 where it has not got it */
+};
+
 struct bb_engine {
     struct bb_stack stack;
     enum bb_stop stop;
@@ -112,6 +121,7 @@ struct bb_engine {
     bool has_written;   /* the program, since the command began: an ask, a post or some of the reply */
     void *line;         /* a block for the text of a line, or NULL */
     bool line_is_lent;  /* whether the program has it */
+    struct bb_list lists[LISTS];
     atomic_bool cancelled;
     uint64_t timeout;  /* milliseconds of a command, 0 for no limit */
     uint64_t deadline; /* that of the command, as bb_now tells it; 0 for none */
@@ -127,8 +137,9 @@ void bb_run(bb_engine *engine);
 /* Tells the host the next thing, where it was told a post before. The program runs if there is no other post. */
 void bb_tell(bb_engine *engine);
 
-/* Leaves the line's block to the program, which keeps it: it is one as any other then. */
+/* Leaves the blocks to the program that it has kept of those for a line and for long lists: they are as any other then. */
 void bb_leave_line(bb_engine *engine);
+void bb_leave_lists(bb_engine *engine);
 
 /* Milliseconds from some moment on. */
 uint64_t bb_now(void);

@@ -23,6 +23,10 @@ enum { READING = 128 };
 /* The bytes of the line's block: what malloc gives where 128 and some are wanted. */
 enum { LINE = 136 };
 
+/* The least bytes of a long list; and the most of a block for one that is kept for the next command, which is no more than this
+   part of the engine's limit of memory either. */
+enum { LONG_LIST = 64 << 10, KEPT_LIST = 2 << 20, KEPT_PART = 32 };
+
 /* The bytes of posts that are kept for the host: with as many it is given them before the program goes on. */
 enum { MOST_POSTS = 64 << 10 };
 
@@ -182,6 +186,74 @@ struct tried bb_alloc(size_t bytes, size_t alignment)
     return (struct tried){true, line};
 }
 
+/* The list whose block this is, which the program has; or NULL. */
+static inline struct bb_list *list_with(bb_engine *engine, const void *block)
+{
+    for (size_t at = 0; at < LISTS; at++)
+        if (engine->lists[at].counted && engine->lists[at].block == block)
+            return &engine->lists[at];
+    return NULL;
+}
+
+/* A list whose block the program has not got: that with the largest block, where a command has written something. */
+static struct bb_list *free_list(bb_engine *engine)
+{
+    struct bb_list *found = NULL;
+    for (size_t at = 0; at < LISTS && engine->has_written; at++) {
+        struct bb_list *list = &engine->lists[at];
+        if (!list->counted && (!found || list->room > found->room))
+            found = list;
+    }
+    return found;
+}
+
+static struct tried lent(bb_engine *engine, struct bb_list *list, size_t used, size_t bytes)
+{
+    list->counted = bytes;
+    engine->memory_used = used + bytes;
+    return (struct tried){true, list->block};
+}
+
+/* Puts what stands in a block into the list's one, if that has room, or else makes the block that of the list. */
+static struct tried make_long(bb_engine *engine, struct bb_list *list, void *block, size_t used, size_t bytes)
+{
+    size_t has = malloc_usable_size(block);
+    if (list->room >= bytes) {
+        memcpy(list->block, block, has < bytes ? has : bytes);
+        free(block);
+        return lent(engine, list, used, bytes);
+    }
+    char *grown = realloc(block, bytes);
+    if (!grown)
+        return (struct tried){false, &nowhere};
+    free(list->block);
+    list->block = grown;
+    list->room = malloc_usable_size(grown);
+    return lent(engine, list, used, bytes);
+}
+
+/* The list's block with so many bytes. One that is to be smaller is the program's from then on. */
+static struct tried resized(bb_engine *engine, struct bb_list *list, size_t used, size_t bytes)
+{
+    if (list->counted <= bytes && bytes <= list->room)
+        return lent(engine, list, used, bytes);
+    char *block = realloc(list->block, bytes);
+    if (!block)
+        return (struct tried){false, &nowhere};
+    bool is_smaller = bytes < list->counted;
+    *list = is_smaller ? (struct bb_list){NULL, 0, 0} : (struct bb_list){block, malloc_usable_size(block), bytes};
+    engine->memory_used = used + (is_smaller ? malloc_usable_size(block) : bytes);
+    return (struct tried){true, block};
+}
+
+/* What is counted of a block that the program has. */
+static size_t counted_of(const bb_engine *engine, const struct bb_list *list, void *block)
+{
+    if (list)
+        return list->counted;
+    return is_line(engine, block) ? LINE : malloc_usable_size(block);
+}
+
 /* The block, which may move, with so many bytes. Where it is refused it stays as it was; and so it does where it has these,
    and not more than twice as many. */
 struct tried bb_realloc(void *block, size_t kept, size_t bytes, size_t alignment)
@@ -189,16 +261,32 @@ struct tried bb_realloc(void *block, size_t kept, size_t bytes, size_t alignment
     (void)kept;
     bb_engine *engine = now;
     bool was_line = is_line(engine, block);
-    size_t has = was_line ? LINE : malloc_usable_size(block), used = engine->memory_used - has;
+    struct bb_list *list = was_line ? NULL : list_with(engine, block);
+    size_t has = counted_of(engine, list, block), used = engine->memory_used - has;
     size_t size = bytes ? bytes : alignment;
     if (!is_granted(engine, used, size))
         return (struct tried){false, &nowhere};
+    if (list)
+        return resized(engine, list, used, size);
     if (size <= has && (was_line || has / 2 <= size))
         return (struct tried){true, block};
+    if (size >= LONG_LIST && !was_line && (list = free_list(engine)))
+        return make_long(engine, list, block, used, size);
     struct tried tried = told(engine, used, realloc(block, size));
     if (was_line && tried.ok)
         bb_leave_line(engine);
     return tried;
+}
+
+/* The program has given a list's block back, which is kept where it is not too large. */
+static void keep_list(bb_engine *engine, struct bb_list *list)
+{
+    engine->memory_used -= list->counted;
+    list->counted = 0;
+    if (list->room <= KEPT_LIST && list->room <= engine->memory_most / KEPT_PART)
+        return;
+    free(list->block);
+    *list = (struct bb_list){NULL, 0, 0};
 }
 
 void bb_dealloc(void *block)
@@ -209,8 +297,24 @@ void bb_dealloc(void *block)
         engine->memory_used -= LINE;
         return;
     }
+    struct bb_list *list = list_with(engine, block);
+    if (list) {
+        keep_list(engine, list);
+        return;
+    }
     engine->memory_used -= malloc_usable_size(block);
     free(block);
+}
+
+void bb_leave_lists(bb_engine *engine)
+{
+    for (size_t at = 0; at < LISTS; at++) {
+        struct bb_list *list = &engine->lists[at];
+        if (!list->counted)
+            continue;
+        engine->memory_used += list->room - list->counted;
+        *list = (struct bb_list){NULL, 0, 0};
+    }
 }
 
 void bb_leave_line(bb_engine *engine)

@@ -1,4 +1,4 @@
-/* Trials of forms, threads, waits, many engines, cancels, timeouts and limits of memory.
+/* Trials of forms, threads, waits, many engines, cancels, timeouts, limits of memory and long lists of events.
 
        engines PART ..
 
@@ -600,6 +600,52 @@ static void memory(void)
 
 /* ---- */
 
+/* ---- Long lists of events, whose blocks are kept from one command to the next */
+
+static void nothing_of(void *data, const bb_ask *ask, bb_answer *answer)
+{
+    (void)data;
+    (void)ask;
+    (void)answer;
+}
+
+/* Whether the reply has a line for each of so many calls, in their order, and then `ok`. */
+static bool lists_calls(const bb_engine *engine, int calls)
+{
+    size_t bytes;
+    const char *at = bb_reply(engine, &bytes), *end = at + bytes;
+    char line[64];
+    for (int call = 0; call < calls; call++) {
+        size_t length = (size_t)snprintf(line, sizeof line, "host m 0 0 - (%d) void\n", call);
+        if ((size_t)(end - at) < length || memcmp(at, line, length) != 0)
+            return false;
+        at += length;
+    }
+    return end - at == 3 && memcmp(at, "ok\n", 3) == 0;
+}
+
+static void lists(void)
+{
+    static const size_t limits[] = {0, 32 << 20, 500 << 20};
+    static const int calls[] = {20000, 20000, 3000, 20000, 90000, 10, 40000, 20000};
+    for (size_t limit = 0; limit < sizeof limits / sizeof *limits; limit++) {
+        bb_options it = options(nothing_of, NULL);
+        it.memory_bytes = limits[limit];
+        bb_engine *engine = bb_new(&it);
+        build(engine, script);
+        is_well(engine);
+        size_t used = bb_memory_used(engine);
+        for (size_t at = 0; at < sizeof calls / sizeof *calls; at++) {
+            char text[64];
+            snprintf(text, sizeof text, "call m (%d) void run(int64)", calls[at]);
+            is_right(say(engine, text) == BB_DONE && lists_calls(engine, calls[at]), "all calls are listed");
+            is_right(bb_memory_used(engine) == used, "as much is used as before");
+        }
+        bb_free(engine);
+    }
+    printf("lists: 24 commands listed 10 to 90,000 calls, by engines with and without a limit of memory\n");
+}
+
 int main(int count, char **words)
 {
     for (int at = 1; at < count; at++) {
@@ -620,6 +666,8 @@ int main(int count, char **words)
             timeouts();
         else if (strcmp(part, "memory") == 0)
             memory();
+        else if (strcmp(part, "lists") == 0)
+            lists();
         else
             is_right(false, part);
         fflush(stdout);

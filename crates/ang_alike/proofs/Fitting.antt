@@ -1,6 +1,6 @@
 -- What a binding and a call choose fits the modules.
 use Rattle.std.proofs.Common.{◌≡◌, ◌≤◌, ℕ, suc, List, [], ◌∷◌, ◌++◌, length, reverse, refl, sym, ap, ◌∙◌, subst, arith, Option, Some, None, map}
-use Rattle.std.specs.Prelude.{Bool, true, false, Result, Ok, Err, option_map, slice_get, slice_index_or, if◌then◌else◌}
+use Rattle.std.specs.Prelude.{Bool, true, false, Ok, option_map, slice_get, slice_index_or, if◌then◌else◌}
 use Rattle.std.proofs.lemmas.List.{length-map, reverse-append}
 use Rattle.ang_kinds.specs.declared.primitive.Primitive.{Primitive}
 use Rattle.ang_kinds.specs.declared.primitive.Primitive.TheVariants.{I8, I16, I32, I64, U8, U16, U32, U64, Bool as TruthType}
@@ -14,7 +14,6 @@ use Rattle.ang_typed.specs.declared.program.TypedParameter.{TypedParameter}
 use Rattle.ang_typed.specs.Typed as t
 use Rattle.ang_names_known.specs.declared.names.ScriptFunction.{ScriptFunction}
 use Rattle.ang_names_known.specs.declared.names.ScriptParameter.{ScriptParameter}
-use Rattle.ang_names_known.specs.Lookup.{same_call}
 use Rattle.ang_check.specs.Typing.{typed_parameter, typed_parameters}
 use Rattle.ang_check_sound.specs.Checked.{module_in}
 use Rattle.ang_meaning.specs.declared.host.HostValueType.TheVariants.{Plain as PlainType}
@@ -31,16 +30,17 @@ use Rattle.ang_meaning.proofs.AlikeOperations.{value_renamed}
 use Rattle.ang_source.specs.Meaning.{routine}
 use Rattle.ang_engine_build.specs.Named.{HasNamesOf}
 use Rattle.ang_engine_build.proofs.Programs.{program-named}
-use Rattle.ang_engine_call.specs.Calls.{is_callable, primitive_of, plain_slot, arguments_of, arguments_for, argument_of, in_front, result_of}
+use Rattle.ang_engine_call.specs.Calls.{is_callable, plain_slot, arguments_of, arguments_for, argument_of, in_front, result_of}
+use Rattle.ang_types.specs.ArgTypes.{primitive_of}
 use Rattle.ang_engine_call.specs.Named.{function_named_by}
 use Rattle.ang_engine_modules.specs.Modules.{Module, module_at, LinkFits, TakesSoMany}
-use Rattle.ang_engine_modules.specs.declared.reply.Refusal.{Refusal}
-use Rattle.ang_engine_modules.specs.declared.reply.Refusal.TheVariants.{NotCallable, SignatureDiffers}
+use Rattle.ang_engine_modules.specs.declared.reply.Refusal.TheVariants.{NotCallable}
 use Rattle.ang_engine_modules.specs.World.{Program, ModuleStates, module_in as state_in, built_in}
 use Rattle.ang_engine_modules.proofs.PlaceLists.{get-map, map-get, get-front}
-use Rattle.ang_engine.specs.Step.{link_to, link_to_number, link_of, Chosen, Not, with_arguments, of_function, of_number, choice_of}
+use Rattle.ang_engine.specs.Step.{link_of, Chosen, Not, with_arguments, of_function, of_number, choice_of}
 use Rattle.ang_alike.proofs.Linking.{bindable}
-use Rattle.ang_alike.proofs.Modules.{AreGood, at_places, tree_of, program_found, link_fits}
+use Rattle.ang_alike.proofs.ByNumber.{at_places, home_number}
+use Rattle.ang_alike.proofs.Modules.{AreGood, tree_of, program_found, link_fits}
 
 -- ---- what a registry shows
 
@@ -56,18 +56,6 @@ module_tree : (ms : ModuleStates) (i : ℕ) (p : Program) → (state_in (slice_i
 module_tree ms i p here = ap (λ (x : Module). x.tree) (at_places ms.places i ∙ tree_of (slice_index_or ms.places i None) p here)
 
 -- ---- a binding
-
-home_if : (j n : ℕ) (g : Routine) (b : Bool) → ◌≡◌ {A = Result Routine Refusal} (if b then (Ok (routine j n)) else (Err SignatureDiffers)) (Ok g) → g.home ≡ j
-home_if j n g true e = let same : routine j n ≡ g = cc in ap (λ (x : Routine). x.home) (sym same)
-home_if j n g false e = absurd (let x : ⊥ = cc in x)
-
-home_to : (import : ScriptFunction) (j n : ℕ) (o : Option ScriptFunction) (g : Routine) → link_to import j n o ≡ Ok g → g.home ≡ j
-home_to import j n None g e = absurd (let x : ⊥ = cc in x)
-home_to import j n (Some f) g e = home_if j n g (same_call import f) e
-
-pub home_number : (import : ScriptFunction) (j : ℕ) (o : Option ℕ) (fs : List ScriptFunction) (g : Routine) → link_to_number import j o fs ≡ Ok g → g.home ≡ j
-home_number import j None fs g e = absurd (let x : ⊥ = cc in x)
-home_number import j (Some n) fs g e = home_to import j n (slice_get fs n) g e
 
 pub bound_fits : (ms : ModuleStates) → AreGood ms → (i j index : ℕ) (p q : Program) (decl : List ℕ) (o : Option ScriptFunction) (g : Routine)
     → (state_in (slice_index_or ms.places i None)).program ≡ Some p → (state_in (slice_index_or ms.places j None)).program ≡ Some q → slice_get p.names.imports index ≡ o → link_of o j q decl ≡ Ok g

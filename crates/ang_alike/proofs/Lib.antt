@@ -5,6 +5,7 @@ pub mod BodyRuns
 pub mod Bodies
 pub mod Sources
 pub mod Linking
+pub mod ByNumber
 pub mod Modules
 pub mod Runs
 pub mod Globals
@@ -24,3 +25,12 @@ pub mod TypedRuns
 pub mod TypedSteps
 pub mod TypedTurns
 pub mod TypedAsMeant
+pub mod MovedWorlds
+pub mod MovedResults
+pub mod MovedRuns
+pub mod MovedPlaces
+pub mod MovedModules
+pub mod MovedOrders
+pub mod MovedKept
+pub mod MovedSteps
+pub mod MovedTurns

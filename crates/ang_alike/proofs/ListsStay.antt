@@ -20,7 +20,8 @@ use Rattle.ang_meaning.specs.declared.routine.Passing.{Passing}
 use Rattle.ang_meaning.specs.declared.routine.Spot.{Spot}
 use Rattle.ang_meaning.specs.declared.routine.Spot.TheVariants as spot
 use Rattle.ang_meaning.specs.declared.routine.Target.{Target}
-use Rattle.ang_meaning.specs.Numbers.{Changed, Into, Never, is_signed}
+use Rattle.ang_kinds.specs.Primitives.{is_signed}
+use Rattle.ang_meaning.specs.Numbers.{Changed, Into, Never}
 use Rattle.ang_meaning.specs.World.{World, Tried, Yes, No, or_else, hold, give, memory_step}
 use Rattle.ang_meaning.specs.Environment.{Environment, Found, Enters, Misses, target, has_objects, params_of}
 use Rattle.ang_meaning.specs.Hosts.{Done, Fine, Fails}
@@ -420,10 +421,16 @@ lists_of w u e =
     sym_join : (a b c d : ℕ) → c ≡ a → d ≡ b → c ≡ d → a ≡ b
     sym_join a b c d p q r = omega (arith, p, q, r)
 
+pub call_lengths : (z : Environment) (codes : Codes) (budget : ℕ) (g : Routine) (vs : List Slot) (w : World) → globals_of_each (end_of (called_with z codes budget g vs w)).world ≡ globals_of_each w
+call_lengths z codes budget g vs w = let r = called_with z codes budget g vs w in end_has (globals_of_each w) r (called_reply (globals_of_each w) z codes budget g vs w refl)
+
+pub initialized_lengths : (z : Environment) (codes : Codes) (gs : List Routine) (ticks : ℕ) (w : World) → globals_of_each (end_of (initialized_all z codes gs ticks w)).world ≡ globals_of_each w
+initialized_lengths z codes gs ticks w = let r = initialized_all z codes gs ticks w in end_has (globals_of_each w) r (all_reply (globals_of_each w) z codes gs ticks w refl)
+
 pub call_lists : (z : Environment) (codes : Codes) (budget : ℕ) (g : Routine) (vs : List Slot) (w : World) → SameLists w (end_of (called_with z codes budget g vs w)).world
 call_lists z codes budget g vs w =
-    let r = called_with z codes budget g vs w in lists_of w (end_of r).world (end_has (globals_of_each w) r (called_reply (globals_of_each w) z codes budget g vs w refl))
+    lists_of w (end_of (called_with z codes budget g vs w)).world (call_lengths z codes budget g vs w)
 
 pub initialized_lists : (z : Environment) (codes : Codes) (gs : List Routine) (ticks : ℕ) (w : World) → SameLists w (end_of (initialized_all z codes gs ticks w)).world
 initialized_lists z codes gs ticks w =
-    let r = initialized_all z codes gs ticks w in lists_of w (end_of r).world (end_has (globals_of_each w) r (all_reply (globals_of_each w) z codes gs ticks w refl))
+    lists_of w (end_of (initialized_all z codes gs ticks w)).world (initialized_lengths z codes gs ticks w)

@@ -2,7 +2,7 @@
 use Rattle.std.proofs.Common.{inl, inr, ◌≡◌, ◌≢◌, ◌≤◌, ℕ, zero, suc, List, [], ◌∷◌, ◌++◌, length, refl, sym, ap, ◌∙◌, subst, Option, Some, None, map}
 use Rattle.std.specs.Prelude.{◌⊎◌, Bool, true, false, ◌==◌, option_map, is_none, position, slice_get, slice_set, slice_index_or, if◌then◌else◌}
 use Rattle.std.specs.Option.{option_flatten}
-use Rattle.std.proofs.lemmas.Bool.{eqb-true, eqb-false}
+use Rattle.std.proofs.lemmas.Bool.{eqb-false}
 use Rattle.ang_view.specs.Registration.{RegistrationList}
 use Rattle.ang_view.specs.Values.{TakesValues}
 use Rattle.ang_engine_build.specs.Narrowed.{narrowed}
@@ -25,6 +25,7 @@ use Rattle.ang_engine_modules.specs.Modules.{Module, module_at, link_at, unbound
 use Rattle.ang_engine_modules.specs.World.{Program, ModuleState, ModuleStates, module_in as state_in, unbound_program, unbound_module, built_of, built_at, built_in}
 use Rattle.ang_engine_modules.specs.Commands.{fresh_module, with_link}
 use Rattle.ang_engine_modules.proofs.PlaceLists.{get-map, map-get, get-front}
+use Rattle.ang_alike.proofs.ByNumber.{by_number, at_places, at_more, at_unbound, none_empty, end_none}
 use Rattle.ang_alike.proofs.Linking.{IsBindable, program_imports, takes_alike}
 
 -- ---- programs
@@ -98,11 +99,6 @@ built_found ps i h = state_built (slice_index_or ps i None) (place_found ps i h)
 
 -- ---- modules by number
 
-pub at_places : (ps : List (Option ModuleState)) (m : ℕ) → module_at (map built_at ps) m ≡ built_at (slice_index_or ps m None)
-at_places [] m = refl
-at_places (p ∷ ps) zero = refl
-at_places (p ∷ ps) (suc m) = at_places ps m
-
 at_other : (ps : List (Option ModuleState)) (i m : ℕ) (o : Option ModuleState) → m ≢ i → slice_index_or (slice_set ps i o) m None ≡ slice_index_or ps m None
 at_other [] i m o h = refl
 at_other (p ∷ ps) zero zero o h = absurd (h refl)
@@ -115,17 +111,6 @@ at_same : (P : Option ModuleState → Type 0) (ps : List (Option ModuleState)) (
 at_same P [] i o h k = k
 at_same P (p ∷ ps) zero o h k = h
 at_same P (p ∷ ps) (suc i) o h k = at_same P ps i o h k
-
-pub at_more : (ps : List (Option ModuleState)) (m : ℕ) → slice_index_or (ps ++ None ∷ []) m None ≡ slice_index_or ps m None
-at_more [] zero = refl
-at_more [] (suc m) = refl
-at_more (p ∷ ps) zero = refl
-at_more (p ∷ ps) (suc m) = at_more ps m
-
-pub at_unbound : (ps : List (Option ModuleState)) (i m : ℕ) → slice_index_or (map (option_map (unbound_module i)) ps) m None ≡ option_map (unbound_module i) (slice_index_or ps m None)
-at_unbound [] i m = refl
-at_unbound (p ∷ ps) i zero = refl
-at_unbound (p ∷ ps) i (suc m) = at_unbound ps i m
 
 program_unlinked : (i : ℕ) (name : List ℕ) (o : Option Program) → built_of name (option_map (unbound_program i) o) ≡ record (built_of name o) { links = unbound_links i (built_of name o).links }
 program_unlinked i name None = refl
@@ -200,10 +185,6 @@ same_linked ps qs same h =
 
 -- ---- a module that is the same as runs know it
 
-pub by_number : {A : Type 0} (m i : ℕ) → ((m ≡ i) → A) → ((m ≢ i) → A) → (b : Bool) → (m == i) ≡ b → A
-by_number m i f g true e = f (eqb-true m i e)
-by_number m i f g false e = g (eqb-false m i e)
-
 set_same : (ps : List (Option ModuleState)) (i : ℕ) (o : Option ModuleState) → built_at o ≡ built_at (slice_index_or ps i None) → (m : ℕ) → built_at (slice_index_or (slice_set ps i o) m None) ≡ built_at (slice_index_or ps m None)
 set_same [] i o e m = refl
 set_same (p ∷ ps) zero o e zero = e
@@ -232,14 +213,6 @@ good_more ms h = record {
   places = place_more ms.places h.places;
   linked = same_linked ms.places (ms.places ++ None ∷ []) (λ m. ap built_at (at_more ms.places m)) h.linked;
 }
-
-pub none_empty : (o : Option ModuleState) → is_none o ≡ true → o ≡ None
-none_empty None e = refl
-none_empty (Some m) e = absurd (let x : ⊥ = cc in x)
-
-pub end_none : (ps : List (Option ModuleState)) → slice_index_or ps (length ps) None ≡ None
-end_none [] = refl
-end_none (p ∷ ps) = end_none ps
 
 -- a new module in the first empty place, and in one more
 pub good_fresh : (ms : ModuleStates) (name : List ℕ) (mask i : ℕ) (order : List ℕ) → AreGood ms → position is_none ms.places ≡ Some i

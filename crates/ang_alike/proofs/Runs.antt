@@ -26,14 +26,10 @@ use Rattle.ang_alike.proofs.Sources.{call_alike, all_alike}
 use Rattle.ang_engine_modules.specs.Modules.{Module, module_at, trees_of, TakesSoMany}
 use Rattle.ang_engine_modules.specs.Executed.{setting_for, call_of, routines_from, initializers_of, initialization_of}
 use Rattle.ang_engine_modules.specs.Ends.{Ended, end_of}
+use Rattle.ang_alike.proofs.ByNumber.{tree_at}
 use Rattle.ang_alike.proofs.Modules.{AreSoundModules}
 
 -- ---- sources of modules
-
-pub tree_at : (ms : List Module) (m : ℕ) → slice_index_or (trees_of ms) m nothing ≡ (module_at ms m).tree
-tree_at [] m = refl
-tree_at (x ∷ xs) zero = refl
-tree_at (x ∷ xs) (suc m) = tree_at xs m
 
 module _ (ms : List Module) (are : AreSoundModules ms) (nesting : ℕ) where
   abbrev z : Environment

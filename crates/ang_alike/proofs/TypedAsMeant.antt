@@ -1,10 +1,13 @@
 -- Where the guard of misfits does what the meaning says, a command whose runs are guarded is the command.
-use Rattle.std.proofs.Common.{◌≡◌, refl, ap, ℕ, Bool, true, false, List, [], ◌∷◌, reverse, Option, Some, None}
-use Rattle.std.specs.Prelude.{if◌then◌else◌}
+use Rattle.std.proofs.Common.{◌≡◌, refl, ap, ◌∙◌, ℕ, Bool, true, false, List, [], ◌∷◌, reverse, Option, Some, None}
+use Rattle.std.specs.Prelude.{Result, Ok, Err, if◌then◌else◌}
 use Rattle.ang_kinds.specs.declared.error.Denial.{Denial}
+use Rattle.ang_kinds.specs.declared.fault.Fault.{Fault}
 use Rattle.ang_kinds.specs.declared.value.Value.{Value}
 use Rattle.ang_view.specs.Groups.{Grouped}
 use Rattle.ang_view.specs.Registration.{RegistrationList, seen}
+use Rattle.ang_names_known.specs.declared.names.ScriptFunction.{ScriptFunction}
+use Rattle.ang_meaning.specs.declared.slot.Slot.{Slot}
 use Rattle.ang_meaning.specs.World.{Input, Room, Said, Tallied, Fresh, World as RunWorld}
 use Rattle.ang_source.specs.Meaning.{codes_in, routine}
 use Rattle.ang_source_typed.specs.Guarded.{AsMeant}
@@ -12,12 +15,12 @@ use Rattle.ang_source_typed.proofs.AsMeant.{calls_are_as_meant, initializers_are
 use Rattle.ang_engine_build.specs.Build.{Built, Errors, Compiled, build_of, denials_in}
 use Rattle.ang_engine_modules.specs.declared.command.Command.{Command}
 use Rattle.ang_engine_modules.specs.declared.command.Command.TheVariants.{NewModule, SetMask, AddSection, Build, Bind, Unbind, Call, Discard, RemoveGroup}
-use Rattle.ang_engine_modules.specs.Executed.{setting_for, initializers_of}
+use Rattle.ang_engine_modules.specs.Executed.{setting_for, call_of, initializers_of}
 use Rattle.ang_engine_modules.specs.Modules.{module_at as built_module, trees_of}
-use Rattle.ang_engine_modules.specs.Ends.{end_of}
+use Rattle.ang_engine_modules.specs.Ends.{Ended, end_of}
 use Rattle.ang_engine_modules.specs.World.{Program, ModuleState, World, module_named, module_at, placed, all_unbound_from, built_in, running, globals_ended}
 use Rattle.ang_engine_modules.specs.Commands.{Stepped, on_module}
-use Rattle.ang_engine.specs.Step.{is_budget, program_over, with_program, globals_begun, started, Choice, Chosen, Not, choice_of, call_ended, call_chosen, call_program, after_build, build, build_within, call, judged, granted, step}
+use Rattle.ang_engine.specs.Step.{is_budget, program_over, with_program, globals_begun, started, Choice, Chosen, Not, choice_of, called, call_chosen, call_program, after_build, build, build_within, call, judged, granted, step}
 use Rattle.ang_alike.specs.Misfits.{GuardsChangeNothing}
 use Rattle.ang_alike.specs.Misfits as misfit
 
@@ -30,11 +33,18 @@ same_on : (w : World) (inputs : List Input) (o : Option ℕ) (go on : ℕ → Mo
 same_on w inputs None go on e = refl
 same_on w inputs (Some i) go on e = e i
 
+called_same : (r : Result Slot Fault) (v : RunWorld) (w : World) (f : ScriptFunction) → misfit.called AsMeant r v w f ≡ called r v w f
+called_same (Ok x) v w f = refl
+called_same (Err fault) v w f = refl
+
 chosen_same : (w : World) (inputs : List Input) (i budget : ℕ) (c : Choice) → misfit.call_chosen AsMeant c w i budget inputs ≡ call_chosen c w i budget inputs
 chosen_same w inputs i budget (Not why) = refl
 chosen_same w inputs i budget (Chosen n f slots) =
     let ms = built_in w.modules in
-    ap (λ r. Some (call_ended (end_of r) w f)) (calls_are_as_meant (setting_for ms 200) (codes_in (trees_of ms)) budget (routine i n) (reverse slots) (running w inputs))
+    let e : Ended = end_of (call_of ms budget i n slots (running w inputs)) in
+    ap (λ r. Some (misfit.call_ended AsMeant (end_of r) w f))
+    (calls_are_as_meant (setting_for ms 200) (codes_in (trees_of ms)) budget (routine i n) (reverse slots) (running w inputs))
+    ∙ ap (λ s. Some s) (called_same e.result e.world w f)
 
 call_same : (w : World) (inputs : List Input) (i budget : ℕ) (decl : List ℕ) (args : List Value) (o : Option Program)
     → misfit.call_program AsMeant o decl args budget w i inputs ≡ call_program o decl args budget w i inputs

@@ -13,7 +13,8 @@ use Rattle.ang_engine_modules.specs.Executed.{setting_for}
 use Rattle.ang_engine_modules.specs.World.{Program, ModuleState, ModuleStates, unbound_program, unbound_module, built_in}
 use Rattle.ang_engine_modules.specs.Commands.{with_link}
 use Rattle.ang_alike.specs.Misfits.{typed_of, typed_modules}
-use Rattle.ang_alike.proofs.Modules.{IsPut, links_put, free_of, flat_unbound, at_unbound}
+use Rattle.ang_alike.proofs.ByNumber.{at_unbound, set_either}
+use Rattle.ang_alike.proofs.Modules.{IsPut, links_put, free_of, flat_unbound}
 use Rattle.ang_alike.proofs.TypedPrograms.{IsOwnProgram, program_in, programs_of, link_in, tree_known, leads_there, modules_stand}
 use Rattle.ang_check_laws.proofs.SettingsTyped.{settings_typed}
 use Rattle.ang_check_laws.proofs.Whole.{program_typed}
@@ -170,16 +171,6 @@ module _ (L : RegistrationList) (ps qs : Programs) (i : ℕ) (new : Option Progr
 -- ---- places
 
 -- where an item is put, or what stands there
-pub set_either : {A : Type 0} (xs : List A) (i m : ℕ) (x d : A) → (slice_index_or (slice_set xs i x) m d ≡ slice_index_or xs m d) ⊎ ((m ≡ i) × (slice_index_or (slice_set xs i x) m d ≡ x))
-set_either [] i m x d = inl refl
-set_either (y ∷ ys) zero zero x d = inr (refl, refl)
-set_either (y ∷ ys) zero (suc m) x d = inl refl
-set_either (y ∷ ys) (suc i) zero x d = inl refl
-set_either (y ∷ ys) (suc i) (suc m) x d = elim (set_either ys i m x d) [
-  | inl e ↦ inl e
-  | inr e ↦ inr (ap suc e.0, e.1)
-]
-
 unbound_in : (i : ℕ) (o : Option ModuleState) → program_in (option_map (unbound_module i) o) ≡ option_map (unbound_program i) (program_in o)
 unbound_in i None = refl
 unbound_in i (Some m) = refl

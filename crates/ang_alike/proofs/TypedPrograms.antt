@@ -25,7 +25,7 @@ use Rattle.ang_engine_modules.specs.Modules.{Module, module_at}
 use Rattle.ang_engine_modules.specs.Executed.{setting_for}
 use Rattle.ang_engine_modules.specs.World.{Program, ModuleState, ModuleStates, module_in, built_of, built_at, built_in}
 use Rattle.ang_alike.specs.Misfits.{typed_of, typed_modules}
-use Rattle.ang_alike.proofs.Modules.{at_places}
+use Rattle.ang_alike.proofs.ByNumber.{at_places}
 
 -- ---- programs by the numbers of modules
 

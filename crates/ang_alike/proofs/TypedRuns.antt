@@ -1,6 +1,6 @@
 -- Runs of typed modules meet no misfit, and leave all places typed.
-use Rattle.std.proofs.Common.{◌≡◌, ◌+◌, refl, sym, ap, ◌∙◌, subst, arith, ℕ, suc, List, [], ◌∷◌, ◌++◌, length, reverse, map, append_assoc, Option, Some, None}
-use Rattle.std.specs.Prelude.{IsSome, slice_get}
+use Rattle.std.proofs.Common.{◌≡◌, ◌+◌, true, refl, sym, ap, ◌∙◌, subst, arith, ℕ, suc, List, [], ◌∷◌, ◌++◌, length, reverse, map, append_assoc, Option, Some, None}
+use Rattle.std.specs.Prelude.{IsSome, IfOk, slice_get}
 use Rattle.std.proofs.lemmas.List.{length-map, length-append, length-reverse, reverse-append}
 use Rattle.ang_kinds.specs.declared.primitive.Primitive.{Primitive}
 use Rattle.ang_kinds.specs.declared.value.Value.{Value}
@@ -8,13 +8,15 @@ use Rattle.ang_tree.specs.Stmt.{Every}
 use Rattle.ang_view.specs.Registration.{RegistrationList}
 use Rattle.ang_types.specs.declared.arg_type.ArgType.{ArgType}
 use Rattle.ang_types.specs.declared.arg_type.ArgType.TheVariants as type
+use Rattle.ang_types.specs.ArgTypes.{primitive_of}
 use Rattle.ang_typed.specs.Typed as t
 use Rattle.ang_names_known.specs.declared.names.ScriptFunction.{ScriptFunction}
 use Rattle.ang_names_known.specs.declared.names.ScriptParameter.{ScriptParameter}
 use Rattle.ang_check.specs.Typing.{typed_parameter, typed_parameters}
 use Rattle.ang_meaning.specs.declared.slot.Slot.{Slot}
+use Rattle.ang_meaning.specs.declared.slot.Slot.TheVariants.{Bits, Script, Host}
 use Rattle.ang_meaning.specs.declared.routine.Routine.{Routine}
-use Rattle.ang_meaning.specs.World.{World, give, give_all}
+use Rattle.ang_meaning.specs.World.{World, ScriptObjects, give, give_all}
 use Rattle.ang_meaning.specs.Environment.{Environment}
 use Rattle.ang_meaning.specs.Results.{Reply, Yields, Raises}
 use Rattle.ang_meaning.specs.Counting.{IsCounted}
@@ -24,12 +26,12 @@ use Rattle.ang_source.specs.Meaning.{Code, of_function, of_global, Codes, codes_
 use Rattle.ang_source_typed.specs.Types.{SlotType, Number, Modules, Owners, HasType, AllTyped, IsGood, slot_type}
 use Rattle.ang_source_typed.specs.TypedProgram.{Parameter, Signature, types_of, parameter_of, signature_of, HasSignature}
 use Rattle.ang_source_typed.specs.Runs.{IsTypedSetting, sources, AreInitializers, IsGoodReply, initializer_signature}
-use Rattle.ang_source_typed.specs.Guarded.{Guard, misfits}
+use Rattle.ang_source_typed.specs.Guarded.{Guard, misfits, is_number}
 use Rattle.ang_source_typed.specs.Guarded as guarded
 use Rattle.ang_source_typed.proofs.Values.{Leads, leads_then, leads_world, give_leads, give_all_leads}
 use Rattle.ang_source_typed.proofs.Bodies.{calls_meet_no_misfit}
 use Rattle.ang_source_typed.proofs.Initializers.{initializers_meet_no_misfit}
-use Rattle.ang_engine_call.specs.Calls.{primitive_of, plain_slot, argument_of, arguments_for, arguments_of, in_front}
+use Rattle.ang_engine_call.specs.Calls.{plain_slot, argument_of, arguments_for, arguments_of, in_front}
 use Rattle.ang_engine_modules.specs.Modules.{module_at, trees_of}
 use Rattle.ang_engine_modules.specs.Executed.{setting_for, routines_from, initializers_of}
 use Rattle.ang_engine_modules.specs.Executed as executed
@@ -38,7 +40,7 @@ use Rattle.ang_engine_modules.specs.World.{Program, ModuleStates, built_in}
 use Rattle.ang_alike.specs.Misfits.{typed_modules}
 use Rattle.ang_alike.specs.Misfits as misfit
 use Rattle.ang_alike.proofs.Fitting.{AreNumbers, arguments_are, turned_numbers, numbers_counted}
-use Rattle.ang_alike.proofs.Runs.{tree_at}
+use Rattle.ang_alike.proofs.ByNumber.{tree_at}
 use Rattle.ang_alike.proofs.TypedPrograms.{IsOwnProgram, programs_of, tree_known}
 use Rattle.ang_alike.proofs.TypedLinks.{function_signed}
 
@@ -59,6 +61,15 @@ end_good z ms s (Yields v outs t w) g =
     let all : IsCounted (v ∷ (outs ++ [])) w = counted_as (v ∷ outs) (v ∷ (outs ++ [])) w (λ x. omega (arith, many_append x outs [])) g.counted in
     record { own = g.own; places = tt; world = leads_world z ms g.own w (give v rest) leads g.world; counted = give_counted v [] rest (give_all_under v outs [] w all) }
 end_good z ms s (Raises f w) g = g
+
+is_typed_number : (z : Environment) (ms : Modules) (own : Owners) (os : ScriptObjects) (v : Slot) → HasType z ms own os Number v → is_number v ≡ true
+is_typed_number z ms own os (Bits n) h = refl
+is_typed_number z ms own os (Script k) h = absurd h
+is_typed_number z ms own os (Host d k) h = absurd h
+
+end_number : (z : Environment) (ms : Modules) (s : Signature) (o : Reply) → IsGoodReply z ms s o → s.result ≡ Number → IfOk (end_of o).result (λ v. is_number v ≡ true)
+end_number z ms s (Yields v outs t w) g e = is_typed_number z ms g.own w.objects v (subst (λ (ty : SlotType). HasType z ms g.own w.objects ty v) e g.places.0)
+end_number z ms s (Raises f w) g e = tt
 
 -- ---- arguments from outside are numbers, and so are the parameters that take them
 
@@ -90,7 +101,7 @@ plain_are : (f : ScriptFunction) (vs : List Value) (slots : List Slot) → argum
 unfolding arguments_of
 plain_are f vs slots e = all_plain f.params vs slots e
 
-plain_type : (V : RegistrationList) (m : ℕ) (ty : ArgType) → IsSome (primitive_of ty) → slot_type V m ty ≡ Number
+pub plain_type : (V : RegistrationList) (m : ℕ) (ty : ArgType) → IsSome (primitive_of ty) → slot_type V m ty ≡ Number
 plain_type V m type.Void h = refl
 plain_type V m type.Null h = absurd (let q : ⊥ = cc in q)
 plain_type V m (type.Plain p) h = refl
@@ -168,9 +179,10 @@ own_initializers ms m =
 
 -- ---- runs
 
--- the guarded run is the run, and all that it leaves is typed
-pub record GoesWell (z : Environment) (ms : Modules) (guarded_run run : Reply) : Type 0 where
+-- the guarded run is the run, its value is of this signature's result, and all that it leaves is typed
+pub record GoesWell (z : Environment) (ms : Modules) (s : Signature) (guarded_run run : Reply) : Type 0 where
   pub same : guarded_run ≡ run
+  pub number : s.result ≡ Number → IfOk (end_of run).result (λ v. is_number v ≡ true)
   pub good : IsGood z ms [] [] (end_of run).world
 
 module _ (y : Guard) (ms : ModuleStates) where
@@ -178,28 +190,37 @@ module _ (y : Guard) (ms : ModuleStates) where
   T = typed_modules ms
 
   called_by : (z : Environment) (codes : Codes) → sources T ≡ codes → IsTypedSetting z T → (budget : ℕ) (g : Routine) (s : Signature) (vs : List Slot) (w : World)
-      → HasSignature z T g.home g.number s → IsGood z T (types_of s.params) vs w → GoesWell z T (guarded.called_with (misfits y) z codes budget g vs w) (called_with z codes budget g vs w)
+      → HasSignature z T g.home g.number s → IsGood z T (types_of s.params) vs w → GoesWell z T s (guarded.called_with (misfits y) z codes budget g vs w) (called_with z codes budget g vs w)
   called_by z codes e setting budget g s vs w signed good =
       let r = calls_meet_no_misfit z T y setting budget g s vs w signed good in
-      subst (λ (c : Codes). GoesWell z T (guarded.called_with (misfits y) z c budget g vs w) (called_with z c budget g vs w)) e
-      (record { same = r.0; good = end_good z T s (called_with z (sources T) budget g vs w) r.1 })
+      subst (λ (c : Codes). GoesWell z T s (guarded.called_with (misfits y) z c budget g vs w) (called_with z c budget g vs w)) e
+      (record {
+        same = r.0;
+        number = end_number z T s (called_with z (sources T) budget g vs w) r.1;
+        good = end_good z T s (called_with z (sources T) budget g vs w) r.1;
+      })
 
   pub call_goes : (L : RegistrationList) (budget m n : ℕ) (p : Program) (f : ScriptFunction) (args : List Value) (slots : List Slot) (w : World) → programs_of ms m ≡ Some p → IsOwnProgram L p
       → slice_get p.names.functions n ≡ Some f → arguments_of f args ≡ Some slots → IsTypedSetting (setting_for (built_in ms) 200) T → IsGood (setting_for (built_in ms) 200) T [] [] w
-      → GoesWell (setting_for (built_in ms) 200) T (misfit.call_of y (built_in ms) budget m n slots w) (executed.call_of (built_in ms) budget m n slots w)
+      → GoesWell (setting_for (built_in ms) 200) T (signature_of (setting_for (built_in ms) 200) T m (typed_parameters f) f.result.ty)
+      (misfit.call_of y (built_in ms) budget m n slots w) (executed.call_of (built_in ms) budget m n slots w)
   call_goes L budget m n p f args slots w here own at chosen setting good =
       let z = setting_for (built_in ms) 200 in
       called_by z (codes_in (trees_of (built_in ms))) (sources_are ms) setting budget (routine m n) (signature_of z T m (typed_parameters f) f.result.ty) (reverse slots) w
       (function_signed L ms 200 m n p f here own at) (arguments_good z T m f args slots w chosen good)
 
   initialized_by : (z : Environment) (codes : Codes) → sources T ≡ codes → IsTypedSetting z T → (gs : List Routine) (ticks : ℕ) (w : World) → AreInitializers T gs → IsGood z T [] [] w
-      → GoesWell z T (guarded.initialized_all (misfits y) z codes gs ticks w) (initialized_all z codes gs ticks w)
+      → GoesWell z T initializer_signature (guarded.initialized_all (misfits y) z codes gs ticks w) (initialized_all z codes gs ticks w)
   initialized_by z codes e setting gs ticks w are good =
       let r = initializers_meet_no_misfit z T y setting gs ticks w are good in
-      subst (λ (c : Codes). GoesWell z T (guarded.initialized_all (misfits y) z c gs ticks w) (initialized_all z c gs ticks w)) e
-      (record { same = r.0; good = end_good z T initializer_signature (initialized_all z (sources T) gs ticks w) r.1 })
+      subst (λ (c : Codes). GoesWell z T initializer_signature (guarded.initialized_all (misfits y) z c gs ticks w) (initialized_all z c gs ticks w)) e
+      (record {
+        same = r.0;
+        number = end_number z T initializer_signature (initialized_all z (sources T) gs ticks w) r.1;
+        good = end_good z T initializer_signature (initialized_all z (sources T) gs ticks w) r.1;
+      })
 
   pub initialization_goes : (budget m : ℕ) (w : World) → IsTypedSetting (setting_for (built_in ms) 201) T → IsGood (setting_for (built_in ms) 201) T [] [] w
-      → GoesWell (setting_for (built_in ms) 201) T (misfit.initialization_of y (built_in ms) budget m w) (executed.initialization_of (built_in ms) budget m w)
+      → GoesWell (setting_for (built_in ms) 201) T initializer_signature (misfit.initialization_of y (built_in ms) budget m w) (executed.initialization_of (built_in ms) budget m w)
   initialization_goes budget m w setting good =
       initialized_by (setting_for (built_in ms) 201) (codes_in (trees_of (built_in ms))) (sources_are ms) setting (initializers_of m (module_at (built_in ms) m).tree) budget w (own_initializers ms m) good

@@ -1,16 +1,18 @@
 -- A command does the same where its runs are guarded, and leaves all typed.
 use Rattle.std.proofs.Common.{inl, inr, ◌≡◌, ◌≢◌, ◌≤◌, ◌<◌, ◌+◌, refl, sym, ap, ◌∙◌, subst, arith, ℕ, zero, suc, Bool, true, false, List, [], ◌∷◌, ◌++◌, length, reverse, map, Option, Some, None}
-use Rattle.std.specs.Prelude.{IfSome, Result, Ok, Err, nat_le, is_none, option_map, position, slice_get, slice_set, slice_index_or, if◌then◌else◌}
+use Rattle.std.specs.Prelude.{IfSome, IfOk, IsSome, Result, Ok, Err, nat_le, is_none, option_map, position, slice_get, slice_set, slice_index_or, if◌then◌else◌}
 use Rattle.std.proofs.lemmas.List.{length-append, length-map}
 use Rattle.std.proofs.lemmas.Option.{same_Some}
 use Rattle.ang_kinds.specs.declared.error.Denial.{Denial}
 use Rattle.ang_kinds.specs.declared.fault.Fault.{Fault}
+use Rattle.ang_kinds.specs.declared.primitive.Primitive.{Primitive}
 use Rattle.ang_kinds.specs.declared.value.Value.{Value}
 use Rattle.ang_lex.specs.Spelling.{is_identifier}
 use Rattle.ang_view.specs.Only.{IsWithin}
 use Rattle.ang_view.specs.Registration.{RegistrationList}
 use Rattle.ang_view.specs.Values.{TakesValues}
 use Rattle.ang_view.proofs.Seen.{position-passes}
+use Rattle.ang_types.specs.ArgTypes.{primitive_of}
 use Rattle.ang_typed.specs.Typed as t
 use Rattle.ang_names_known.specs.declared.names.ScriptFunction.{ScriptFunction}
 use Rattle.ang_meaning.specs.declared.slot.Slot.{Slot}
@@ -19,7 +21,8 @@ use Rattle.ang_meaning.specs.World.{Input, World as RunWorld}
 use Rattle.ang_meaning.specs.Environment.{Environment}
 use Rattle.ang_source.specs.Meaning.{codes_in, routine}
 use Rattle.ang_source_typed.specs.Types.{Modules, AllTyped, IsGood, slot_type, global_types}
-use Rattle.ang_source_typed.specs.Guarded.{Guard}
+use Rattle.ang_source_typed.specs.Guarded.{Guard, is_number}
+use Rattle.ang_source_typed.proofs.Ends.{guard_passes}
 use Rattle.ang_check_laws.specs.Owned.{AreOwned}
 use Rattle.ang_engine_build.specs.Build.{Resolved, Compiled}
 use Rattle.ang_engine_call.specs.Named.{function_named_by}
@@ -30,19 +33,20 @@ use Rattle.ang_engine_modules.specs.Ends.{Ended, end_of}
 use Rattle.ang_engine_modules.specs.declared.reply.Refusal.{Refusal}
 use Rattle.ang_engine_modules.specs.World.{Program, ModuleState, ModuleStates, World, module_named, module_at, placed, all_unbound_from, unbound_module, built_in, running, left_to, globals_ended}
 use Rattle.ang_engine_modules.specs.Commands.{with_link, Stepped, refused, fresh_module, with_place, with_module, in_place, empty_place, where_free, added_module, set_mask, or_limit, add_section, unbind_import, unbind_program, on_module, on_both, most_modules}
-use Rattle.ang_engine.specs.Step.{is_budget, emptied, program_over, with_program, globals_begun, initialized, started, after_build, link_of, bound, bind_programs, bind, Choice, Chosen, Not, choice_of, called, call_ended, call_chosen, call_program}
-use Rattle.ang_alike.specs.Misfits.{typed_of, typed_modules}
+use Rattle.ang_engine.specs.Step.{is_budget, emptied, program_over, with_program, globals_begun, initialized, started, after_build, link_of, bound, bind_programs, bind, Choice, Chosen, Not, choice_of, called, call_chosen, call_program}
+use Rattle.ang_alike.specs.Misfits.{typed_of, typed_modules, is_result}
 use Rattle.ang_alike.specs.Misfits as misfit
 use Rattle.ang_alike.proofs.Linking.{bindable}
-use Rattle.ang_alike.proofs.Fitting.{number_is, home_number}
+use Rattle.ang_alike.proofs.ByNumber.{at_more, none_empty, end_none, home_number, set_either}
+use Rattle.ang_alike.proofs.Fitting.{number_is}
 use Rattle.ang_engine_modules.proofs.PlaceLists.{set_length}
 use Rattle.ang_alike.proofs.Globals.{back_globals, begun_counted, place_counted}
-use Rattle.ang_alike.proofs.Modules.{at_more, none_empty, end_none, all_none}
+use Rattle.ang_alike.proofs.Modules.{all_none}
 use Rattle.ang_alike.proofs.TypedPrograms.{IsOwnProgram, program_in, programs_of, link_in}
 use Rattle.ang_alike.proofs.TypedLinks.{IsBound}
-use Rattle.ang_alike.proofs.TypedModules.{AreOwn, setting_typed, same_classes, own_same, own_relinked, own_rebuilt, set_either, rebuilt_at, programs_rebuilt, programs_relinked, typed_elsewhere, typed_relinked, rebuilt_here}
+use Rattle.ang_alike.proofs.TypedModules.{AreOwn, setting_typed, same_classes, own_same, own_relinked, own_rebuilt, rebuilt_at, programs_rebuilt, programs_relinked, typed_elsewhere, typed_relinked, rebuilt_here}
 use Rattle.ang_alike.proofs.TypedWorlds.{globals_in, good_again, IsLeft, ended_left, emptied_good, begun_good}
-use Rattle.ang_alike.proofs.TypedRuns.{call_goes, initialization_goes}
+use Rattle.ang_alike.proofs.TypedRuns.{plain_type, call_goes, initialization_goes}
 use Rattle.ang_alike.proofs.ListsStay.{call_lists, initialized_lists}
 
 -- ---- what holds between commands
@@ -99,6 +103,19 @@ ended_lists i w = ap length (back_globals (slice_index_or w.globals i []) (recor
 rebuilt_long : (ms : ModuleStates) (i : ℕ) (o : Option ModuleState) (order : List ℕ) → length (rebuilt_at ms i o order).places ≡ length ms.places
 rebuilt_long ms i o order =
     let others : List (Option ModuleState) = map (option_map (unbound_module i)) ms.places in set_length others i o ∙ length-map ms.places (option_map (unbound_module i))
+
+-- ---- a call's value
+
+number_wanted : (o : Option Primitive) (v : Slot) → (IsSome o → is_number v ≡ true) → is_result o v ≡ true
+number_wanted None v h = refl
+number_wanted (Some p) v h = h refl
+
+-- where it is a number if its function's result is one, the guard changes nothing
+called_same : (y : Guard) (r : Result Slot Fault) (v : RunWorld) (w : World) (f : ScriptFunction)
+    → (IsSome (primitive_of f.result.ty) → IfOk r (λ x. is_number x ≡ true)) → misfit.called y r v w f ≡ called r v w f
+called_same y (Ok x) v w f h =
+    let o = primitive_of f.result.ty in guard_passes y (is_result o x) (called (Ok x) v w f) (λ fault. called (Err fault) v w f) (number_wanted o x h)
+called_same y (Err fault) v w f h = refl
 
 -- ---- modules that change alone
 
@@ -309,7 +326,8 @@ module _ (L : RegistrationList) where
       let goes = call_goes y ms L budget i n p f args slots before here (h.own.each i p here) one.at one.arguments (setting_typed L ms h.own 200) good in
       let e : Ended = end_of (executed.call_of (built_in ms) budget i n slots before) in
       let long : length e.world.globals ≡ length w.globals = call_lists (setting_at ms 200) (codes_in (trees_of (built_in ms))) budget (routine i n) (reverse slots) before in
-      record { same = ap (λ r. Some (call_ended (end_of r) w f)) goes.same; leaves = call_leaves e.result e.world w f h long goes.good }
+      let kept = called_same y e.result e.world w f (λ q. goes.number (plain_type (typed_modules ms i).view i f.result.ty q)) in
+      record { same = ap (λ r. Some (misfit.call_ended y (end_of r) w f)) goes.same ∙ ap (λ s. Some s) kept; leaves = call_leaves e.result e.world w f h long goes.good }
     where
       call_leaves : (r : Result Slot Fault) (v : RunWorld) (x : World) (g : ScriptFunction) → IsBetween L x → length v.globals ≡ length x.globals
           → IsGood (setting_at x.modules 200) (typed_modules x.modules) [] [] v → IsBetween L (called r v x g).world

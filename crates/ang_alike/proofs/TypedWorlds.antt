@@ -24,7 +24,7 @@ use Rattle.ang_source_typed.proofs.Making.{default_typed}
 use Rattle.ang_engine_modules.specs.Executed.{first_globals}
 use Rattle.ang_engine_modules.specs.World.{globals_ended}
 use Rattle.ang_alike.proofs.Globals.{back_globals, ended_counted, ended_none}
-use Rattle.ang_alike.proofs.Modules.{by_number}
+use Rattle.ang_alike.proofs.ByNumber.{by_number}
 
 -- ---- types of one module
 

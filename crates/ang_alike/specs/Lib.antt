@@ -2,3 +2,5 @@ pub mod SourcesAlike
 pub mod Alike
 pub mod Read
 pub mod Misfits
+pub mod Moved
+pub mod Places

@@ -1,19 +1,23 @@
 -- A command once more, where a run may end with a fault where it meets a misfit, and that this makes no difference (docs/CLAIMS.md, "What a script means"). A
 -- misfit is a value of another kind than what it meets wants, or a place that is not there.
-use Rattle.std.specs.Prelude.{◌≡◌, ℕ, false, true, List, [], ◌∷◌, reverse, Option, Some, None, if◌then◌else◌, slice_get, slice_index_or}
+use Rattle.std.specs.Prelude.{◌≡◌, ℕ, Bool, false, true, List, [], ◌∷◌, reverse, Option, Some, None, Result, Ok, Err, if◌then◌else◌, slice_get, slice_index_or}
 use Rattle.std.specs.List.{list_any}
 use Rattle.ang_kinds.specs.declared.error.Denial.{Denial}
+use Rattle.ang_kinds.specs.declared.fault.Fault.{Fault}
+use Rattle.ang_kinds.specs.declared.primitive.Primitive.{Primitive}
 use Rattle.ang_kinds.specs.declared.value.Value.{Value}
 use Rattle.ang_view.specs.Groups.{Grouped}
 use Rattle.ang_view.specs.Registration.{RegistrationList, seen}
 use Rattle.ang_registry.specs.Registrations.{grouped}
+use Rattle.ang_types.specs.ArgTypes.{primitive_of}
+use Rattle.ang_names_known.specs.declared.names.ScriptFunction.{ScriptFunction}
 use Rattle.ang_meaning.specs.declared.slot.Slot.{Slot}
 use Rattle.ang_meaning.specs.World.{Input, Room, World as RunWorld}
 use Rattle.ang_meaning.specs.Results.{Reply as RunReply}
 use Rattle.ang_source.specs.Meaning.{nothing, codes_in, routine}
 use Rattle.ang_source_typed.specs.Types.{TypedModule, Modules, IsGood}
 use Rattle.ang_source_typed.specs.Runs.{IsTypedSetting}
-use Rattle.ang_source_typed.specs.Guarded.{Guard, AsMeant, misfits}
+use Rattle.ang_source_typed.specs.Guarded.{Guard, AsMeant, guard, misfits, is_number}
 use Rattle.ang_source_typed.specs.Guarded as guarded
 use Rattle.ang_check_laws.specs.Registered.{RegistryCall, after_calls}
 use Rattle.ang_check_laws.specs.Registered as registry
@@ -29,11 +33,16 @@ use Rattle.ang_engine_modules.specs.declared.reply.Outcome.TheVariants.{Refused}
 use Rattle.ang_engine_modules.specs.declared.reply.Refusal.TheVariants.{NotBuilt, BadBudget, BuildMemory, Memory}
 use Rattle.ang_engine_modules.specs.World.{Program, ModuleState, ModuleStates, World, no_modules, module_named, module_in, placed, all_unbound_from, built_in, running, globals_ended}
 use Rattle.ang_engine_modules.specs.Commands.{Stepped, refused, after_run, on_module}
-use Rattle.ang_engine.specs.Step.{Choice, Chosen, Not, Leads, Takes, is_budget, emptied, program_over, with_program, globals_begun, started, after_errors, choice_of, call_ended, may_want_memory}
+use Rattle.ang_engine.specs.Step.{Choice, Chosen, Not, Leads, Takes, is_budget, emptied, program_over, with_program, globals_begun, started, after_errors, choice_of, may_want_memory}
 use Rattle.ang_engine.specs.Step as engine
 use Rattle.ang_alike.specs.Alike.{BoundedCommand, InTurn}
 
--- ---- a command whose runs are guarded: `step` of `ang_engine`, word for word, but for its runs
+-- ---- a command whose runs are guarded: `step` of `ang_engine`, word for word, but for its runs and the value of a call
+
+-- a call ends with a number where its function's result is a primitive or an enumeration, as the host wants one
+abbrev pub is_result : Option Primitive → Slot → Bool
+is_result None v = true
+is_result (Some p) v = is_number v
 
 module _ (y : Guard) where
   -- what a call does, and what the initializers of a build do
@@ -64,6 +73,14 @@ module _ (y : Guard) where
 
   abbrev pub call_end : World → ℕ → ℕ → ℕ → List Slot → List Input → Ended
   call_end w i budget n slots inputs = end_of (call_of (built_in w.modules) budget i n slots (running w inputs))
+
+  -- the call has ended: a value of another kind than its function declares is a misfit too
+  abbrev pub called : Result Slot Fault → RunWorld → World → ScriptFunction → Stepped
+  called (Ok v) r w f = guard y (is_result (primitive_of f.result.ty) v) (engine.called (Ok v) r w f) (λ fault. engine.called (Err fault) r w f)
+  called (Err fault) r w f = engine.called (Err fault) r w f
+
+  abbrev pub call_ended : Ended → World → ScriptFunction → Stepped
+  call_ended e w f = called e.result e.world w f
 
   abbrev pub call_chosen : Choice → World → ℕ → ℕ → List Input → Option Stepped
   call_chosen (Not why) w i budget inputs = refused why w inputs

@@ -3,10 +3,12 @@
 //! bodies of sound trees do. A host reads off a reply whether it tells of a refusal, where the law does
 //! not bind.
 //!
-//! Nor does it matter what a run does where it meets a misfit: none meets one.
+//! Nor does it matter what a run does where it meets a misfit: none meets one. And the numbers and places
+//! of modules do not show. Commands in turn keep what the engine asks between them.
 #![tactic(auto)]
 
 mod host;
+pub mod in_turn;
 pub mod laws;
 
 pub use host::tells_of_no_refusal;

@@ -24,6 +24,11 @@ none_at [] n e = refl
 none_at (o ∷ os) zero e = (neither (is_some o) (list_any is_some os) e).0
 none_at (o ∷ os) (suc n) e = none_at os n (neither (is_some o) (list_any is_some os) e).1
 
+-- what is marked of what is hidden is there
+pub any_marked : (list : RegistrationList) → list_any (λ b. b) (map is_some list) ≡ list_any is_some list
+any_marked [] = refl
+any_marked (o ∷ os) = ap (λ b. is_some o || b) (any_marked os)
+
 -- ---- nothing helps
 
 none_passes : (p : ℕ → Bool) → ((k : ℕ) → p k ≡ false) → (ks : List ℕ) → filter p ks ≡ []

@@ -27,8 +27,8 @@ use Rattle.ang_check_operators.specs.declared.refusal.TypingRefusal.{TypingRefus
 use Rattle.ang_check_context.specs.declared.scope.Within.{Within}
 use Rattle.ang_names_known.specs.Items.{each_after}
 use Rattle.ang_names_known.specs.Spaces.{ancestors_of}
-use Rattle.ang_lex.specs.Text.{text_of}
-use Rattle.ang_names_listed.specs.Sources.{Source, name_of}
+use Rattle.ang_lex.specs.Text.{text_of, name_of}
+use Rattle.ang_names_listed.specs.Sources.{Source}
 use Rattle.ang_check_operators.specs.Refusals.{Typing}
 use Rattle.ang_check_context.specs.Scope.{BodyContext}
 use Rattle.ang_check.specs.Typing.{Base, this_parameter, typed_parameters, function_typing, method_body_typing, constructor_typing, global_typing, implicit_super}
@@ -195,21 +195,15 @@ given (Err r) = None
 
 abbrev pub function_given : Judgement → Option t.TypedFunction
 function_given (of_function text f) = given f
-function_given (of_global text g) = None
-function_given (of_member text f) = None
-function_given (of_default text b) = None
+function_given _ = None
 
 abbrev pub member_given : Judgement → Option t.TypedFunction
-member_given (of_function text f) = None
-member_given (of_global text g) = None
 member_given (of_member text f) = given f
-member_given (of_default text b) = None
+member_given _ = None
 
 abbrev pub global_given : Judgement → Option t.Global
-global_given (of_function text f) = None
 global_given (of_global text g) = given g
-global_given (of_member text f) = None
-global_given (of_default text b) = None
+global_given _ = None
 
 -- What is refused of the bodies and initializers, of each its first, in order.
 unfoldable pub body_refusals : RegistrationList → Names → List Source → List Refused

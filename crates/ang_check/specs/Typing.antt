@@ -10,7 +10,7 @@ use Rattle.ang_tree.specs.declared.type_name.TypeName.{TypeName}
 use Rattle.ang_tree.specs.Stmt.{Init, Body, Stmts}
 use Rattle.ang_tree.specs.Declarations.{SuperTree}
 use Rattle.ang_types.specs.declared.arg_type.ArgType.{ArgType}
-use Rattle.ang_types.specs.declared.arg_type.ArgType.TheVariants as type
+use Rattle.ang_types.specs.ArgTypes.{is_void}
 use Rattle.ang_typed.specs.declared.expression.TypedCallee.TheVariants as callee
 use Rattle.ang_typed.specs.declared.program.TypedParameter.{TypedParameter}
 use Rattle.ang_typed.specs.Typed as t
@@ -63,14 +63,6 @@ this_parameter w = record { ty = own_type w; pass = pass.RefInOut }
 
 -- ---- functions and methods
 
-abbrev pub is_void : ArgType → Bool
-is_void type.Void = true
-is_void type.Null = false
-is_void (type.Plain p) = false
-is_void (type.Enumeration n) = false
-is_void (type.Object n c) = false
-is_void (type.Handle n c) = false
-
 -- Every path through a function with a result has to end.
 abbrev pub ending : ArgType → Token → Bool → List TypedParameter → List Position → t.Stmts → Typing t.TypedFunction
 ending ty x ends ps qs ss = if ends || is_void ty then Ok (record { parameters = ps; result = ty; body = ss; positions = qs }) else Err (refused kind.NoReturn x)
@@ -101,9 +93,8 @@ base_call w (Some k) xs ss =
     t.then (t.expression (Some (t.call (callee.Own k) (own_type w) (t.args (t.by_value (own_type w) (own_object (own_type w)) ∷ xs))))) ss
 
 abbrev pub body_called : Called → Option ℕ
-body_called (calls.Script f) = None
-body_called (calls.Host h) = None
 body_called (calls.Makes c k) = k
+body_called _ = None
 
 -- the body of a base class's constructor, and its arguments
 abbrev pub Base : Type 0

@@ -434,8 +434,42 @@ fn constructed(
     })
 }
 
-/// The body of a constructor: `super`, then its statements, then it gives its object back.
+/// The body of a constructor that begins with these locals.
 #[tactic(auto, unfolding(crate::specs::Typing::constructor_typing))]
+fn constructor_over<'a>(
+    alloc: Global,
+    context: BodyContext<'a>,
+    within: Within,
+    function: &'a ScriptFunction,
+    base_name: &Token,
+    base: Option<usize>,
+    written: &written::Constructor,
+    locals: &mut Locals<'a>,
+) -> Result<TypedFunction, TypingError>
+    requires few { within.family < 256 }
+    requires locals { locals.old
+        ≡ spec.this_local within ∷ list_map spec.parameter_local function.now.params }
+    ensures exact { Gives view_function result (spec.constructor_typing context.entry within
+        function.now written.now.name base_name.now base
+        (option_map trees.view_super written.now.super_call)
+        (trees.view_stmts written.now.statements.items) written.now.close) }
+{
+    let first = base_typing(
+        alloc,
+        &context,
+        locals,
+        &written.name,
+        base_name,
+        base,
+        &written.super_call,
+    )?;
+    let frame = FunctionContext::new(context, Returns::Own(own_type(within)), locals.len());
+    let body = block(alloc, &frame, false, locals, written.statements.as_slice())?;
+    let positions = constructor_positions(alloc, first.body, written)?;
+    Ok(constructed(alloc, within, function, first, body, positions)?)
+}
+
+/// The body of a constructor: `super`, then its statements, then it gives its object back.
 pub fn constructor_typing<'a>(
     alloc: Global,
     context: BodyContext<'a>,
@@ -452,23 +486,16 @@ pub fn constructor_typing<'a>(
         (trees.view_stmts written.now.statements.items) written.now.close) }
 {
     let mut locals = member_locals(alloc, within, function)?;
-    let first = base_typing(
+    let typed = constructor_over(
         alloc,
-        &context,
-        &locals,
-        &written.name,
+        context,
+        within,
+        function,
         base_name,
         base,
-        &written.super_call,
-    )?;
-    let frame = FunctionContext::new(context, Returns::Own(own_type(within)), locals.len());
-    let body = block(
-        alloc,
-        &frame,
-        false,
+        written,
         &mut locals,
-        written.statements.as_slice(),
-    )?;
-    let positions = constructor_positions(alloc, first.body, written)?;
-    Ok(constructed(alloc, within, function, first, body, positions)?)
+    );
+    drop(locals);
+    typed
 }

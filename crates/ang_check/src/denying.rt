@@ -1,6 +1,8 @@
 //! The denials of a build that was refused.
-ghost use Rattle.std.specs.Prelude.{◌≡◌, [], IfOk, is_some, option_copied, map as list_map};
+ghost use Rattle.std.specs.Prelude.{◌≡◌, List, [], IfOk, is_some, option_copied, map as list_map};
 ghost use Rattle.std.specs.List.{flat_map, list_any};
+ghost use Rattle.ang_kinds.specs.declared.error.Error.{Error as ErrorValue};
+ghost use Rattle.ang_view.specs.Hidden as views;
 ghost use Rattle.ang_view.specs.Registration.{seen};
 ghost use Rattle.ang_names_listed.specs.Declarations.{declarations_of};
 ghost use Rattle.ang_names_known.specs.Spaces.{AreFamilies};
@@ -68,7 +70,9 @@ fn rows_of_phases(
         return Ok(Vec::new(alloc));
     }
     let names = names_over(alloc, view, scripts)?;
-    rows_over(alloc, masked, view, &names, refused.as_slice())
+    let rows = rows_over(alloc, masked, view, &names, refused.as_slice());
+    drop(names);
+    rows
 }
 
 /// The rows of what is refused of bodies and initializers.
@@ -93,11 +97,33 @@ fn rows_of_bodies(
     rows_over(alloc, masked, view, names, judged.refused.as_slice())
 }
 
-/// Whether something is hidden: `hidden` is what a mask hides of a list.
-fn hides_any(hidden: &View) -> bool
-    ensures exact { result ≡ list_any is_some hidden.now }
+/// Which entries of a view are there.
+fn marks_of(alloc: Global, view: &View) -> Result<Vec<bool>, AllocError>
+    ensures exact { IfOk result (λ marks. marks.items ≡ list_map is_some view.now) }
 {
-    hidden.entries().iter().any(|entry| entry.is_some())
+    let mut marks = Vec::new(alloc);
+    for entry in view.entries() {
+        marks.push(entry.is_some())?;
+    }
+    Ok(marks)
+}
+
+/// Which entries of a list a module of the mask does not see. What they are is let go of at once.
+fn hidden_marks(alloc: Global, registry: &Registry, mask: Mask) -> Result<Vec<bool>, AllocError>
+    ensures exact { IfOk result
+        (λ marks. marks.items ≡ list_map is_some (views.hidden registry.now.entries mask.0)) }
+{
+    let hidden = registry.hidden(alloc, mask)?;
+    let marks = marks_of(alloc, &hidden);
+    drop(hidden);
+    marks
+}
+
+/// Whether something is hidden: `hidden` has a mark for each entry of a list, whether a mask hides it.
+fn hides_any(hidden: &[bool]) -> bool
+    ensures exact { result ≡ list_any (λ hides. hides) hidden.now }
+{
+    hidden.iter().any(|hides| *hides)
 }
 
 fn no_rows(alloc: Global) -> Vec<Denial>
@@ -106,13 +132,88 @@ fn no_rows(alloc: Global) -> Vec<Denial>
     Vec::new(alloc)
 }
 
+/// The rows of what is refused over what the mask shows of a list. There are errors, as of `denials`.
+#[tactic(auto, using(crate::proofs::Asking::phases_refuse, crate::proofs::Asking::bodies_refuse))]
+fn rows_masked(
+    alloc: Global,
+    registry: &Registry,
+    mask: Mask,
+    masked: &Masked<'_>,
+    scripts: &[Script],
+    names: Option<&Names>,
+) -> Result<Vec<Denial>, AllocError>
+    requires list { masked.now.list ≡ registry.now.entries }
+    requires mask { masked.now.mask ≡ mask.0 }
+    requires errors { (es : List ErrorValue)
+        × spec.AreErrors (seen registry.now.entries mask.0) (list_map source_of scripts.now)
+        (option_copied names) es }
+    ensures exact { IfOk result (λ rows. rows.items
+        ≡ spec.denials_of registry.now.entries mask.0 (list_map source_of scripts.now)) }
+{
+    let view = registry.seen(alloc, mask)?;
+    match names {
+        None => rows_of_phases(alloc, masked, &view, scripts),
+        Some(names) => rows_of_bodies(alloc, masked, &view, names, scripts),
+    }
+}
+
+/// The same over a whole list, of which this is hidden.
+fn rows_of_list(
+    alloc: Global,
+    registry: &Registry,
+    mask: Mask,
+    whole: &View,
+    hidden: &[bool],
+    scripts: &[Script],
+    names: Option<&Names>,
+) -> Result<Vec<Denial>, AllocError>
+    requires whole { whole.now ≡ registry.now.entries }
+    requires hidden { hidden.now
+        ≡ list_map is_some (views.hidden registry.now.entries mask.0) }
+    requires errors { (es : List ErrorValue)
+        × spec.AreErrors (seen registry.now.entries mask.0) (list_map source_of scripts.now)
+        (option_copied names) es }
+    ensures exact { IfOk result (λ rows. rows.items
+        ≡ spec.denials_of registry.now.entries mask.0 (list_map source_of scripts.now)) }
+{
+    let masked = Masked::new(alloc, whole, hidden, mask)?;
+    let rows = rows_masked(alloc, registry, mask, &masked, scripts, names);
+    drop(masked);
+    rows
+}
+
+/// The same where this is hidden of a list, and nothing may be.
+fn rows_hidden(
+    alloc: Global,
+    registry: &Registry,
+    mask: Mask,
+    hidden: &[bool],
+    scripts: &[Script],
+    names: Option<&Names>,
+) -> Result<Vec<Denial>, AllocError>
+    requires hidden { hidden.now
+        ≡ list_map is_some (views.hidden registry.now.entries mask.0) }
+    requires errors { (es : List ErrorValue)
+        × spec.AreErrors (seen registry.now.entries mask.0) (list_map source_of scripts.now)
+        (option_copied names) es }
+    ensures exact { IfOk result (λ rows. rows.items
+        ≡ spec.denials_of registry.now.entries mask.0 (list_map source_of scripts.now)) }
+{
+    if !hides_any(hidden) {
+        return Ok(no_rows(alloc));
+    }
+    let whole = registry.whole(alloc)?;
+    let rows = rows_of_list(alloc, registry, mask, &whole, hidden, scripts, names);
+    drop(whole);
+    rows
+}
+
 /// The denials of a build of these scripts for a module of this mask: for each refused use the hidden entries by which it
 /// would have been resolved, and the types that come with them, in the order of the errors, and of each in the order of
 /// entries (docs/LANGUAGE.md, "Denials").
 ///
 /// `names` are those that `declare` gave, if it did; the errors are those of `declare`, or else those of `check`, over what
 /// the mask shows. Where the mask hides nothing, nothing is judged again. The only error is want of memory.
-#[tactic(auto, unfolding(crate::specs::Denials::denials_of), using(crate::proofs::Asking::phases_refuse, crate::proofs::Asking::bodies_refuse))]
 pub fn denials(
     alloc: Global,
     registry: &Registry,
@@ -129,15 +230,8 @@ pub fn denials(
     if errors.is_empty() {
         return Ok(Vec::new(alloc));
     }
-    let hidden = registry.hidden(alloc, mask)?;
-    if !hides_any(&hidden) {
-        return Ok(no_rows(alloc));
-    }
-    let view = registry.seen(alloc, mask)?;
-    let whole = registry.whole(alloc)?;
-    let masked = Masked::new(alloc, &whole, &hidden, mask)?;
-    match names {
-        None => rows_of_phases(alloc, &masked, &view, scripts),
-        Some(names) => rows_of_bodies(alloc, &masked, &view, names, scripts),
-    }
+    let hidden = hidden_marks(alloc, registry, mask)?;
+    let rows = rows_hidden(alloc, registry, mask, hidden.as_slice(), scripts, names);
+    drop(hidden);
+    rows
 }

@@ -1,6 +1,7 @@
 //! Bodies of functions and methods, and initializers of globals.
 ghost use Rattle.std.specs.Prelude.{◌≡◌, ◌<◌, ◌++◌, ◌∷◌, ◌||◌, false, IfOk, OnOk, map as list_map};
 ghost use Rattle.ang_tree.specs.View.{view_body, view_init};
+ghost use Rattle.ang_types.specs.ArgTypes.{is_void};
 ghost use Rattle.ang_typed.specs.View.{view_block, view_function, view_global};
 ghost use Rattle.ang_check_operators.specs.Refusals.{Gives};
 ghost use Rattle.ang_check_stmt.specs.Typing.{block_typing};
@@ -129,7 +130,7 @@ pub fn member_parameters(
 }
 
 fn is_void(ty: ArgType) -> bool
-    ensures exact { result ≡ spec.is_void ty }
+    ensures exact { result ≡ is_void ty }
 {
     match ty {
         ArgType::Void => true,
@@ -143,7 +144,7 @@ fn is_void(ty: ArgType) -> bool
 
 /// Whether a body may end so: each path through it ends, or the function has no result.
 fn may_end(ends: bool, ty: ArgType) -> bool
-    ensures exact { result ≡ (ends || spec.is_void ty) }
+    ensures exact { result ≡ (ends || is_void ty) }
 {
     ends || is_void(ty)
 }

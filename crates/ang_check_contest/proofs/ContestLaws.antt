@@ -1,19 +1,20 @@
 -- What comes of a contest is what `best_of` picks.
-use Rattle.std.specs.Prelude.{ℕ, Bool, true, false, ◌≡◌, ◌≢◌, ◌<◌, ◌≤◌, ◌+◌, ◌⊎◌, List, [], ◌∷◌, nat_lt, if◌then◌else◌, length, map, slice_get, Option, Some, None, IsSome, Decides, min}
+use Rattle.std.specs.Prelude.{ℕ, Bool, true, false, ◌≡◌, ◌≢◌, ◌<◌, ◌≤◌, ◌+◌, ◌⊎◌, List, [], ◌∷◌, nat_lt, if◌then◌else◌, length, map, slice_get, Option, Some, None, IsSome, IfSome, is_some, Decides, ◌↔◌, min}
 use Rattle.std.proofs.Common.{arith, refl, ap, sym, subst, inl, inr, zero, suc, below_more, ◌∙◌}
 use Rattle.std.proofs.lemmas.Bool.Decides.{Decides-ltb, not_from_Decides}
 use Rattle.std.proofs.lemmas.Option.{same_Some}
 use Rattle.ang_types.specs.declared.arg_type.ArgType.{ArgType}
 use Rattle.ang_types.specs.declared.candidate.Candidate.{Candidate}
 use Rattle.ang_types.specs.Best.{best_of}
-use Rattle.ang_types.specs.Overloads.{Params, params_at, params_in, rank_at, IsViable, IsLess, IsBetter, IsViableAt, IsBest}
+use Rattle.ang_types.specs.Overloads.{Params, params_at, rank_at, IsViable, IsLess, IsBetter, IsViableAt, IsBest}
 use Rattle.ang_types.specs.Ranks.{Ancestors, argument_rank}
-use Rattle.ang_types.specs.Rivals.{IsAtMost}
+use Rattle.ang_types.specs.Rivals.{AreRivals, HasAll, IsAtMost, least_at}
 use Rattle.ang_types.proofs.BestLaws.{best_of-says}
 use Rattle.ang_check_contest.specs.declared.score.Contender.{Contender}
 use Rattle.ang_check_contest.specs.declared.score.Outcome.{Outcome}
 use Rattle.ang_check_contest.specs.declared.score.Outcome.TheVariants as outcome
-use Rattle.ang_check_contest.specs.Contest.{with_rank, ranks_of, has_lower, lesser_ranks, Standing, fresh, met, compared, entered_viable, entered_with, entered, Entry, after, outcome_by, outcome_of, candidate_of, chosen, chosen_at}
+use Rattle.ang_check_contest.specs.Contest.{with_rank, ranks_of, has_lower, lesser_ranks, Standing, fresh, met, compared, entered_viable, entered_with, entered, Entry, after, outcome_by, outcome_of, candidate_of, chosen, chosen_at, IsContest}
+use Rattle.ang_check_contest.specs.Levels.{known_ranks}
 
 -- ---- ranks alone
 
@@ -42,7 +43,7 @@ most_same None b h k = absurd h
 most_same (Some q) None h k = absurd h
 most_same (Some q) (Some r) h k = let e : q ≡ r = omega (arith, h, k) in ap Some e
 
-there : (xs : List ℕ) (k : ℕ) → k < length xs → IsSome (slice_get xs k)
+pub there : (xs : List ℕ) (k : ℕ) → k < length xs → IsSome (slice_get xs k)
 there [] k lt = absurd (omega arith)
 there (x ∷ xs) zero lt = refl
 there (x ∷ xs) (suc k) lt = there xs k (omega arith)
@@ -75,7 +76,7 @@ all_or_one f g (suc n) =
 
 -- ---- the ranks of one candidate
 
-abbrev RanksSay : Ancestors → Params → List ArgType → Option (List ℕ) → Type 0
+abbrev pub RanksSay : Ancestors → Params → List ArgType → Option (List ℕ) → Type 0
 RanksSay l ps args None = ¬ IsViable l ps args
 RanksSay l ps args (Some rs) = (length ps ≡ length args) × (length rs ≡ length args) × ((k : ℕ) → rank_at l ps args k ≡ slice_get rs k)
 
@@ -83,7 +84,7 @@ no_rank : (o : Option ℕ) → o ≡ None → IsSome o → ⊥
 no_rank None e s = cc
 no_rank (Some q) e s = cc
 
-ranks_say : (l : Ancestors) (ps : Params) (args : List ArgType) → RanksSay l ps args (ranks_of l ps args)
+pub ranks_say : (l : Ancestors) (ps : Params) (args : List ArgType) → RanksSay l ps args (ranks_of l ps args)
 ranks_say l [] [] = (refl, refl, λ k. refl)
 ranks_say l [] (a ∷ args) = λ v. absurd (omega (arith, v.equal_number))
 ranks_say l (p ∷ ps) [] = λ v. absurd (omega (arith, v.equal_number))
@@ -439,6 +440,55 @@ module _ (l : Ancestors) (args : List ArgType) (es : List Entry) where
         equal : (i j : ℕ) → (i ≡ j) ⊎ (i ≢ j)
         equal i j = grind arith
 
+  -- ---- what is kept beside one candidate more
+
+  least_some : (ls : List ℕ) (k : ℕ) → least_at (map Some ls) k ≡ slice_get ls k
+  least_some [] zero = refl
+  least_some [] (suc k) = refl
+  least_some (r ∷ ls) zero = refl
+  least_some (r ∷ ls) (suc k) = least_some ls k
+
+  some_long : (ls : List ℕ) → length (map Some ls) ≡ length ls
+  some_long [] = refl
+  some_long (r ∷ ls) = ap suc (some_long ls)
+
+  rivals_none : (front : Option Contender) (tied : Bool) (v : List (Option ℕ)) → Stands None front tied (length es) → length v ≡ length args → ((k : ℕ) → least_at v k ≡ None)
+      → AreRivals (v, false) l Candidates args
+  rivals_none front tied v h size none = record {
+    least = record {
+      size = size;
+      none_below = λ i lt w. absurd (h i (in_all i w) w);
+      attained = λ k kn. subst (λ m. IfSome m (λ r. (i : ℕ) × Viable i × (rank i k ≡ Some r))) (sym (none k)) tt;
+    };
+    tied = (λ e. cc, λ w. absurd (h w.0 (in_all w.0 w.1.0) w.1.0));
+  }
+
+  module _ (ls : List ℕ) where
+    has_all : (i : ℕ) → Has ls i → HasAll l Candidates args (map Some ls) i
+    has_all i has = (has.0, λ k kn. has.1 k kn ∙ sym (least_some ls k))
+
+    has_those : (i : ℕ) → HasAll l Candidates args (map Some ls) i → Has ls i
+    has_those i has = (has.0, λ k kn. has.1 k kn ∙ least_some ls k)
+
+    front_has : (front : Option Contender) (tied : Bool) → Fronts ls (length es) front tied → (is_some front ≡ true) ↔ ((i : ℕ) × HasAll l Candidates args (map Some ls) i)
+    front_has None tied h = (λ e. cc, λ w. absurd (h w.0 (in_all w.0 w.1.0) (has_those w.0 w.1)))
+    front_has (Some t) true h = (λ e. (h.0, has_all h.0 h.3), λ w. refl)
+    front_has (Some t) false h = (λ e. (h.0, has_all h.0 h.3), λ w. refl)
+
+    is_attained : (k : ℕ) (o : Option ℕ) → slice_get ls k ≡ o → ((i : ℕ) × Viable i × (rank i k ≡ slice_get ls k)) → IfSome o (λ r. (i : ℕ) × Viable i × (rank i k ≡ Some r))
+    is_attained k None e w = tt
+    is_attained k (Some r) e w = (w.0, w.1, w.2 ∙ e)
+
+    rivals_some : (front : Option Contender) (tied : Bool) → Stands (Some ls) front tied (length es) → AreRivals (map Some ls, is_some front) l Candidates args
+    rivals_some front tied h = record {
+      least = record {
+        size = some_long ls ∙ h.0.size;
+        none_below = λ i lt v k kn. subst (λ m. IsAtMost m (rank i k)) (sym (least_some ls k)) (h.0.below i (in_all i v) v k kn);
+        attained = λ k kn. subst (λ m. IfSome m (λ r. (i : ℕ) × Viable i × (rank i k ≡ Some r))) (sym (least_some ls k)) (is_attained k (slice_get ls k) refl (h.0.attained k kn));
+      };
+      tied = front_has front tied h.1;
+    }
+
   chosen_named : (o : Option Entry) (t : Contender) → named_at o ≡ Some t → chosen_at o ≡ outcome.Best t
   chosen_named None t e = cc
   chosen_named (Some x) t e = ap outcome.Best (same_Some x.contender t e)
@@ -460,3 +510,30 @@ module _ (l : Ancestors) (args : List ArgType) (es : List Entry) where
 
 pub outcome_after : (s : Standing) (l : Ancestors) (args : List ArgType) (es : List Entry) → s ≡ after l args fresh es → outcome_of s ≡ chosen es (best_of l (map candidate_of es) args)
 outcome_after s l args es e = ap outcome_of e ∙ outcome_best l args es
+
+-- ---- a contest of some candidates
+
+stands_so : (l : Ancestors) (cs : List Candidate) (args : List ArgType) (s : Standing) (is : IsContest l cs args s) → Stands l args is.entries s.least s.front s.tied (length is.entries)
+stands_so l cs args s is =
+    subst (λ (x : Standing). Stands l args is.entries x.least x.front x.tied (length is.entries)) (sym is.taken_in) (stands l args is.entries)
+
+-- where none is viable there are no least ranks
+pub none_kept : (l : Ancestors) (cs : List Candidate) (args : List ArgType) (s : Standing) (n : ℕ) (v : List (Option ℕ)) → IsContest l cs args s → is_some s.least ≡ false → length args ≡ n
+    → length v ≡ n → ((k : ℕ) → least_at v k ≡ None) → AreRivals (v, false) l cs args
+none_kept l cs args s n v is lacks long size none = subst (λ c. AreRivals (v, false) l c args) is.are (at s.least lacks (stands_so l cs args s is))
+  where
+    at : (o : Option (List ℕ)) → is_some o ≡ false → Stands l args is.entries o s.front s.tied (length is.entries) → AreRivals (v, false) l (map candidate_of is.entries) args
+    at None lacks h = rivals_none l args is.entries s.front s.tied v h (size ∙ sym long) none
+    at (Some ls) lacks h = cc
+
+-- where one is viable the least ranks are those of the contest
+pub some_kept : (l : Ancestors) (cs : List Candidate) (args : List ArgType) (s : Standing) (v : List (Option ℕ)) (tied : Bool) → IsContest l cs args s → is_some s.least ≡ true
+    → v ≡ map Some (known_ranks s.least) → tied ≡ is_some s.front → AreRivals (v, tied) l cs args
+some_kept l cs args s v tied is some e t =
+    subst (λ c. AreRivals (v, tied) l c args) is.are
+    (subst (λ x. AreRivals (x, tied) l (map candidate_of is.entries) args) (sym e)
+    (subst (λ b. AreRivals (map Some (known_ranks s.least), b) l (map candidate_of is.entries) args) (sym t) (at s.least some (stands_so l cs args s is))))
+  where
+    at : (o : Option (List ℕ)) → is_some o ≡ true → Stands l args is.entries o s.front s.tied (length is.entries) → AreRivals (map Some (known_ranks o), is_some s.front) l (map candidate_of is.entries) args
+    at None lacks h = cc
+    at (Some ls) lacks h = rivals_some l args is.entries ls s.front s.tied h

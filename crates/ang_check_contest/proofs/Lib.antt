@@ -6,3 +6,4 @@ pub mod ContestLaws
 pub mod RankLaws
 pub mod ToldLaws
 pub mod LevelLaws
+pub mod WinLaws

@@ -1,5 +1,5 @@
 -- Ranks so far, in front of those that follow.
-use Rattle.std.specs.Prelude.{ℕ, false, ◌≡◌, ◌≢◌, List, [], ◌∷◌, ◌++◌, length, map, Option, Some, None}
+use Rattle.std.specs.Prelude.{ℕ, Bool, true, false, ◌≡◌, ◌≢◌, List, [], ◌∷◌, ◌++◌, length, map, is_some, Option, Some, None}
 use Rattle.std.proofs.Common.{arith, refl, ap, ◌∙◌}
 use Rattle.std.proofs.lemmas.Option.{same_Some}
 use Rattle.ang_kinds.specs.declared.types.Pass.TheVariants.{RefInOut}
@@ -12,7 +12,7 @@ use Rattle.ang_names_known.specs.declared.names.ScriptParameter.{ScriptParameter
 use Rattle.ang_check_contest.specs.Host.{host_type, host_parameters, in_front as param_in_front}
 use Rattle.ang_names_known.specs.Lookup.{type_and_pass}
 use Rattle.ang_check_contest.specs.Contest.{with_rank, ranks_of, has_lower, lesser_ranks}
-use Rattle.ang_check_contest.specs.Scores.{host_method_ranks, host_rank, host_ranks, in_front}
+use Rattle.ang_check_contest.specs.Scores.{host_method_ranks, host_rank, host_ranks, in_front, ranks_if}
 
 pub no_ranks : (l : Ancestors) (params : List ScriptParameter) (args : List ArgType) → length params ≢ length args → ranks_of l (map type_and_pass params) args ≡ None
 no_ranks l [] [] ne = absurd (ne refl)
@@ -90,3 +90,7 @@ nothing_more (x ∷ xs) ys e = ap (λ rest. x ∷ rest) (nothing_more xs ys e)
 pub none_in_front : (o : Option (List ℕ)) → in_front [] o ≡ o
 none_in_front None = refl
 none_in_front (Some ranks) = refl
+
+pub some_if : (b : Bool) (ranks : List ℕ) → b ≡ is_some (ranks_if b ranks)
+some_if true ranks = refl
+some_if false ranks = refl

@@ -1,7 +1,7 @@
 -- The best of several candidates, each of which is looked at once, as it comes. Of those that came are kept the least rank of each argument
 -- among the viable ones, and the one that has all of these. The best is the viable one that has the least rank of each argument, if no
 -- other one has them all: it is what `best_of` picks (`Contest::outcome`).
-use Rattle.std.specs.Prelude.{ℕ, Bool, true, false, if◌then◌else◌, nat_lt, List, [], ◌∷◌, ◌+◌, slice_get, Option, Some, None, min}
+use Rattle.std.specs.Prelude.{ℕ, ◌≡◌, Bool, true, false, if◌then◌else◌, nat_lt, List, [], ◌∷◌, ◌+◌, map, slice_get, Option, Some, None, min}
 use Rattle.ang_types.specs.declared.arg_type.ArgType.{ArgType}
 use Rattle.ang_types.specs.declared.candidate.Candidate.{Candidate}
 use Rattle.ang_types.specs.declared.candidate.Pick.{Pick}
@@ -134,3 +134,9 @@ is_none_viable (outcome.Best t) = false
 abbrev pub placed : {A : Type 0} → (ℕ → Contender) → ℕ → List A → List Contender
 placed make n [] = []
 placed make n (x ∷ xs) = make n ∷ placed make (n + 1) xs
+
+-- how the contest of these candidates stands, for these arguments
+pub record IsContest (ancestors : Ancestors) (candidates : List Candidate) (args : List ArgType) (standing : Standing) : Type 0 where
+  pub entries : List Entry
+  pub taken_in : standing ≡ after ancestors args fresh entries
+  pub are : map candidate_of entries ≡ candidates

@@ -46,9 +46,8 @@ host_type V (ref.Object name s o h) = object_with s o (type_named V name)
 -- ---- functions, factories and methods
 
 abbrev pub in_front : Option ArgType → Pass → Option (List (ArgType × Pass)) → Option (List (ArgType × Pass))
-in_front None pass rest = None
-in_front (Some t) pass None = None
 in_front (Some t) pass (Some rest) = Some ((t, pass) ∷ rest)
+in_front _ pass _ = None
 
 abbrev pub host_parameters : RegistrationList → List Param → Option (List (ArgType × Pass))
 host_parameters V [] = Some []
@@ -71,14 +70,8 @@ abbrev pub function_of_entry : RegistrationList → ℕ → Entry → Option See
 function_of_entry V n x = host_function n x (host_type V x.signature.result) (host_parameters V x.signature.params)
 
 abbrev pub is_method : EntryKind → Bool
-is_method entry.HostType = false
-is_method entry.Factory = false
 is_method entry.Method = true
-is_method entry.Property = false
-is_method entry.Function = false
-is_method entry.Global = false
-is_method entry.Enumeration = false
-is_method (entry.EnumValue v) = false
+is_method _ = false
 
 -- functions of a name, factories of a type, and methods of a type and a name
 abbrev pub is_wanted : Wanted → Entry → Bool
@@ -106,24 +99,12 @@ host_where w V = scan (found w V) 0 V
 -- ---- properties
 
 abbrev pub is_global : EntryKind → Bool
-is_global entry.HostType = false
-is_global entry.Factory = false
-is_global entry.Method = false
-is_global entry.Property = false
-is_global entry.Function = false
 is_global entry.Global = true
-is_global entry.Enumeration = false
-is_global (entry.EnumValue v) = false
+is_global _ = false
 
 abbrev pub is_property : EntryKind → Bool
-is_property entry.HostType = false
-is_property entry.Factory = false
-is_property entry.Method = false
 is_property entry.Property = true
-is_property entry.Function = false
-is_property entry.Global = false
-is_property entry.Enumeration = false
-is_property (entry.EnumValue v) = false
+is_property _ = false
 
 -- the global property of a name, and the property of a type and a name
 abbrev pub is_wanted_property : WantedProperty → Entry → Bool

@@ -7,3 +7,4 @@ pub mod Contest
 pub mod Scores
 pub mod Told
 pub mod Levels
+pub mod Winning

@@ -1,10 +1,11 @@
 -- The ranks of the arguments of a call for all kinds of parameters.
-use Rattle.std.specs.Prelude.{ℕ, List, [], ◌∷◌, map, slice_get, Option, Some, None, Vec}
+use Rattle.std.specs.Prelude.{ℕ, ◌≡◌, List, [], ◌∷◌, map, option_map, slice_get, Option, Some, None, IfSome, Vec}
 use Rattle.std.specs.declared.alloc.Global.{Global}
 use Rattle.ang_types.specs.declared.arg_type.ArgType.{ArgType}
+use Rattle.ang_types.specs.Overloads.{Params}
 use Rattle.ang_types.specs.Ranks.{Ancestors, argument_rank}
 use Rattle.ang_names_known.specs.Kinds.{Kind}
-use Rattle.ang_check_contest.specs.Contest.{with_rank}
+use Rattle.ang_check_contest.specs.Contest.{ranks_of, with_rank}
 
 -- of what the ranks are: of these arguments for these kinds
 pub record Telling : Type 0 where
@@ -36,3 +37,16 @@ ranks_at [] [] = Some []
 ranks_at [] (n ∷ ns) = None
 ranks_at (row ∷ rows) [] = None
 ranks_at (row ∷ rows) (n ∷ ns) = with_rank (rank_in row n) (ranks_at rows ns)
+
+-- ---- ranks that are told where it is worth it
+
+abbrev pub table_of : Option (Vec (Vec (Option ℕ) Global) Global) → Option (List (List (Option ℕ)))
+table_of rows = option_map (λ (v : Vec (Vec (Option ℕ) Global) Global). rows_of v.items) rows
+
+-- the rows of a use, where they were found out
+abbrev pub IsTable : Ancestors → List Kind → List ArgType → Option (List (List (Option ℕ))) → Type 0
+IsTable ancestors kinds args table = IfSome table (λ rows. rows ≡ told_ranks ancestors kinds args)
+
+-- what is told of parameters by the rows and the numbers of their kinds, where there are both: the ranks of all arguments
+abbrev pub TellsRanks : Ancestors → Params → List ArgType → Option (List (List (Option ℕ))) → Option (List ℕ) → Type 0
+TellsRanks ancestors ps args table numbers = IfSome table (λ rows. IfSome numbers (λ ns. ranks_at rows ns ≡ ranks_of ancestors ps args))

@@ -1,5 +1,5 @@
 //! The best of several candidates, each of which is looked at once, as it comes.
-ghost use Rattle.std.specs.Prelude.{◌≡◌, ◌∷◌, true, false, List, Some, OnOk, map as list_map};
+ghost use Rattle.std.specs.Prelude.{◌≡◌, ◌∷◌, true, false, List, Some, is_some, OnOk, map as list_map};
 ghost use Rattle.ang_types.specs.declared.arg_type.ArgType.{ArgType};
 ghost use Rattle.ang_types.specs.Best.{best_of};
 ghost use Rattle.ang_types.specs.Overloads.{Params};
@@ -199,6 +199,21 @@ impl Contest {
         ensures exact { result ≡ self.now.empty }
     {
         self.score.is_empty
+    }
+
+    /// Whether some candidate is viable. It takes no memory.
+    #[tactic(auto, using(crate::proofs::RankLaws::some_if))]
+    pub(crate) fn is_viable(&self) -> bool
+        ensures exact { result ≡ is_some self.now.least }
+    {
+        self.score.is_viable
+    }
+
+    /// Whether some viable candidate has all of the least ranks. It takes no memory.
+    pub(crate) fn is_led(&self) -> bool
+        ensures exact { result ≡ is_some self.now.front }
+    {
+        self.score.front.is_some()
     }
 
     /// Which of them is the best. It takes no memory.

@@ -7,7 +7,7 @@ ghost use Rattle.ang_check_contest.specs.Scores.{in_front, ranks_if};
 ghost use Rattle.ang_check_contest.specs.Told as spec;
 
 use ang_kinds::Pass;
-use ang_types::{ArgType, Lineage, rank_of_argument};
+use ang_types::{ArgType, Lineage, push_ranks, rank_of_argument};
 use std::alloc::{AllocError, Global};
 use std::marker::Model;
 
@@ -70,14 +70,56 @@ fn ranks_of_argument(
     let mut row = Vec::with_capacity(alloc, kinds.len().saturating_add(2))?;
     row.push(rank_of_argument(lineage, changed, Pass::RefInOut, argument))?;
     row.push(rank_of_argument(lineage, read_only, Pass::RefInOut, argument))?;
-    for kind in kinds {
-        row.push(rank_of_argument(lineage, kind.0, kind.1, argument))?;
-    }
+    push_ranks(lineage, kinds, argument, &mut row)?;
     Ok(row)
 }
 
+/// The ranks of arguments for all kinds of parameters, a row for each argument. In front of the kinds stand those of a receiver
+/// of the type of this number, one that may be changed and one that is read only.
+///
+/// The only error is want of memory.
+fn ranks_of_arguments(
+    alloc: Global,
+    lineage: &Lineage,
+    receiver: u32,
+    kinds: &[(ArgType, Pass)],
+    args: &[ArgType],
+) -> Result<Vec<Vec<Option<u8>>>, AllocError>
+    ensures exact { IfOk result (λ rows. spec.rows_of rows.items
+        ≡ spec.told_ranks lineage.now (numbered receiver kinds.now) args.now) }
+{
+    let mut rows = Vec::with_capacity(alloc, args.len())?;
+    for argument in args {
+        let row = ranks_of_argument(alloc, lineage, receiver, kinds, *argument)?;
+        rows.push(row)?;
+    }
+    Ok(rows)
+}
+
+/// The ranks of arguments for these kinds, where it is worth to find them out for so many candidates. In front stand those of
+/// receivers of type 0.
+///
+/// The only error is want of memory.
+pub fn table_for(
+    alloc: Global,
+    lineage: &Lineage,
+    kinds: &[(ArgType, Pass)],
+    args: &[ArgType],
+    candidates: usize,
+) -> Result<Option<Vec<Vec<Option<u8>>>>, AllocError>
+    ensures table { IfOk result (λ table. spec.IsTable lineage.now (numbered 0 kinds.now) args.now
+        (spec.table_of table)) }
+{
+    if !is_worth_telling(candidates, kinds.len()) {
+        return Ok(None);
+    }
+    let rows = ranks_of_arguments(alloc, lineage, 0, kinds, args)?;
+    Ok(Some(rows))
+}
+
 /// The rank of an argument for the kind of a number.
-fn rank_at(row: &[Option<u8>], number: u32) -> Option<u8>
+#[inline(always)]
+pub(crate) fn rank_at(row: &[Option<u8>], number: u32) -> Option<u8>
     ensures exact { result ≡ spec.rank_in row.now number }
 {
     match row.get(number as usize) {
@@ -132,11 +174,7 @@ impl<'a> ToldRanks<'a> {
         ensures kinds { IfOk result (λ told. told.kinds ≡ numbered receiver kinds.now) }
         ensures args { IfOk result (λ told. told.args ≡ args.now) }
     {
-        let mut rows = Vec::with_capacity(alloc, args.len())?;
-        for argument in args {
-            let row = ranks_of_argument(alloc, lineage, receiver, kinds, *argument)?;
-            rows.push(row)?;
-        }
+        let rows = ranks_of_arguments(alloc, lineage, receiver, kinds, args)?;
         Ok(ToldRanks {
             lineage,
             receiver,

@@ -54,11 +54,10 @@ impl<'a> ToldContest<'a> {
         ensures args { IfOk result (λ told. told.telling.args ≡ args.now) }
     {
         let told = ToldRanks::new(alloc, lineage, receiver, kinds, args)?;
-        let levels = levels_beside(alloc, told.rows(), contest.least())?;
         Ok(ToldContest {
             contest,
             told,
-            levels,
+            levels: Vec::new(alloc),
         })
     }
 

@@ -11,9 +11,8 @@ use Rattle.ang_check_operators.specs.Refusals.{Typing, refused}
 use Rattle.ang_check_context.specs.Scope.{BodyContext, family_of}
 
 abbrev pub access_error : Access → ErrorKind
-access_error access.Public = kind.Private
 access_error access.Protected = kind.Protected
-access_error access.Private = kind.Private
+access_error _ = kind.Private
 
 -- what follows where the body may use the member of this name; else `Private` or `Protected` at the name
 abbrev pub if_reached : {A : Type 0} → BodyContext → Token → ℕ → Access → Typing A → Typing A

@@ -1,13 +1,13 @@
-pub mod Alone
-pub mod Brought
+pub mod Bringing
 pub mod ByName
 pub mod Helping
 pub mod Kept
 pub mod Making
 pub mod Meaning
-pub mod Merging
+pub mod NotMeant
 pub mod Places
 pub mod SameUses
+pub mod Seen
 pub mod Taking
 pub mod Types
 pub mod Values

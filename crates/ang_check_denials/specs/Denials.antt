@@ -27,15 +27,12 @@ use Rattle.ang_check_contest.specs.Scopes.{Scope}
 -- ---- what a use means
 
 abbrev pub is_variable : ℕ → TypedVariable → Bool
-is_variable x (variable.Local n) = false
-is_variable x (variable.Global n) = false
 is_variable x (variable.Property h) = h.entity.0 == x
-is_variable x (variable.Field i) = false
+is_variable x _ = false
 
 abbrev pub is_called : ℕ → Called → Bool
-is_called x (calls.Script f) = false
 is_called x (calls.Host h) = h.entity.0 == x
-is_called x (calls.Makes c k) = false
+is_called x _ = false
 
 -- the use means entry x
 abbrev pub means_entry : ℕ → Resolution → Bool
@@ -51,24 +48,13 @@ means_entry x (resolution.Refused why) = false
 
 -- the use of a bare name, a type's in a declaration that makes an object and an enumeration's in front of `::` included
 abbrev pub is_bare : Asks → Bool
-is_bare asks.Value = true
-is_bare asks.Type = true
-is_bare asks.Enumeration = true
-is_bare (asks.Call args) = true
-is_bare (asks.Make n args) = true
-is_bare (asks.Default n) = true
 is_bare (asks.Property n) = false
 is_bare (asks.Method n c args) = false
+is_bare _ = true
 
 abbrev pub is_call : Asks → Bool
-is_call asks.Value = false
-is_call asks.Type = false
-is_call asks.Enumeration = false
 is_call (asks.Call args) = true
-is_call (asks.Make n args) = false
-is_call (asks.Default n) = false
-is_call (asks.Property n) = false
-is_call (asks.Method n c args) = false
+is_call _ = false
 
 abbrev pub is_function_entry : Option Entry → Bool
 is_function_entry None = false
@@ -81,20 +67,15 @@ joins s r a x = is_call a && (is_function_entry x && not (is_empty (functions_of
 -- a type is found
 abbrev pub is_known : Named → Bool
 is_known named.Unknown = false
-is_known (named.Object n) = true
-is_known (named.Enumeration n) = true
+is_known _ = true
 
 -- The use means a type that is seen, by its name, whatever local or member has the name too: a call of such a name, and a declaration that
 -- makes an object.
 abbrev pub is_of_type : Scope → List ℕ → Asks → Bool
-is_of_type s name asks.Value = false
-is_of_type s name asks.Type = false
-is_of_type s name asks.Enumeration = false
 is_of_type s name (asks.Call args) = is_known (type_of_name (space_of_names s.view s.names) name)
 is_of_type s name (asks.Make n args) = true
 is_of_type s name (asks.Default n) = true
-is_of_type s name (asks.Property n) = false
-is_of_type s name (asks.Method n c args) = false
+is_of_type s name _ = false
 
 -- the script declares the name, or has it there as a local or a member, where the use means no seen type
 abbrev pub is_own : Scope → Refused → Asks → Bool

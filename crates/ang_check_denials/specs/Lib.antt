@@ -1,8 +1,8 @@
 pub mod Added
+pub mod Brought
 pub mod Denials
-pub mod Fitting
 pub mod Made
 pub mod Masked
 pub mod Names
 pub mod Others
-pub mod Rising
+pub mod Takers

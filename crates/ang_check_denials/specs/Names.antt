@@ -68,18 +68,3 @@ is_a_type_named name (Some t) = is_type t.kind && bytes_eq t.signature.name name
 -- the numbers of the object types and the enumerations of a name, rising
 unfoldable pub types_named : RegistrationList → List ℕ → List ℕ
 types_named R name = filter (λ k. is_a_type_named name (entry_at R k)) (numbers_of R)
-
--- ---- what comes with an entry
-
-abbrev pub is_type_entry : Option Entry → Bool
-is_type_entry None = false
-is_type_entry (Some t) = is_type t.kind
-
--- some of the numbers of a list, rising
-pub record Picked (R : RegistrationList) (ns : List ℕ) : Type 0 where
-  pub passes : ℕ → Bool
-  pub are : ns ≡ filter passes (numbers_of R)
-
--- the numbers of the object types and the enumerations of a list
-abbrev pub type_numbers : RegistrationList → List ℕ
-type_numbers R = filter (λ y. is_type_entry (entry_at R y)) (numbers_of R)

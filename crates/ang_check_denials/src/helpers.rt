@@ -5,17 +5,17 @@ ghost use Rattle.ang_view.specs.Registration.{entry_at, seen};
 ghost use Rattle.ang_names_known.specs.Kinds.{numbered};
 ghost use Rattle.ang_check_denials.specs.Added as added;
 ghost use Rattle.ang_check_denials.specs.Denials as spec;
-ghost use Rattle.ang_check_denials.specs.Fitting.{IsTable, table_of};
+ghost use Rattle.ang_check_contest.specs.Told.{IsTable, table_of};
 ghost use Rattle.ang_check_denials.specs.Names as names;
 ghost use Rattle.ang_check_denials.specs.Others.{AreOthers};
 
 use crate::beside::{Beside, beside_of};
-use crate::fitting::table_for;
 use crate::masked::Masked;
 use crate::meanings::adds;
 use crate::named::is_known;
 use crate::sought::help_row;
-use ang_check_contest::{Scope, is_worth_telling};
+use crate::takers::can_help;
+use ang_check_contest::{Scope, table_for};
 use ang_check_uses::type_named;
 use ang_index::Index;
 use ang_kinds::EntityNo;
@@ -96,7 +96,7 @@ fn helps(
     beside: &Beside,
     taken: bool,
     number: u32,
-    table: &Option<Vec<Vec<bool>>>,
+    table: &Option<Vec<Vec<Option<u8>>>>,
 ) -> Result<bool, AllocError>
     requires view { scope.now.view ≡ seen masked.now.list masked.now.mask }
     requires taken { taken ≡ spec.is_taken scope.now refused.now asks.now }
@@ -159,7 +159,7 @@ fn helper_at(
     taken: bool,
     count: u32,
     number: u32,
-    table: &Option<Vec<Vec<bool>>>,
+    table: &Option<Vec<Vec<Option<u8>>>>,
 ) -> Result<Option<u32>, AllocError>
     requires view { scope.now.view ≡ seen masked.now.list masked.now.mask }
     requires taken { taken ≡ spec.is_taken scope.now refused.now asks.now }
@@ -215,7 +215,7 @@ fn helpers_beside(
     taken: bool,
     count: u32,
     row: &[u32],
-    table: &Option<Vec<Vec<bool>>>,
+    table: &Option<Vec<Vec<Option<u8>>>>,
 ) -> Result<Vec<u32>, AllocError>
     requires view { scope.now.view ≡ seen masked.now.list masked.now.mask }
     requires taken { taken ≡ spec.is_taken scope.now refused.now asks.now }
@@ -249,29 +249,8 @@ fn helpers_beside(
     Ok(numbers)
 }
 
-/// Which kinds of parameters take each argument of a use that looks at `count` entries, if that is worth to be found out.
-fn table_beside(
-    alloc: Global,
-    masked: &Masked<'_>,
-    scope: &Scope<'_>,
-    beside: &Beside,
-    count: usize,
-) -> Result<Option<Vec<Vec<bool>>>, AllocError>
-    ensures table { IfOk result (λ table. IsTable scope.now.ancestors
-        (numbered 0 masked.now.kinds) beside.now.types.items (table_of table)) }
-{
-    let kinds = masked.kinds();
-    let is_worth = is_worth_telling(count, kinds.len());
-    table_for(
-        alloc,
-        scope.lineage(),
-        kinds,
-        beside.types.as_slice(),
-        is_worth,
-    )
-}
-
 /// The numbers of a row whose entries resolve a refused use, in order. `count` is how many entries there are.
+#[tactic(auto, using(crate::proofs::NotMeant::none_in_row))]
 fn helpers_among(
     alloc: Global,
     masked: &Masked<'_>,
@@ -290,9 +269,14 @@ fn helpers_among(
     if row.is_empty() {
         return Ok(Vec::new(alloc));
     }
+    let can = can_help(alloc, masked, scope, asks, row)?;
+    if !can {
+        return Ok(Vec::new(alloc));
+    }
     let beside = beside_of(alloc, masked, scope, refused.error.name.as_slice(), asks)?;
     let taken = is_taken(scope, refused, asks);
-    let table = table_beside(alloc, masked, scope, &beside, row.len())?;
+    let types = beside.types.as_slice();
+    let table = table_for(alloc, scope.lineage(), masked.kinds(), types, row.len())?;
     helpers_beside(
         alloc, masked, scope, refused, asks, &beside, taken, count, row, &table,
     )

@@ -1,37 +1,43 @@
 //! A registration list, and what a module of a mask does not see of it.
-ghost use Rattle.std.specs.Prelude.{◌≡◌, ◌≤◌, length, None, option_copied, option_map, slice_index_or, IfOk};
+ghost use Rattle.std.specs.Prelude.{◌≡◌, ◌≤◌, is_some, length, None, option_copied, option_map, slice_index_or, IfOk};
+ghost use Rattle.std.specs.Prelude.{map as list_map};
 ghost use Rattle.ang_names_known.specs.Kinds.{Says};
 ghost use Rattle.ang_view.specs.Hidden as spec;
 ghost use Rattle.ang_view.specs.Registration.{entry_at};
+ghost use Rattle.ang_check_denials.specs.Brought as brought_spec;
 ghost use Rattle.ang_check_denials.specs.Denials as denials;
 ghost use Rattle.ang_check_denials.specs.Made as candidates;
-ghost use Rattle.ang_check_denials.specs.Names as names;
 
+use crate::brought::{brought_rows, numbers_at};
 use crate::made::{candidate_among, made, made_at};
+use crate::marked::is_marked;
 use crate::numbered::{Numbered, number_kinds};
 use ang_check_contest::Wanted;
 use ang_kinds::{EntityNo, Mask, Pass};
+use ang_names_known::KindRows;
 use ang_types::{ArgType, Candidate};
-use ang_view::{EntryKind, View, names_entry};
+use ang_view::{View, names_entry};
 use std::alloc::{AllocError, Global};
 use std::marker::Model;
 
 /// A registration list, and what a module of a mask does not see of it.
 ///
 /// Beside it stand its functions, factories and methods as candidates, so that none is made anew for each use that looks
-/// at it, and the numbers of their parameters' kinds.
+/// at it, the numbers of their parameters' kinds, and of each entry the numbers of what comes with it.
 #[derive(Drop)]
 pub struct Masked<'a> {
     whole: &'a View,
-    hidden: &'a View,
+    hidden: &'a [bool],
     mask: Mask,
     made: Vec<Option<Candidate>>,
     numbered: Numbered,
+    brought: KindRows,
 }
 
 impl<'a> Model for Masked<'a> {
-    ghost use Rattle.std.specs.Prelude.{◌≡◌};
+    ghost use Rattle.std.specs.Prelude.{◌≡◌, is_some, map};
     ghost use Rattle.ang_view.specs.Hidden as views;
+    ghost use Rattle.ang_check_denials.specs.Brought.{all_brought};
     ghost use Rattle.ang_check_denials.specs.Made as candidates;
     ghost use Rattle.ang_check_denials.specs.Masked as value;
     ghost use Rattle.ang_names_known.specs.Kinds.{AreRows};
@@ -44,32 +50,36 @@ impl<'a> Model for Masked<'a> {
       kinds = r.numbered.kinds.items;
     } };
 
-    ghost invariant = { λ r. (r.hidden.now ≡ views.hidden r.whole.now r.mask.0)
+    ghost invariant = { λ r. (r.hidden.now ≡ map is_some (views.hidden r.whole.now r.mask.0))
         × (r.made.items ≡ candidates.made r.whole.now)
         × AreRows r.numbered.kinds.items r.numbered.rows
-        (λ t. candidates.params_made (candidates.made r.whole.now)) };
+        (λ t. candidates.params_made (candidates.made r.whole.now))
+        × (r.brought ≡ all_brought r.whole.now r.mask.0) };
 }
 
 impl<'a> Masked<'a> {
-    /// Borrows a whole list, and what a module of this mask does not see of it. The only error is want of memory.
+    /// Borrows a whole list, and for each of its entries whether it is there and a module of this mask does not see it. The only
+    /// error is want of memory.
     pub fn new(
         alloc: Global,
         whole: &'a View,
-        hidden: &'a View,
+        hidden: &'a [bool],
         mask: Mask,
     ) -> Result<Masked<'a>, AllocError>
-        requires hidden { hidden.now ≡ spec.hidden whole.now mask.0 }
+        requires hidden { hidden.now ≡ list_map is_some (spec.hidden whole.now mask.0) }
         ensures list { IfOk result (λ masked. masked.list ≡ whole.now) }
         ensures mask { IfOk result (λ masked. masked.mask ≡ mask.0) }
     {
         let made = made(alloc, whole)?;
         let numbered = number_kinds(alloc, made.as_slice())?;
+        let brought = brought_rows(alloc, whole, mask)?;
         Ok(Masked {
             whole,
             hidden,
             mask,
             made,
             numbered,
+            brought,
         })
     }
 
@@ -99,7 +109,7 @@ impl<'a> Masked<'a> {
     pub fn hides(&self, number: u32) -> bool
         ensures exact { result ≡ spec.is_hidden self.now.list self.now.mask number }
     {
-        self.hidden.get(EntityNo(number)).is_some()
+        is_marked(self.hidden, number)
     }
 
     /// The entry of this number as a candidate, where it is wanted; of a method with its receiver in front. It takes no memory.
@@ -133,24 +143,12 @@ impl<'a> Masked<'a> {
         self.numbered.rows.row(number as usize)
     }
 
-    /// Whether the entry of this number is there, and its own mask does not meet the module's.
-    pub fn is_unmet(&self, number: u32) -> bool
-        ensures exact { result ≡ spec.is_unmet self.now.list self.now.mask number }
+    /// What comes with the entry of this number, of that whose own mask does not meet the module's: in any order, and some of it
+    /// more than once. It takes no memory.
+    pub fn brought(&self, number: u32) -> &[u32]
+        ensures exact { result.now ≡ brought_spec.brought self.now.list self.now.mask number }
     {
-        match self.whole.get(EntityNo(number)) {
-            None => false,
-            Some(entry) => !entry.mask.meets(self.mask),
-        }
-    }
-
-    /// Whether the entry of this number is an object type or an enumeration.
-    pub fn has_type(&self, number: u32) -> bool
-        ensures exact { result ≡ names.is_type_entry (entry_at self.now.list number) }
-    {
-        match self.whole.get(EntityNo(number)) {
-            None => false,
-            Some(entry) => matches!(entry.kind, EntryKind::HostType | EntryKind::Enumeration),
-        }
+        numbers_at(&self.brought, number)
     }
 
     /// The mask of the entry of this number, or 0 where none is there.

@@ -1,5 +1,5 @@
 //! What a use would mean, where a hidden entry is added to what a module sees.
-ghost use Rattle.std.specs.Prelude.{◌≡◌, true, not, ◌&&◌, length, List, IfOk, None, slice_index_or};
+ghost use Rattle.std.specs.Prelude.{◌≡◌, true, not, ◌&&◌, List, IfOk, None, slice_index_or};
 ghost use Rattle.ang_types.specs.declared.asks.Asks.TheVariants as asks_of;
 ghost use Rattle.ang_types.specs.declared.candidate.Candidate.{Candidate};
 ghost use Rattle.ang_names_known.specs.Kinds.{numbered};
@@ -12,17 +12,15 @@ ghost use Rattle.ang_names_known.specs.Items.{is_empty};
 ghost use Rattle.ang_names_known.specs.Spaces as spaces;
 ghost use Rattle.ang_check_uses.specs.Uses.{candidates_of, functions_of};
 ghost use Rattle.ang_check_denials.specs.Added as spec;
-ghost use Rattle.ang_check_denials.specs.Fitting.{IsTable, table_of};
+ghost use Rattle.ang_check_contest.specs.Told.{IsTable, table_of};
 ghost use Rattle.ang_check_denials.specs.Made as candidates;
 ghost use Rattle.ang_check_denials.specs.Names.{types_named};
 ghost use Rattle.ang_check_denials.specs.Others.{AreOthers};
 
 use crate::beside::{Beside, makers_of};
-use crate::fitting::told_by;
 use crate::masked::Masked;
 use crate::named::{is_a_type_named, is_enumeration_named, is_function_at, is_made_by, named_with};
-use crate::others::Others;
-use ang_check_contest::{Scope, SeenProperty, Wanted, WantedProperty, property_at};
+use ang_check_contest::{Rivalry, Scope, SeenProperty, Wanted, WantedProperty, property_at};
 use ang_check_uses::takes_number;
 use ang_kinds::EntityNo;
 use ang_names_known::{BorrowedText, Named, Names, family_of_type};
@@ -199,11 +197,10 @@ fn wins(
     lineage: &Lineage,
     added: u32,
     wanted: &Wanted<'_>,
-    rivals: &Others,
+    rivals: &Rivalry,
     types: &[ArgType],
-    table: &Option<Vec<Vec<bool>>>,
+    table: &Option<Vec<Vec<Option<u8>>>>,
 ) -> bool
-    requires size { length rivals.now.rivals.0 ≡ length types.now }
     requires table { IsTable lineage.now (numbered 0 masked.now.kinds) types.now
         (table_of table.now) }
     ensures exact { (cs : List Candidate) → AreOthers rivals.now lineage.now cs types.now →
@@ -213,20 +210,19 @@ fn wins(
     let Some(candidate) = masked.candidate(wanted, added) else {
         return false;
     };
-    let told = told_by(table, masked.row(added));
-    rivals.would_win(lineage, candidate.params.as_slice(), types, told)
+    let params = candidate.params.as_slice();
+    rivals.would_win(lineage, params, types, table, masked.row(added))
 }
 
 /// Whether the entry of this number, as a candidate, would be the best of all.
-fn made_wins(
+pub fn made_wins(
     masked: &Masked<'_>,
     lineage: &Lineage,
     added: u32,
-    rivals: &Others,
+    rivals: &Rivalry,
     types: &[ArgType],
-    table: &Option<Vec<Vec<bool>>>,
+    table: &Option<Vec<Vec<Option<u8>>>>,
 ) -> bool
-    requires size { length rivals.now.rivals.0 ≡ length types.now }
     requires table { IsTable lineage.now (numbered 0 masked.now.kinds) types.now
         (table_of table.now) }
     ensures exact { (cs : List Candidate) → AreOthers rivals.now lineage.now cs types.now →
@@ -236,8 +232,8 @@ fn made_wins(
     let Some(candidate) = masked.made(added) else {
         return false;
     };
-    let told = told_by(table, masked.row(added));
-    rivals.would_win(lineage, candidate.params.as_slice(), types, told)
+    let params = candidate.params.as_slice();
+    rivals.would_win(lineage, params, types, table, masked.row(added))
 }
 
 /// Whether the factory that is added would be the best that makes an object of the type of this number.
@@ -248,7 +244,7 @@ fn factory_wins(
     added: u32,
     number: u32,
     beside: &Beside,
-    table: &Option<Vec<Vec<bool>>>,
+    table: &Option<Vec<Vec<Option<u8>>>>,
 ) -> Result<bool, AllocError>
     requires makers { AreOthers beside.now.makers scope.now.ancestors
         (spec.factories scope.now.view beside.now.made) beside.now.types.items }
@@ -264,15 +260,8 @@ fn factory_wins(
     let lineage = scope.lineage();
     let wanted = Wanted::Factory(number);
     if number == beside.made {
-        return Ok(wins(
-            masked,
-            lineage,
-            added,
-            &wanted,
-            &beside.makers,
-            types,
-            table,
-        ));
+        let makers = &beside.makers;
+        return Ok(wins(masked, lineage, added, &wanted, makers, types, table));
     }
     let makers = makers_of(alloc, scope, number, types)?;
     Ok(wins(masked, lineage, added, &wanted, &makers, types, table))
@@ -286,7 +275,7 @@ fn call_wins(
     added: u32,
     name: &[u8],
     beside: &Beside,
-    table: &Option<Vec<Vec<bool>>>,
+    table: &Option<Vec<Vec<Option<u8>>>>,
 ) -> Result<bool, AllocError>
     requires view { scope.now.view ≡ seen masked.now.list masked.now.mask }
     requires rivals { AreOthers beside.now.rivals scope.now.ancestors
@@ -308,15 +297,8 @@ fn call_wins(
         Named::Unknown => {
             let wanted = Wanted::Function(BorrowedText::new(name));
             let lineage = scope.lineage();
-            Ok(wins(
-                masked,
-                lineage,
-                added,
-                &wanted,
-                &beside.rivals,
-                types,
-                table,
-            ))
+            let rivals = &beside.rivals;
+            Ok(wins(masked, lineage, added, &wanted, rivals, types, table))
         }
     }
 }
@@ -331,7 +313,7 @@ fn function_means(
     added: u32,
     name: &[u8],
     beside: &Beside,
-    table: &Option<Vec<Vec<bool>>>,
+    table: &Option<Vec<Vec<Option<u8>>>>,
 ) -> Result<bool, AllocError>
     requires view { scope.now.view ≡ seen masked.now.list masked.now.mask }
     requires rivals { AreOthers beside.now.rivals scope.now.ancestors
@@ -368,7 +350,7 @@ fn call_means(
     added: u32,
     name: &[u8],
     beside: &Beside,
-    table: &Option<Vec<Vec<bool>>>,
+    table: &Option<Vec<Vec<Option<u8>>>>,
 ) -> Result<bool, AllocError>
     requires view { scope.now.view ≡ seen masked.now.list masked.now.mask }
     requires rivals { AreOthers beside.now.rivals scope.now.ancestors
@@ -405,7 +387,7 @@ pub fn adds(
     asks: &Asks,
     beside: &Beside,
     added: u32,
-    table: &Option<Vec<Vec<bool>>>,
+    table: &Option<Vec<Vec<Option<u8>>>>,
 ) -> Result<bool, AllocError>
     requires view { scope.now.view ≡ seen masked.now.list masked.now.mask }
     requires rivals { AreOthers beside.now.rivals scope.now.ancestors
@@ -422,6 +404,7 @@ pub fn adds(
         (spec.named_with masked.now.list masked.now.mask scope.now added name.now) asks.now) }
 {
     let lineage = scope.lineage();
+    let rivals = &beside.rivals;
     let types = beside.types.as_slice();
     match asks {
         Asks::Value => Ok(value_means(masked, scope, added, name, beside.property)),
@@ -430,15 +413,7 @@ pub fn adds(
         Asks::Call(_) => call_means(alloc, masked, scope, added, name, beside, table),
         Asks::Make(number, _) | Asks::Default(number) => {
             let wanted = Wanted::Factory(*number);
-            Ok(wins(
-                masked,
-                lineage,
-                added,
-                &wanted,
-                &beside.rivals,
-                types,
-                table,
-            ))
+            Ok(wins(masked, lineage, added, &wanted, rivals, types, table))
         }
         Asks::Property(number) => {
             let wanted = WantedProperty::Member(*number, BorrowedText::new(name));
@@ -446,15 +421,7 @@ pub fn adds(
         }
         Asks::Method(number, _, _) => {
             let wanted = Wanted::Method(*number, BorrowedText::new(name));
-            Ok(wins(
-                masked,
-                lineage,
-                added,
-                &wanted,
-                &beside.rivals,
-                types,
-                table,
-            ))
+            Ok(wins(masked, lineage, added, &wanted, rivals, types, table))
         }
     }
 }

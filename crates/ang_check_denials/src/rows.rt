@@ -1,69 +1,35 @@
 //! The rows of denials.
-ghost use Rattle.std.specs.Prelude.{◌≡◌, ◌==◌, ◌++◌, ◌&&◌, ◌||◌, filter, map as list_map, IfOk, OnOk};
+ghost use Rattle.std.specs.Prelude.{◌≡◌, ◌++◌, ◌&&◌, filter, map as list_map, IfOk, OnOk};
 ghost use Rattle.std.specs.List.{list_any, flat_map};
 ghost use Rattle.ang_view.specs.Hidden.{is_unmet, is_with, numbers_of};
 ghost use Rattle.ang_view.specs.Registration.{seen};
 ghost use Rattle.ang_check_denials.specs.Denials as spec;
-ghost use Rattle.ang_check_denials.specs.Names.{HasHidden, Picked, type_numbers};
+ghost use Rattle.ang_check_denials.specs.Names.{HasHidden};
 
-use crate::helpers::{helpers, push_kept};
+use crate::helpers::helpers;
+use crate::marked::{marks_of, numbers_marked};
 use crate::masked::Masked;
-use crate::rising::{behind, is_first, lower_first};
 use crate::same::is_same_use;
-use crate::sought::{help_rows, type_numbers};
+use crate::sought::help_rows;
 use ang_check_contest::Scope;
 use ang_index::Index;
 use ang_kinds::{Denial, EntityNo};
 use ang_types::{Asks, Refused};
 use std::alloc::{AllocError, Global};
 
-/// Whether an entry comes with one of these.
-fn comes_with_one(masked: &Masked<'_>, helpers: &[u32], number: u32) -> bool
-    ensures exact { result ≡ list_any (λ x. is_with masked.now.list x number) helpers.now }
-{
-    helpers
-        .iter()
-        .any(|added| masked.comes_with(*added, number))
-}
-
-/// Whether an entry, whose own mask does not meet the module's, is one of these or comes with one: what is one of them is
-/// not looked for among them.
-fn is_denied(masked: &Masked<'_>, helpers: &[u32], is_helper: bool, number: u32) -> bool
-    ensures exact { result ≡ (is_unmet masked.now.list masked.now.mask number && (is_helper
-        || list_any (λ x. is_with masked.now.list x number) helpers.now)) }
-{
-    masked.is_unmet(number) && (is_helper || comes_with_one(masked, helpers, number))
-}
-
-/// The numbers of the entries that come with one of these and whose own masks do not meet the module's, rising: what comes
-/// with one of these is one of them or one of `types`, which are all types of the list. Each of them comes with itself.
-fn denied_with(
-    alloc: Global,
-    masked: &Masked<'_>,
-    types: &[u32],
-    helpers: &[u32],
-) -> Result<Vec<u32>, AllocError>
-    requires types { types.now ≡ type_numbers masked.now.list }
-    requires helpers { Picked masked.now.list helpers.now }
+/// The numbers of the entries that come with one of these and whose own masks do not meet the module's, rising. Each of
+/// them comes with itself.
+fn denied_with(alloc: Global, masked: &Masked<'_>, helpers: &[u32]) -> Result<Vec<u32>, AllocError>
     ensures exact { IfOk result (λ numbers. numbers.items ≡ filter
         (λ y. is_unmet masked.now.list masked.now.mask y
         && list_any (λ x. is_with masked.now.list x y) helpers.now)
         (numbers_of masked.now.list)) }
 {
-    let mut numbers = Vec::new(alloc);
     if helpers.is_empty() {
-        return Ok(numbers);
+        return Ok(Vec::new(alloc));
     }
-    let mut left = helpers;
-    let mut types_left = types;
-    while let Some(number) = lower_first(left, types_left) {
-        let is_helper = is_first(left, number);
-        left = behind(left, number);
-        types_left = behind(types_left, number);
-        let keeps = is_denied(masked, helpers, is_helper, number);
-        push_kept(&mut numbers, keeps, number)?;
-    }
-    Ok(numbers)
+    let marks = marks_of(alloc, masked, helpers)?;
+    numbers_marked(alloc, marks.as_slice(), masked.len())
 }
 
 /// The numbers of the entries that a refused use is denied, rising.
@@ -71,20 +37,18 @@ fn denied_numbers(
     alloc: Global,
     masked: &Masked<'_>,
     hidden: &Index<u32>,
-    types: &[u32],
     scope: &Scope<'_>,
     refused: &Refused,
     asks: &Asks,
 ) -> Result<Vec<u32>, AllocError>
     requires view { scope.now.view ≡ seen masked.now.list masked.now.mask }
     requires hidden { HasHidden masked.now.list masked.now.mask hidden.now }
-    requires types { types.now ≡ type_numbers masked.now.list }
     ensures exact { IfOk result (λ numbers. numbers.items ≡ filter
         (spec.denied masked.now.list masked.now.mask scope.now refused.now asks.now)
         (numbers_of masked.now.list)) }
 {
     let helpers = helpers(alloc, masked, hidden, scope, refused, asks)?;
-    denied_with(alloc, masked, types, helpers.as_slice())
+    denied_with(alloc, masked, helpers.as_slice())
 }
 
 fn row(masked: &Masked<'_>, refused: &Refused, number: u32) -> Denial
@@ -119,19 +83,17 @@ fn numbers_asked(
     alloc: Global,
     masked: &Masked<'_>,
     hidden: &Index<u32>,
-    types: &[u32],
     scope: &Scope<'_>,
     refused: &Refused,
 ) -> Result<Vec<u32>, AllocError>
     requires view { scope.now.view ≡ seen masked.now.list masked.now.mask }
     requires hidden { HasHidden masked.now.list masked.now.mask hidden.now }
-    requires types { types.now ≡ type_numbers masked.now.list }
     ensures exact { IfOk result (λ numbers. numbers.items ≡ spec.numbers_asked masked.now.list
         masked.now.mask scope.now refused.now refused.now.asks) }
 {
     match &refused.asks {
         None => Ok(Vec::new(alloc)),
-        Some(asks) => denied_numbers(alloc, masked, hidden, types, scope, refused, asks),
+        Some(asks) => denied_numbers(alloc, masked, hidden, scope, refused, asks),
     }
 }
 
@@ -141,7 +103,6 @@ fn numbers_after(
     alloc: Global,
     masked: &Masked<'_>,
     hidden: &Index<u32>,
-    types: &[u32],
     scope: &Scope<'_>,
     last: &Refused,
     numbers: Vec<u32>,
@@ -149,7 +110,6 @@ fn numbers_after(
 ) -> Result<Vec<u32>, AllocError>
     requires view { scope.now.view ≡ seen masked.now.list masked.now.mask }
     requires hidden { HasHidden masked.now.list masked.now.mask hidden.now }
-    requires types { types.now ≡ type_numbers masked.now.list }
     requires numbers { numbers.items ≡ spec.numbers_asked masked.now.list masked.now.mask
         scope.now last.now last.now.asks }
     ensures exact { IfOk result (λ after. after.items ≡ spec.numbers_asked masked.now.list
@@ -158,7 +118,7 @@ fn numbers_after(
     if is_same_use(last, refused) {
         return Ok(numbers);
     }
-    numbers_asked(alloc, masked, hidden, types, scope, refused)
+    numbers_asked(alloc, masked, hidden, scope, refused)
 }
 
 /// Puts the rows of a refused use at the end, and gives the numbers of the entries that it is denied. `numbers` are those of
@@ -169,7 +129,6 @@ fn push_denied(
     rows: &mut Vec<Denial>,
     masked: &Masked<'_>,
     hidden: &Index<u32>,
-    types: &[u32],
     scope: &Scope<'_>,
     last: &Refused,
     numbers: Vec<u32>,
@@ -177,7 +136,6 @@ fn push_denied(
 ) -> Result<Vec<u32>, AllocError>
     requires view { scope.now.view ≡ seen masked.now.list masked.now.mask }
     requires hidden { HasHidden masked.now.list masked.now.mask hidden.now }
-    requires types { types.now ≡ type_numbers masked.now.list }
     requires numbers { numbers.items ≡ spec.numbers_asked masked.now.list masked.now.mask
         scope.now last.now last.now.asks }
     ensures pushed { OnOk result (rows.new.items ≡ rows.old.items
@@ -185,7 +143,7 @@ fn push_denied(
     ensures exact { IfOk result (λ after. after.items ≡ spec.numbers_asked masked.now.list
         masked.now.mask scope.now refused.now refused.now.asks) }
 {
-    let numbers = numbers_after(alloc, masked, hidden, types, scope, last, numbers, refused)?;
+    let numbers = numbers_after(alloc, masked, hidden, scope, last, numbers, refused)?;
     push_rows(rows, masked, refused, numbers.as_slice())?;
     Ok(numbers)
 }
@@ -203,15 +161,11 @@ fn denied_after(
         (spec.rows_for masked.now.list masked.now.mask scope.now) refused.now) }
 {
     let hidden = help_rows(alloc, masked)?;
-    let all_types = type_numbers(alloc, masked)?;
-    let types = all_types.as_slice();
     let mut rows = Vec::new(alloc);
     let mut last = first;
-    let mut numbers = numbers_asked(alloc, masked, &hidden, types, scope, first)?;
+    let mut numbers = numbers_asked(alloc, masked, &hidden, scope, first)?;
     for one in refused {
-        numbers = push_denied(
-            alloc, &mut rows, masked, &hidden, types, scope, last, numbers, one,
-        )?;
+        numbers = push_denied(alloc, &mut rows, masked, &hidden, scope, last, numbers, one)?;
         last = one;
     }
     Ok(rows)

@@ -3,7 +3,6 @@ ghost use Rattle.std.specs.Prelude.{◌≡◌, IfOk, OnOk};
 ghost use Rattle.ang_view.specs.Registration.{entry_at};
 ghost use Rattle.ang_check_denials.specs.Names as spec;
 
-use crate::helpers::push_kept;
 use crate::masked::Masked;
 use ang_index::Index;
 use ang_kinds::EntityNo;
@@ -76,17 +75,6 @@ pub fn help_rows(alloc: Global, masked: &Masked<'_>) -> Result<Index<u32>, Alloc
         push_hidden(alloc, &mut rows, masked, number)?;
     }
     Ok(rows)
-}
-
-/// The numbers of the object types and the enumerations of the list, rising. The only error is want of memory.
-pub fn type_numbers(alloc: Global, masked: &Masked<'_>) -> Result<Vec<u32>, AllocError>
-    ensures exact { IfOk result (λ numbers. numbers.items ≡ spec.type_numbers masked.now.list) }
-{
-    let mut numbers = Vec::new(alloc);
-    for number in 0..masked.len() {
-        push_kept(&mut numbers, masked.has_type(number), number)?;
-    }
-    Ok(numbers)
 }
 
 /// The name of the entries that a use of this name can mean.

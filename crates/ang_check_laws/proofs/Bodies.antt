@@ -25,7 +25,8 @@ use Rattle.ang_check_uses.specs.declared.uses.Resolution.TheVariants as resoluti
 use Rattle.ang_check_typing.specs.Calls.{arguments_for}
 use Rattle.ang_check_typing.specs.Typing.{typing_of_args}
 use Rattle.ang_check_stmt.specs.Typing.{block_typing, stmts_typing, initializer_typing}
-use Rattle.ang_check.specs.Typing.{parameter_local, typed_parameters, this_local, this_parameter, is_void, ending, frame_of, function_typing, method_body_typing, super_chosen, super_by, super_typing, default_base, implicit_super, base_typing, maker_frame, constructor_typing, global_typing}
+use Rattle.ang_check.specs.Typing.{parameter_local, typed_parameters, this_local, this_parameter, ending, frame_of, function_typing, method_body_typing, super_chosen, super_by, super_typing, default_base, implicit_super, base_typing, maker_frame, constructor_typing, global_typing}
+use Rattle.ang_types.specs.ArgTypes.{is_void}
 use Rattle.ang_check_laws.proofs.Judged.{Silent, silent_in, either_silent}
 use Rattle.ang_check_laws.proofs.Calls.{arguments_silent}
 use Rattle.ang_check_laws.proofs.Expressions.{args_use}

@@ -22,7 +22,7 @@ use Rattle.ang_names_listed.specs.declared.listed.ListedMember.{ListedMember}
 use Rattle.ang_names_listed.specs.declared.listed.Part.{Part}
 use Rattle.ang_names_listed.specs.declared.listed.Part.TheVariants as part
 use Rattle.ang_names_listed.specs.Declarations.{Declaring, declaring_by, declaring_of, declared_at, declared_from, declarations_from, declarations_of, families_of, family_name, globals_from, member_of, interface_shape, stands_at}
-use Rattle.ang_names_classes.specs.Hierarchy.{field_type, field_types, field_types_in, place_of, is_place, names_place, is_parent, is_base, is_class_in, is_class_at}
+use Rattle.ang_names_classes.specs.Hierarchy.{field_type, field_types, place_of, is_place, names_place, is_parent, is_base, is_class_at}
 use Rattle.ang_names_classes.specs.Resolved.{space_of_declared}
 use Rattle.ang_names.specs.Refusals.{refusal_if, shape_named, names_class, is_bad_base, bases_refusal, member_limit, members_refusal, part_refusal, type_refusal}
 use Rattle.ang_names.specs.Phases as phase
@@ -30,6 +30,7 @@ use Rattle.ang_names.specs.Phases.{first_refusals, refusals, refusals_of}
 use Rattle.ang_check_sound.proofs.DeclaredTypes.{every_given}
 use Rattle.ang_check_sound.proofs.Items.{every_joined, every_at}
 use Rattle.ang_check_laws.proofs.ClassesGraph.{or_right, or_cases, and_parts}
+use Rattle.ang_check_laws.proofs.Placed.{field_types_in, is_class_in}
 
 -- ---- a family by its name
 

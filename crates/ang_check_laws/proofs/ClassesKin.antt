@@ -13,7 +13,7 @@ use Rattle.ang_names_known.specs.declared.names.Family.{Family}
 use Rattle.ang_names_known.specs.declared.names.Names.{Names}
 use Rattle.ang_names_known.specs.declared.names.ScriptFunction.{ScriptFunction}
 use Rattle.ang_names_known.specs.Items.{each_after}
-use Rattle.ang_names_known.specs.Lookup.{is_under, above_in as above_of}
+use Rattle.ang_names_known.specs.Lookup.{is_under}
 use Rattle.ang_names_known.specs.Spaces.{Space}
 use Rattle.ang_names_listed.specs.declared.listed.ListedDeclaration.{ListedDeclaration}
 use Rattle.ang_names_listed.specs.Declarations.{Declaring, families_of}
@@ -23,6 +23,7 @@ use Rattle.ang_names_classes.specs.Resolved.{families_after, families_in, family
 use Rattle.ang_check_laws.proofs.ClassesGraph.{or_left, or_right, or_cases, and_parts, some_out, above_in, find_passes, near_up, in_ring}
 use Rattle.ang_check_laws.proofs.ClassesDeclared.{parent_there}
 use Rattle.ang_check_laws.proofs.ClassesTables.{family_there, family_gone}
+use Rattle.ang_check_laws.proofs.Placed.{above_of}
 
 -- ---- what is in the order is near
 

@@ -23,13 +23,14 @@ use Rattle.ang_names_listed.specs.declared.listed.MemberKind.TheVariants as memb
 use Rattle.ang_names_listed.specs.declared.role.TypePosition.TheVariants as role
 use Rattle.ang_names_listed.specs.Declarations.{Declaring}
 use Rattle.ang_names_listed.specs.Types.{TypeOrError, ◌and_then◌, written_type, admitted, type_in, settled}
-use Rattle.ang_names_classes.specs.Hierarchy.{field_type, field_types, field_types_in, field_types_at, held_by, holds, is_base, is_class_at, is_parent, is_under_or, names_place}
+use Rattle.ang_names_classes.specs.Hierarchy.{field_type, field_types, field_types_at, held_by, holds, is_base, is_class_at, is_parent, is_under_or, names_place}
 use Rattle.ang_names_classes.specs.Resolved.{body_members, families_after, family_with, field_numbered, fields_after, first_below, inherited_fields}
 use Rattle.ang_check.specs.Bodies.{typed_class, typed_classes}
 use Rattle.ang_source.specs.Meaning.{fields_by}
 use Rattle.ang_check_sound.proofs.Items.{at_front}
 use Rattle.ang_check_laws.proofs.ClassesGraph.{or_left, or_right, or_cases, both_true, and_parts, reach_within, find_none, find_passes, find_only, near_itself, near_more, near_later, order_has}
 use Rattle.ang_check_laws.proofs.ClassesDeclared.{IsAccepted, parent_there}
+use Rattle.ang_check_laws.proofs.Placed.{field_types_in}
 
 -- ---- rows
 

@@ -17,7 +17,7 @@ use Rattle.ang_names_listed.specs.Sources.{Source}
 use Rattle.ang_names_listed.specs.declared.listed.ListedDeclaration.{ListedDeclaration}
 use Rattle.ang_names_listed.specs.Declarations.{Declaring, declarations_of, families_of}
 use Rattle.ang_names_classes.specs.Headings.{signatures_of}
-use Rattle.ang_names_classes.specs.Hierarchy.{holds, is_class_in, is_parent, is_under_or}
+use Rattle.ang_names_classes.specs.Hierarchy.{holds, is_parent, is_under_or}
 use Rattle.ang_names_classes.specs.Resolved.{families_in, functions_in, names_of, space_of_declared}
 use Rattle.ang_names.specs.Phases.{refusals_of}
 use Rattle.ang_names.proofs.Ranks.{ancestors, cycles}
@@ -31,6 +31,7 @@ use Rattle.ang_check_laws.specs.Kin.{TablesAreTyped}
 use Rattle.ang_check_laws.proofs.ClassesGraph.{or_left, or_right, or_cases, above_in, above_out}
 use Rattle.ang_check_laws.proofs.ClassesDeclared.{IsAccepted, accepted}
 use Rattle.ang_check_laws.proofs.ClassesTables.{IsTable, table_of, family_there, family_gone, family_in, inherits, can_hold, rank_lower}
+use Rattle.ang_check_laws.proofs.Placed.{is_class_in}
 
 -- ---- a field that holds a family's objects
 

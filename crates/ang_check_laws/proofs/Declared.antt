@@ -1,5 +1,5 @@
 -- What is refused of declarations is a type's name that means no type, or no use: so what holds of both holds of each refusal.
-use Rattle.std.specs.Prelude.{◌≡◌, ℕ, Bool, true, false, not, ◌||◌, if◌then◌else◌, bytes_eq, nat_lt, length, List, [], ◌∷◌, ◌++◌, Option, Some, None, Ok, Err, IfErr, IfSome, slice_get}
+use Rattle.std.specs.Prelude.{◌≡◌, ℕ, Bool, true, false, not, ◌||◌, if◌then◌else◌, bytes_eq, nat_lt, length, List, [], ◌∷◌, ◌++◌, Option, Some, None, Ok, Err, IfErr, IfSome, slice_get, option_and_then}
 use Rattle.std.specs.List.{list_any}
 use Rattle.std.specs.Option.{option_or}
 use Rattle.std.proofs.Common.{refl, ap, ◌∙◌}
@@ -36,7 +36,7 @@ use Rattle.ang_names_listed.specs.Sources.{Source}
 use Rattle.ang_names_listed.specs.Types.{TypeOrError, type_in}
 use Rattle.ang_names.specs.Heirs.{at_name, ancestor_refusal, of_interfaces, missing_among, missing_by, missing_method, inherits, field_refusal, overridden, is_bad_override, method_refusal, first_refused, is_before, earlier, class_refusal, heir_refusal, cycle_refusal}
 use Rattle.ang_names.specs.Refusals.{refusal_if, type_refused, why_refused, most_parameters, parameter_limit, type_refusal_of, parameters_refusal, parameter_list_refusal, result_role, heading_refusal, clashes_with_member, duplicate, member_refusal, members_refusal, most_members, shape_named, names_class, is_bad_base, bases_refusal, member_limit, family_refusal, part_refusal, type_refusal}
-use Rattle.ang_names.specs.Phases.{Phase, Names, Types, Ancestors, Heirs, Cycles, with_number, of_family, refusal, refusals, first_refusals, all_phases, refusals_of}
+use Rattle.ang_names.specs.Phases.{Phase, Names, Types, Ancestors, Heirs, Cycles, of_family, refusal, refusals, first_refusals, all_phases, refusals_of}
 use Rattle.ang_check_uses.specs.declared.uses.Resolution.TheVariants as resolution
 use Rattle.ang_check_uses.specs.Uses.{resolution_of, type_meant}
 use Rattle.ang_check_contest.specs.Scopes.{Scope}
@@ -159,7 +159,7 @@ module _ (E : Space) (P : Refused → Type 0) (holds : HoldsOfDeclared E P) wher
   at_name_again why true f e = holds.plain _ refl e
   at_name_again why false f e = tt
 
-  numbered_again : (p : ℕ → Family → Option Refused) (c : ℕ) (f : Option Family) → ((n : ℕ) (g : Family) → Again (p n g)) → Again (with_number p c f)
+  numbered_again : (p : ℕ → Family → Option Refused) (c : ℕ) (f : Option Family) → ((n : ℕ) (g : Family) → Again (p n g)) → Again (option_and_then (p c) f)
   numbered_again p c None h = tt
   numbered_again p c (Some f) h = h c f
 

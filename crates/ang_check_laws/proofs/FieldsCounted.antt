@@ -12,7 +12,7 @@ use Rattle.ang_names_graph.proofs.Closure.{leads_join, least}
 use Rattle.ang_names_known.specs.declared.names.Written.{Written}
 use Rattle.ang_names_known.specs.Spaces.{Space}
 use Rattle.ang_names_listed.specs.Declarations.{Declaring}
-use Rattle.ang_names_classes.specs.Hierarchy.{field_types, field_types_in, field_types_at, is_base, is_class_at, is_parent}
+use Rattle.ang_names_classes.specs.Hierarchy.{field_types, field_types_at, is_base, is_class_at, is_parent}
 use Rattle.ang_names_classes.specs.Resolved.{first_below, inherited_fields}
 use Rattle.ang_source.specs.Meaning.{fields_by}
 use Rattle.ang_check_laws.proofs.ClassesGraph.{and_parts, find_only, find_passes}
@@ -20,6 +20,7 @@ use Rattle.ang_check_laws.proofs.ClassesDeclared.{IsAccepted, parent_there}
 use Rattle.ang_check_laws.proofs.ClassesTables.{IsTable, own_row, type_of}
 use Rattle.ang_check_laws.proofs.ClassesKin.{near_out}
 use Rattle.ang_check_laws.proofs.FieldsGraph.{total, weight, weight_zero, weight_next, weight_alone, total_order, order_first}
+use Rattle.ang_check_laws.proofs.Placed.{field_types_in}
 
 pub nothing_before : (n : ℕ) → 0 + n ≡ n
 nothing_before n = omega arith

@@ -18,7 +18,7 @@ use Rattle.ang_names_known.specs.declared.names.Names.{Names}
 use Rattle.ang_names_known.specs.declared.names.ScriptFunction.{ScriptFunction}
 use Rattle.ang_names_known.specs.declared.names.Written.{Written}
 use Rattle.ang_names_known.specs.Items.{each_after}
-use Rattle.ang_names_known.specs.Lookup.{above_in as above_of, field_named, field_of, first_field, families_at, is_under, kin_in, kin_of, own_field, with_family}
+use Rattle.ang_names_known.specs.Lookup.{field_named, field_of, first_field, families_at, is_under, kin_of, own_field, with_family}
 use Rattle.ang_names_known.specs.Spaces.{Space}
 use Rattle.ang_names_listed.specs.declared.listed.ListedDeclaration.{ListedDeclaration}
 use Rattle.ang_names_listed.specs.declared.listed.ListedMember.{ListedMember}
@@ -36,6 +36,7 @@ use Rattle.ang_check_laws.proofs.ClassesTables.{family_there, family_gone, inher
 use Rattle.ang_check_laws.proofs.ClassesTyped.{fields_in, given_by}
 use Rattle.ang_check_laws.proofs.ClassesKin.{orders_above}
 use Rattle.ang_check_laws.proofs.FieldsCounted.{nothing_before, own_there}
+use Rattle.ang_check_laws.proofs.Placed.{above_of, kin_in}
 
 -- ---- a field's number among those of its family
 

@@ -21,7 +21,7 @@ use Rattle.ang_names_known.specs.declared.names.ScriptConstructor.{ScriptConstru
 use Rattle.ang_names_known.specs.declared.names.ScriptMethod.{ScriptMethod}
 use Rattle.ang_names_known.specs.declared.names.ScriptParameter.{ScriptParameter}
 use Rattle.ang_names_known.specs.Items.{is_empty, each_after}
-use Rattle.ang_names_known.specs.Lookup.{Numbered, with_family, families_at, kin_in, kin_of, above_in, is_under, FoundMethod, methods_in, methods_of, stands_in, is_named, if_nearest, methods_named, takes_nothing, default_among, own_default, written_default, has_constructors, nearest_default, constructors_in, default_of, field_of, own_field, first_field, field_named}
+use Rattle.ang_names_known.specs.Lookup.{Numbered, with_family, families_at, kin_of, is_under, FoundMethod, methods_in, methods_of, stands_in, is_named, if_nearest, methods_named, takes_nothing, default_among, written_or, has_constructors, nearest_default, constructors_in, default_of, field_of, own_field, first_field, field_named}
 use Rattle.ang_names_known.specs.Spaces.{family_type}
 use Rattle.ang_names_listed.specs.Sources.{Source}
 use Rattle.ang_names_listed.specs.Declarations.{declarations_of}
@@ -45,6 +45,7 @@ use Rattle.ang_check_laws.specs.Given.{IsBuilt, constructs}
 use Rattle.ang_check_laws.proofs.Program.{any_there}
 use Rattle.ang_check_laws.proofs.Numbered.{no_method}
 use Rattle.ang_check_laws.proofs.Built.{HasClasses, tree_is, place_of, there, above_is, itself_by, takes_of}
+use Rattle.ang_check_laws.proofs.Placed.{kin_in, above_of}
 
 -- what a family has members of is itself, or stands above it
 abbrev pub OrdersAreUnder : List Family → Type 0
@@ -160,20 +161,20 @@ module _ (fs : List Family) (orders : OrdersAreUnder fs) (c : ℕ) where
       by true rest = found_in f.0 0 f.1 f.1.constructors h.0.0 h.0.1 (λ i y e. (i, e))
       by false rest = rest
 
-  if_written : (o : Option ℕ) (k : ℕ) → IfSome o IsDefault → own_default o ≡ default.Written k → IsDefault k
+  if_written : (o : Option ℕ) (k : ℕ) → IfSome o IsDefault → written_or default.Missing o ≡ default.Written k → IsDefault k
   if_written None k h e = cc
   if_written (Some b) k h e = let same : b ≡ k = cc in subst IsDefault same h
 
-  if_written_above : (o : Option ℕ) (k : ℕ) → IfSome o IsDefault → written_default o ≡ default.Written k → IsDefault k
+  if_written_above : (o : Option ℕ) (k : ℕ) → IfSome o IsDefault → written_or default.Unwritten o ≡ default.Written k → IsDefault k
   if_written_above None k h e = cc
   if_written_above (Some b) k h e = let same : b ≡ k = cc in subst IsDefault same h
 
   own_defaults : (o : Option Family) → slice_get fs c ≡ o → IfSome (default_among (constructors_in o)) IsDefault
   own_defaults None e = tt
-  own_defaults (Some f) e = found_in c 0 f f.constructors e (or_first (c == c) (list_any (λ k. k == c) (above_in (slice_get fs c))) (eq-eqb c c refl)) (λ i y at. (i, at))
+  own_defaults (Some f) e = found_in c 0 f f.constructors e (or_first (c == c) (list_any (λ k. k == c) (above_of (slice_get fs c))) (eq-eqb c c refl)) (λ i y at. (i, at))
 
   default_by : (b : Bool) (k : ℕ)
-      → (if b then written_default (nearest_default (kin_of fs c)) else own_default (default_among (constructors_in (slice_get fs c)))) ≡ default.Written k → IsDefault k
+      → (if b then written_or default.Unwritten (nearest_default (kin_of fs c)) else written_or default.Missing (default_among (constructors_in (slice_get fs c)))) ≡ default.Written k → IsDefault k
   default_by true k e = if_written_above (nearest_default (kin_of fs c)) k (of_kin (kin_of fs c) kin_is) e
   default_by false k e = if_written (default_among (constructors_in (slice_get fs c))) k (own_defaults (slice_get fs c) refl) e
 
@@ -184,7 +185,7 @@ module _ (fs : List Family) (orders : OrdersAreUnder fs) (c : ℕ) where
 -- ---- in a built module
 
 module _ (z : Environment) (ms : Modules) (m : ℕ) (V : RegistrationList) (names : Names) (sources : List Source) (b : IsBuilt z ms m V names sources) where
-  under_by : (c d : ℕ) (o : Option Family) (x : Bool) → slice_get names.families c ≡ o → (c == d) ≡ x → (x || list_any (λ k. k == d) (above_in o)) ≡ true
+  under_by : (c d : ℕ) (o : Option Family) (x : Bool) → slice_get names.families c ≡ o → (c == d) ≡ x → (x || list_any (λ k. k == d) (above_of o)) ≡ true
       → IsUnder z ms m d d → IsUnder z ms m c d
   under_by c d o true at is h own = subst (λ k. IsUnder z ms m k d) (sym (eqb-true c d is)) own
   under_by c d None false at is h own = cc
@@ -255,7 +256,7 @@ module _ (z : Environment) (ms : Modules) (m : ℕ) (V : RegistrationList) (name
       through c d x under h (Some f) at = classes.above c d x.owner (under_of c d f at under) (under_of d x.owner h.family h.there h.under)
       through c d x under h None at =
           let equal : d ≡ x.owner =
-          eqb-true d x.owner (only_equal (d == x.owner) _ (ap (λ o. list_any (λ k. k == x.owner) (above_in o)) at) h.under) in
+          eqb-true d x.owner (only_equal (d == x.owner) _ (ap (λ o. list_any (λ k. k == x.owner) (above_of o)) at) h.under) in
           subst (λ k. IsUnder z ms m c k) equal (under_of c d h.family (ap (slice_get names.families) equal ∙ h.there) under)
 
       pub direct_is : (c d : ℕ) (name : List ℕ) → is_under names.families c d ≡ true

@@ -35,6 +35,7 @@ pub mod Locals
 pub mod TypedStatements
 pub mod Ends
 pub mod ClassesGraph
+pub mod Placed
 pub mod ClassesDeclared
 pub mod ClassesTables
 pub mod ClassesTyped

@@ -17,7 +17,6 @@ use Rattle.ang_names_known.specs.Spaces.{Space}
 use Rattle.ang_names_listed.specs.declared.listed.ListedDeclaration.{ListedDeclaration}
 use Rattle.ang_names_listed.specs.Declarations.{declarations_of, families_of}
 use Rattle.ang_names_listed.specs.Sources.{Source}
-use Rattle.ang_names_classes.specs.Hierarchy.{is_class_in}
 use Rattle.ang_names_classes.specs.Resolved.{families_in, names_of, space_of_declared}
 use Rattle.ang_names.specs.Phases.{refusals_of}
 use Rattle.ang_check.specs.Bodies.{body_refusals, method_headings, program_of, typed_classes, within_of}
@@ -42,6 +41,7 @@ use Rattle.ang_check_laws.proofs.MethodsNearest.{NamesAlike, named_first}
 use Rattle.ang_check_laws.proofs.MethodsSlots.{in_one_slot}
 use Rattle.ang_check_laws.proofs.MethodsThere.{have_methods}
 use Rattle.ang_check_laws.proofs.MethodsWalk.{IsFirstAt, at_slot, first_at}
+use Rattle.ang_check_laws.proofs.Placed.{is_class_in}
 
 -- ---- how arguments pass
 

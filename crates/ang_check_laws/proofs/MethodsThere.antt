@@ -9,12 +9,12 @@ use Rattle.ang_names_graph.specs.Graphs.{leads, order_of, is_near}
 use Rattle.ang_names_known.specs.declared.names.Family.{Family}
 use Rattle.ang_names_known.specs.declared.names.ScriptFunction.{ScriptFunction}
 use Rattle.ang_names_known.specs.declared.names.ScriptMethod.{ScriptMethod}
-use Rattle.ang_names_known.specs.Lookup.{Numbered, FoundMethod, with_family, families_at, kin_in, kin_of, methods_in, methods_of, stands_in, method_in_slot, same_type}
+use Rattle.ang_names_known.specs.Lookup.{Numbered, FoundMethod, with_family, families_at, kin_of, methods_in, methods_of, stands_in, method_in_slot, same_type}
 use Rattle.ang_names_known.specs.Spaces.{Space}
 use Rattle.ang_names_listed.specs.declared.listed.ListedDeclaration.{ListedDeclaration}
 use Rattle.ang_names_listed.specs.Declarations.{Declaring, declarations_of, families_of}
 use Rattle.ang_names_classes.specs.Headings.{signatures_of}
-use Rattle.ang_names_classes.specs.Hierarchy.{is_base, is_class_at, is_class_in, is_parent}
+use Rattle.ang_names_classes.specs.Hierarchy.{is_base, is_class_at, is_parent}
 use Rattle.ang_names_classes.specs.Resolved.{families_in, family_with, functions_in, gives_members, space_of_declared}
 use Rattle.ang_check.specs.Bodies.{typed_classes}
 use Rattle.ang_source.specs.Meaning.{body_by}
@@ -31,6 +31,7 @@ use Rattle.ang_check_laws.proofs.MethodsKin.{class_near}
 use Rattle.ang_check_laws.proofs.MethodsPhases.{overrides, interfaces_met}
 use Rattle.ang_check_laws.proofs.MethodsSlots.{type_is}
 use Rattle.ang_check_laws.proofs.MethodsWalk.{KeepsResults, families, walk, up_near, near_here, near_of, base_from, at_slot, first_at}
+use Rattle.ang_check_laws.proofs.Placed.{is_class_in, kin_in}
 
 abbrev pub MeetsInterfaces : List Family → Type 0
 MeetsInterfaces fs = (c d j : ℕ) (f g : Family) (x : ScriptMethod) → slice_get fs c ≡ Some f → f.is_class ≡ true → slice_get fs d ≡ Some g → g.is_class ≡ false

@@ -1,5 +1,5 @@
 -- The body that a class has in the slot of a method of a class above it.
-use Rattle.std.specs.Prelude.{ℕ, zero, suc, ◌≡◌, ◌<◌, ◌≤◌, ◌+◌, ◌-◌, ◌==◌, ◌⊎◌, Bool, true, false, ◌&&◌, ◌||◌, cond, List, [], ◌∷◌, ◌++◌, drop, find, length, option_map, option_and_then, Option, Some, None, slice_get}
+use Rattle.std.specs.Prelude.{ℕ, zero, suc, ◌≡◌, ◌<◌, ◌≤◌, ◌+◌, ◌-◌, ◌==◌, ◌⊎◌, Bool, true, false, ◌&&◌, ◌||◌, if◌then◌else◌, cond, List, [], ◌∷◌, ◌++◌, drop, find, length, option_map, option_and_then, Option, Some, None, slice_get}
 use Rattle.std.specs.List.{list_any, filter_map, cons_option}
 use Rattle.std.specs.Option.{option_or}
 use Rattle.std.proofs.Common.{arith, refl, ap, sym, subst, inl, inr, ◌∙◌}
@@ -19,8 +19,8 @@ use Rattle.ang_names_listed.specs.declared.listed.MemberKind.TheVariants as memb
 use Rattle.ang_names_listed.specs.Declarations.{Declaring, declarations_of, families_of}
 use Rattle.ang_names_listed.specs.declared.listed.ListedDeclaration.{ListedDeclaration}
 use Rattle.ang_names_classes.specs.Headings.{signatures_of}
-use Rattle.ang_names_classes.specs.Hierarchy.{is_base, is_class_at, is_class_in, is_parent, names_place}
-use Rattle.ang_names_classes.specs.Resolved.{body_number, families_after, families_in, family_with, functions_in, space_of_declared, gives_members, methods_after, methods_by, with_bodies}
+use Rattle.ang_names_classes.specs.Hierarchy.{is_base, is_class_at, is_parent, names_place}
+use Rattle.ang_names_classes.specs.Resolved.{families_after, families_in, family_with, functions_in, space_of_declared, gives_members, methods_after, methods_by, with_bodies}
 use Rattle.ang_check.specs.Bodies.{slot_and_body, typed_class, typed_classes}
 use Rattle.ang_source.specs.Meaning.{own_body, body_by}
 use Rattle.ang_check_sound.proofs.Items.{every_joined}
@@ -29,6 +29,7 @@ use Rattle.ang_check_laws.proofs.MethodsPhases.{overrides}
 use Rattle.ang_check_laws.proofs.ClassesGraph.{or_cases, and_parts, some_out, find_only, near_itself, near_up, near_more, near_later, order_has}
 use Rattle.ang_check_laws.proofs.ClassesDeclared.{IsAccepted, accepted, parent_there}
 use Rattle.ang_check_laws.proofs.ClassesTables.{family_there}
+use Rattle.ang_check_laws.proofs.Placed.{is_class_in}
 
 -- ---- steps up
 
@@ -175,7 +176,7 @@ module _ (E : Space) (ds : List Declaring) (methods : List (ScriptFunction × Bo
 
   kind_bodies : (d : Declaring) (m : ListedMember) (n : ℕ) (kind : MemberKind) → d.shape.is_class ≡ true → Every HasBody (methods_by E methods d m n kind)
   kind_bodies d m n (member.Field y) c = tt
-  kind_bodies d m n (member.Method y ps a) c = ((n, ap (λ b. body_number b n) c), tt)
+  kind_bodies d m n (member.Method y ps a) c = ((n, ap (λ b. if b then Some n else None) c), tt)
   kind_bodies d m n (member.Constructor ps) c = tt
 
   members_bodies : (d : Declaring) (first : ℕ) (before ms : List ListedMember) → d.shape.is_class ≡ true → Every HasBody (each_after (methods_after E methods d first) before ms)

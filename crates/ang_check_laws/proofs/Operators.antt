@@ -14,6 +14,7 @@ use Rattle.ang_types.specs.Integers.{common_type, is_integer}
 use Rattle.ang_types.specs.Ranks.{Ancestors, rank_of}
 use Rattle.ang_kinds.specs.declared.operator.Operator.{Operator}
 use Rattle.ang_kinds.specs.declared.operator.Comparison.{Comparison}
+use Rattle.ang_kinds.specs.declared.operator.Comparison.TheVariants as cmp
 use Rattle.ang_typed.specs.declared.expression.StepKind.{StepKind}
 use Rattle.ang_typed.specs.declared.expression.StepKind.TheVariants as step
 use Rattle.ang_typed.specs.Typed as t
@@ -26,7 +27,7 @@ use Rattle.ang_lex.specs.declared.operators.IntegerOperator.TheVariants as work
 use Rattle.ang_check_operators.specs.Operands.{Operand, fit_by, fit, integer_in, integer, number_in, number, truth_in, truth, identity_in, identity, object_of, site_in, site_or, target_by, target, seat_by, seat}
 use Rattle.ang_check_operators.specs.Refusals.{Typing, ◌>>=◌, refused, fault}
 use Rattle.ang_lex.specs.Operators.{binary_operator, compound_operator, form_of}
-use Rattle.ang_check_operators.specs.Operations.{literal_by, literal_typing, raised_type, worked_in, arithmetic, shift, compared_in, order, equality_by, equality, conjunction, disjunction, exclusion, sameness, difference, formed, binary_typing, negated, complemented, raised_operand, opposite, handle_in, handle_typing, stepped, prefix_by, prefix_typing, postfix_by, postfix_typing, converted_by, convert_typing, choice_as, choice_of_integers, stands_for, choice_of, choice_of_objects, choice_of_enumerations, choice_by, choice, conditional_typing, assign_in, assigned, reseated, assigned_by, compound_in, compound_arithmetic, compound_shift, assignment_by, assignment_typing}
+use Rattle.ang_check_operators.specs.Operations.{literal_by, literal_typing, raised_type, worked_in, worked, shift_type, tested, compared_in, order, equality_by, equality, formed, binary_typing, of_raised, opposite, handle_in, handle_typing, stepped, prefix_by, prefix_typing, postfix_by, postfix_typing, converted_by, convert_typing, choice_as, choice_of_integers, stands_for, choice_of, choice_of_objects, choice_of_enumerations, choice_by, choice, conditional_typing, assign_in, assigned, reseated, assigned_by, compound_in, compounded, assignment_by, assignment_typing}
 use Rattle.ang_check_laws.proofs.Judged.{Silent, silent_in, either_silent}
 
 -- ---- operands
@@ -143,12 +144,12 @@ worked_silent ancestors r op a b = fit_two ancestors (type.Plain r) a b _ (λ x 
 compared_silent : (ancestors : Ancestors) (r : Primitive) (c : Comparison) (a b : Operand) → Silent (compared_in ancestors r c a b)
 compared_silent ancestors r c a b = fit_two ancestors (type.Plain r) a b _ (λ x y. tt)
 
-arithmetic_silent : (ancestors : Ancestors) (op : Operator) (a b : Operand) → Silent (arithmetic ancestors op a b)
-unfolding arithmetic
+arithmetic_silent : (ancestors : Ancestors) (op : Operator) (a b : Operand) → Silent (worked common_type ancestors op a b)
+unfolding worked
 arithmetic_silent ancestors op a b = integers a b _ (λ q r. worked_silent ancestors (common_type q r) op a b)
 
-shift_silent : (ancestors : Ancestors) (op : Operator) (a b : Operand) → Silent (shift ancestors op a b)
-unfolding shift
+shift_silent : (ancestors : Ancestors) (op : Operator) (a b : Operand) → Silent (worked shift_type ancestors op a b)
+unfolding worked
 shift_silent ancestors op a b = integers a b _ (λ q r. worked_silent ancestors (raised_type q) op a b)
 
 order_silent : (ancestors : Ancestors) (c : Comparison) (a b : Operand) → Silent (order ancestors c a b)
@@ -163,24 +164,19 @@ equality_silent : (ancestors : Ancestors) (c : Comparison) (a b : Operand) → S
 unfolding equality
 equality_silent ancestors c a b = equality_by_silent ancestors c a b a.ty
 
-conjunction_silent : (a b : Operand) → Silent (conjunction a b)
-unfolding conjunction
+conjunction_silent : (a b : Operand) → Silent (tested truth t.and a b)
 conjunction_silent a b = truth_two a b _ (λ x y. tt)
 
-disjunction_silent : (a b : Operand) → Silent (disjunction a b)
-unfolding disjunction
+disjunction_silent : (a b : Operand) → Silent (tested truth t.or a b)
 disjunction_silent a b = truth_two a b _ (λ x y. tt)
 
-exclusion_silent : (a b : Operand) → Silent (exclusion a b)
-unfolding exclusion
+exclusion_silent : (a b : Operand) → Silent (tested truth (t.compare cmp.NotEqual p.Bool) a b)
 exclusion_silent a b = truth_two a b _ (λ x y. tt)
 
-sameness_silent : (a b : Operand) → Silent (sameness a b)
-unfolding sameness
+sameness_silent : (a b : Operand) → Silent (tested identity t.same a b)
 sameness_silent a b = identity_two a b _ (λ x y. tt)
 
-difference_silent : (a b : Operand) → Silent (difference a b)
-unfolding difference
+difference_silent : (a b : Operand) → Silent (tested identity (λ x y. t.not (t.same x y)) a b)
 difference_silent a b = identity_two a b _ (λ x y. tt)
 
 formed_silent : (ancestors : Ancestors) (f : Option OperatorForm) (a b : Operand) → Silent (formed ancestors f a b)
@@ -207,16 +203,16 @@ raised_silent ancestors a f g =
     silent_in (integer a) _ (integer_silent a)
     (λ q. silent_in (fit ancestors (type.Plain (raised_type q)) a) _ (fit_silent ancestors (type.Plain (raised_type q)) a) (λ x. g q x))
 
-negated_silent : (ancestors : Ancestors) (place : Place) (a : Operand) → Silent (negated ancestors place a)
-unfolding negated
+negated_silent : (ancestors : Ancestors) (place : Place) (a : Operand) → Silent (of_raised t.negate ancestors place a)
+unfolding of_raised
 negated_silent ancestors place a = raised_silent ancestors a _ (λ q x. tt)
 
-complemented_silent : (ancestors : Ancestors) (place : Place) (a : Operand) → Silent (complemented ancestors place a)
-unfolding complemented
+complemented_silent : (ancestors : Ancestors) (place : Place) (a : Operand) → Silent (of_raised t.complement ancestors place a)
+unfolding of_raised
 complemented_silent ancestors place a = raised_silent ancestors a _ (λ q x. tt)
 
-raised_operand_silent : (ancestors : Ancestors) (place : Place) (a : Operand) → Silent (raised_operand ancestors place a)
-unfolding raised_operand
+raised_operand_silent : (ancestors : Ancestors) (place : Place) (a : Operand) → Silent (of_raised (λ r x. x) ancestors place a)
+unfolding of_raised
 raised_operand_silent ancestors place a = raised_silent ancestors a _ (λ q x. tt)
 
 opposite_silent : (place : Place) (a : Operand) → Silent (opposite place a)
@@ -332,13 +328,13 @@ assigned_by_silent ancestors at a b (Some s) = reseated_silent ancestors a b
 compound_silent : (ancestors : Ancestors) (op : Operator) (place : Place) (x : t.Site) (q r : Primitive) (b : Operand) → Silent (compound_in ancestors op place x q r b)
 compound_silent ancestors op place x q r b = silent_in (fit ancestors (type.Plain r) b) _ (fit_silent ancestors (type.Plain r) b) (λ y. tt)
 
-compound_arithmetic_silent : (ancestors : Ancestors) (op : Operator) (a b : Operand) → Silent (compound_arithmetic ancestors op a b)
-unfolding compound_arithmetic
+compound_arithmetic_silent : (ancestors : Ancestors) (op : Operator) (a b : Operand) → Silent (compounded common_type ancestors op a b)
+unfolding compounded
 compound_arithmetic_silent ancestors op a b =
     silent_in (target a) _ (target_silent a) (λ x. number_and_integer a b _ (λ q r. compound_silent ancestors op a.place x q (common_type q r) b))
 
-compound_shift_silent : (ancestors : Ancestors) (op : Operator) (a b : Operand) → Silent (compound_shift ancestors op a b)
-unfolding compound_shift
+compound_shift_silent : (ancestors : Ancestors) (op : Operator) (a b : Operand) → Silent (compounded shift_type ancestors op a b)
+unfolding compounded
 compound_shift_silent ancestors op a b =
     silent_in (target a) _ (target_silent a) (λ x. number_and_integer a b _ (λ q r. compound_silent ancestors op a.place x q (raised_type q) b))
 

@@ -1,6 +1,7 @@
 -- Each list that a registry makes names types that are there, of its entries' own drivers; a mask keeps it.
 use Rattle.std.specs.Prelude.{◌≡◌, ◌<◌, ◌==◌, ℕ, ℤ, zero, suc, Bool, true, false, not, ◌&&◌, ◌||◌, if◌then◌else◌, cond, is_some, is_none, nat_lt, length, List, [], ◌∷◌, ◌++◌, Option, Some, None, IfSome, bytes_eq}
 use Rattle.std.specs.List.{list_any, list_all}
+use Rattle.std.specs.Option.{option_map_or}
 use Rattle.std.proofs.Common.{arith, refl, ap, sym, subst, ◌∙◌, ◌⊎◌, inl, inr, append_assoc}
 use Rattle.std.proofs.lemmas.Bool.{cases_Bool, eqb-true, eq-eqb}
 use Rattle.std.proofs.lemmas.Option.{same_Some}
@@ -18,7 +19,7 @@ use Rattle.ang_view.specs.declared.group.Group.{Group}
 use Rattle.ang_view.specs.Groups.{group_named, is_named_outside, left_outside}
 use Rattle.ang_view.specs.Only.{only, IsWithin}
 use Rattle.ang_view.specs.Registration.{RegistrationList, entry_at, is_host_type, is_named_by, is_number, is_spelled_with, is_type, mentions, seen, seen_entry, is_seen}
-use Rattle.ang_view.specs.Types.{driver_at, driver_by, enumeration_named, is_enumeration, is_enumeration_named, is_type_named, number_at, type_named}
+use Rattle.ang_view.specs.Types.{driver_at, enumeration_named, is_enumeration, is_enumeration_named, is_type_named, number_at, type_named}
 use Rattle.ang_view.proofs.Grouping.{names_left}
 use Rattle.ang_view.proofs.Keeping.{kept_stays, only_gives, only_within}
 use Rattle.ang_view.proofs.Seen.{entry_at-seen, position-passes}
@@ -376,7 +377,7 @@ owner_by r name None e o own = cc
 owner_by r name (Some n) e o own =
     let f = type_found r.entries name n e in
     subst (λ (k : EntityNo). HasOwner r.entries (driver_at r.entries (Some n)) k.0) (same_Some (record { 0 = n }) o own)
-    (record { entry = f.entry; there = f.there; is = host_type_is_type f.entry.kind f.is; by = sym (ap driver_by f.there) })
+    (record { entry = f.entry; there = f.there; is = host_type_is_type f.entry.kind f.is; by = sym (ap (λ (o : Option Entry). option_map_or (λ (t : Entry). t.driver) o 0) f.there) })
 
 member_fresh : (kind : EntryKind) (r : Registrations) (name : List ℕ) (f : ℕ) (s : Signature) → is_type kind ≡ false → is_enumeration kind ≡ false
     → refusal_of_member kind r name (Some s) ≡ None

@@ -2,6 +2,7 @@
 use Rattle.std.specs.Prelude.{◌≡◌, ℕ, Bool, false, length, List, [], ◌∷◌, ◌++◌, All, map, Option, Some, None, Ok, Err, IfSome, slice_get}
 use Rattle.std.proofs.Common.{refl, ap, sym, subst}
 use Rattle.ang_lex.specs.declared.token.Token.{Token}
+use Rattle.ang_lex.specs.Text.{name_of}
 use Rattle.ang_tree.specs.declared.type_name.TypeName.{TypeName}
 use Rattle.ang_tree.specs.Declarations.{SuperTree}
 use Rattle.ang_tree.specs.Stmt.{Every, Init, Body, Stmts}
@@ -19,7 +20,7 @@ use Rattle.ang_names_listed.specs.declared.listed.ListedDeclaration.{ListedDecla
 use Rattle.ang_names_listed.specs.Declarations.{Declaring, declarations_of, families_of, family_name}
 use Rattle.ang_names_classes.specs.Headings.{signatures_of}
 use Rattle.ang_names_classes.specs.Resolved.{families_after, functions_in, families_in, names_of, space_of_declared}
-use Rattle.ang_names_listed.specs.Sources.{Source, name_of}
+use Rattle.ang_names_listed.specs.Sources.{Source}
 use Rattle.ang_names.specs.Phases.{refusals_of}
 use Rattle.ang_check_operators.specs.declared.refusal.TypingRefusal.{TypingRefusal}
 use Rattle.ang_check_operators.specs.Refusals.{Typing}

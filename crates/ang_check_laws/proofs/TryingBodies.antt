@@ -37,7 +37,8 @@ use Rattle.ang_check_typing.specs.Typing.{typing_of, typing_of_args, typing_of_a
 use Rattle.ang_check_stmt.specs.declared.frame.Returns.{Returns}
 use Rattle.ang_check_stmt.specs.declared.frame.Returns.TheVariants as returns
 use Rattle.ang_check_stmt.specs.Typing.{FunctionContext, most_locals, has_named, with_same, optional_typing, expression_typing, condition_typing, optional_condition, steps_typing, local_type, local_name_error, name_judged, local_name, initializer_typing, local_typing, each_local, locals_typing, declaration_typing, value_returned, nothing_returned, return_nothing, return_value, result_typing, return_typing, jump, start_typing, head_typing, block_of, alone, stmt_typing, tested_typing, block_typing, stmts_typing}
-use Rattle.ang_check.specs.Typing.{parameter_local, typed_parameters, this_local, this_parameter, is_void, ending, frame_of, function_typing, method_body_typing, super_chosen, super_by, super_typing, implicit_super, base_typing, maker_frame, constructor_typing, global_typing}
+use Rattle.ang_check.specs.Typing.{parameter_local, typed_parameters, this_local, this_parameter, ending, frame_of, function_typing, method_body_typing, super_chosen, super_by, super_typing, implicit_super, base_typing, maker_frame, constructor_typing, global_typing}
+use Rattle.ang_types.specs.ArgTypes.{is_void}
 use Rattle.ang_check_laws.specs.Asked.{refuses_use}
 use Rattle.ang_check_laws.specs.Beyond.{over, refusal, tried_by, tried, args_tried, all_tried, optional_tried, initializer_tried, each_local_tried, locals_tried, start_tried, head_tried, stmt_tried, block_tried, stmts_tried, base_tried}
 use Rattle.ang_check_laws.proofs.Trying.{Harmless, Kept, harmless_in, either_harmless, kept_harmless, kept_itself, kept_after, kept_first, kept_last}

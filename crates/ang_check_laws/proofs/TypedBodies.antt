@@ -13,6 +13,7 @@ use Rattle.ang_tree.specs.Stmt.{Init, Body, Stmts, Every}
 use Rattle.ang_types.specs.declared.arg_type.ArgType.{ArgType}
 use Rattle.ang_types.specs.declared.arg_type.ArgType.TheVariants as type
 use Rattle.ang_types.specs.Overloads.{Params}
+use Rattle.ang_types.specs.ArgTypes.{is_void}
 use Rattle.ang_typed.specs.declared.program.TypedParameter.{TypedParameter}
 use Rattle.ang_typed.specs.Typed as t
 use Rattle.ang_names_known.specs.declared.names.Default.{Default}
@@ -39,7 +40,7 @@ use Rattle.ang_check_uses.specs.Uses.{makers_of}
 use Rattle.ang_check_stmt.specs.declared.frame.Returns.TheVariants as returns
 use Rattle.ang_check_stmt.specs.Paths.{body_breaks, body_ends}
 use Rattle.ang_check_stmt.specs.Typing.{block_typing, stmts_typing, initializer_typing, own_object}
-use Rattle.ang_check.specs.Typing.{Base, parameter_local, typed_parameter, typed_parameters, this_local, this_parameter, is_void, ending, frame_of, function_typing, method_body_typing, base_call, body_called, super_chosen, super_by, super_typing, default_base, implicit_super, base_typing, with_last, maker_frame, constructor_typing, global_typing}
+use Rattle.ang_check.specs.Typing.{Base, parameter_local, typed_parameter, typed_parameters, this_local, this_parameter, ending, frame_of, function_typing, method_body_typing, base_call, body_called, super_chosen, super_by, super_typing, default_base, implicit_super, base_typing, with_last, maker_frame, constructor_typing, global_typing}
 use Rattle.ang_meaning.specs.declared.routine.Passing.{Passing}
 use Rattle.ang_meaning.specs.declared.routine.Passing.TheVariants.{Out}
 use Rattle.ang_meaning.specs.Environment.{Environment}

@@ -26,7 +26,7 @@ use Rattle.ang_lex.specs.declared.operators.IntegerOperator.TheVariants as work
 use Rattle.ang_check_operators.specs.Operands.{Operand, operand, fit, integer, number, truth, identity, object_of, site_in, target, seat}
 use Rattle.ang_check_operators.specs.Refusals.{Typing, ◌>>=◌}
 use Rattle.ang_lex.specs.Operators.{binary_operator, compound_operator, form_of}
-use Rattle.ang_check_operators.specs.Operations.{literal_by, literal_typing, raised_type, worked_in, arithmetic, shift, compared_in, order, equality_by, equality, conjunction, disjunction, exclusion, sameness, difference, formed, binary_typing, negated, complemented, raised_operand, opposite, seat_of, handle_in, handle_typing, stepped, prefix_by, prefix_typing, postfix_by, postfix_typing, converted_by, convert_typing, inside, group_typing, choice_as, choice_of_integers, stands_for, choice_of, choice_of_objects, choice_of_enumerations, choice_by, choice, conditional_typing, assign_in, assigned, reseated, assigned_by, compound_in, compound_arithmetic, compound_shift, assignment_by, assignment_typing}
+use Rattle.ang_check_operators.specs.Operations.{literal_by, literal_typing, raised_type, worked_in, worked, shift_type, tested, compared_in, order, equality_by, equality, formed, binary_typing, of_raised, opposite, seat_of, handle_in, handle_typing, stepped, prefix_by, prefix_typing, postfix_by, postfix_typing, converted_by, convert_typing, inside, group_typing, choice_as, choice_of_integers, stands_for, choice_of, choice_of_objects, choice_of_enumerations, choice_by, choice, conditional_typing, assign_in, assigned, reseated, assigned_by, compound_in, compounded, assignment_by, assignment_typing}
 use Rattle.ang_meaning.specs.Environment.{Environment}
 use Rattle.ang_source_typed.specs.Types.{SlotType, Number, Modules, IsA}
 use Rattle.ang_source_typed.specs.TypedProgram.{AreClasses, Types}
@@ -116,13 +116,13 @@ module _ (z : Environment) (ms : Modules) (m : ℕ) (locals : List SlotType) (cl
   compared_typed r c a b sa sb =
       fit_two (type.Plain r) a b (λ x y. Ok (operand a.place (type.Plain p.Bool) (t.compare c r x y))) sa sb (λ x y sx sy. num _ _ _ (refl, sx.tree, sy.tree))
 
-  arithmetic_typed : (op : Operator) (a b : Operand) → Typed a → Typed b → IfOk (arithmetic ancestors op a b) Typed
-  unfolding arithmetic
+  arithmetic_typed : (op : Operator) (a b : Operand) → Typed a → Typed b → IfOk (worked common_type ancestors op a b) Typed
+  unfolding worked
   arithmetic_typed op a b sa sb =
       with_integer Typed a _ (λ q. with_integer Typed b _ (λ r. worked_typed (common_type q r) op a b sa sb))
 
-  shift_typed : (op : Operator) (a b : Operand) → Typed a → Typed b → IfOk (shift ancestors op a b) Typed
-  unfolding shift
+  shift_typed : (op : Operator) (a b : Operand) → Typed a → Typed b → IfOk (worked shift_type ancestors op a b) Typed
+  unfolding worked
   shift_typed op a b sa sb =
       with_integer Typed a _ (λ q. with_integer Typed b _ (λ r. worked_typed (raised_type q) op a b sa sb))
 
@@ -140,18 +140,15 @@ module _ (z : Environment) (ms : Modules) (m : ℕ) (locals : List SlotType) (cl
   unfolding equality
   equality_typed c a b sa sb = equality_by_typed c a b a.ty sa sb
 
-  conjunction_typed : (a b : Operand) → Typed a → Typed b → IfOk (conjunction a b) Typed
-  unfolding conjunction
+  conjunction_typed : (a b : Operand) → Typed a → Typed b → IfOk (tested truth t.and a b) Typed
   conjunction_typed a b sa sb =
       truth_two a b (λ x y. Ok (operand a.place (type.Plain p.Bool) (t.and x y))) sa sb (λ x y sx sy. num _ _ _ (refl, sx, sy))
 
-  disjunction_typed : (a b : Operand) → Typed a → Typed b → IfOk (disjunction a b) Typed
-  unfolding disjunction
+  disjunction_typed : (a b : Operand) → Typed a → Typed b → IfOk (tested truth t.or a b) Typed
   disjunction_typed a b sa sb =
       truth_two a b (λ x y. Ok (operand a.place (type.Plain p.Bool) (t.or x y))) sa sb (λ x y sx sy. num _ _ _ (refl, sx, sy))
 
-  exclusion_typed : (a b : Operand) → Typed a → Typed b → IfOk (exclusion a b) Typed
-  unfolding exclusion
+  exclusion_typed : (a b : Operand) → Typed a → Typed b → IfOk (tested truth (t.compare cmp.NotEqual p.Bool) a b) Typed
   exclusion_typed a b sa sb =
       truth_two a b (λ x y. Ok (operand a.place (type.Plain p.Bool) (t.compare cmp.NotEqual p.Bool x y))) sa sb (λ x y sx sy. num _ _ _ (refl, sx, sy))
 
@@ -162,13 +159,11 @@ module _ (z : Environment) (ms : Modules) (m : ℕ) (locals : List SlotType) (cl
       holds (Handled) Typed (identity a) (λ x. identity b >>= (λ y. f x y)) (identity_typed z ms m locals a sa)
       (λ x sx. holds (Handled) Typed (identity b) (λ y. f x y) (identity_typed z ms m locals b sb) (λ y sy. g x y sx sy))
 
-  sameness_typed : (a b : Operand) → Typed a → Typed b → IfOk (sameness a b) Typed
-  unfolding sameness
+  sameness_typed : (a b : Operand) → Typed a → Typed b → IfOk (tested identity t.same a b) Typed
   sameness_typed a b sa sb =
       identity_two a b (λ x y. Ok (operand a.place (type.Plain p.Bool) (t.same x y))) sa sb (λ x y sx sy. num _ _ _ (refl, (sx.0, sy.0, sx.1, sx.2, sy.1, sy.2)))
 
-  difference_typed : (a b : Operand) → Typed a → Typed b → IfOk (difference a b) Typed
-  unfolding difference
+  difference_typed : (a b : Operand) → Typed a → Typed b → IfOk (tested identity (λ x y. t.not (t.same x y)) a b) Typed
   difference_typed a b sa sb =
       identity_two a b (λ x y. Ok (operand a.place (type.Plain p.Bool) (t.not (t.same x y)))) sa sb (λ x y sx sy. num _ _ _ (refl, (refl, (sx.0, sy.0, sx.1, sx.2, sy.1, sy.2))))
 
@@ -195,18 +190,18 @@ module _ (z : Environment) (ms : Modules) (m : ℕ) (locals : List SlotType) (cl
       → ((x : t.Expr) → Of r x → IfOk (f x) Typed) → IfOk (fit ancestors r a >>= f) Typed
   fit_one r a f sa g = holds (Of r) Typed (fit ancestors r a) f (fits r a sa) g
 
-  negated_typed : (place : Place) (a : Operand) → Typed a → IfOk (negated ancestors place a) Typed
-  unfolding negated
+  negated_typed : (place : Place) (a : Operand) → Typed a → IfOk (of_raised t.negate ancestors place a) Typed
+  unfolding of_raised
   negated_typed place a sa =
       with_integer Typed a _ (λ q. fit_one (type.Plain (raised_type q)) a _ sa (λ x sx. num _ _ _ (refl, sx.tree)))
 
-  complemented_typed : (place : Place) (a : Operand) → Typed a → IfOk (complemented ancestors place a) Typed
-  unfolding complemented
+  complemented_typed : (place : Place) (a : Operand) → Typed a → IfOk (of_raised t.complement ancestors place a) Typed
+  unfolding of_raised
   complemented_typed place a sa =
       with_integer Typed a _ (λ q. fit_one (type.Plain (raised_type q)) a _ sa (λ x sx. num _ _ _ (refl, sx.tree)))
 
-  raised_typed : (place : Place) (a : Operand) → Typed a → IfOk (raised_operand ancestors place a) Typed
-  unfolding raised_operand
+  raised_typed : (place : Place) (a : Operand) → Typed a → IfOk (of_raised (λ r x. x) ancestors place a) Typed
+  unfolding of_raised
   raised_typed place a sa =
       with_integer Typed a _ (λ q. fit_one (type.Plain (raised_type q)) a _ sa (λ x sx. num _ _ _ sx.tree))
 
@@ -374,15 +369,15 @@ module _ (z : Environment) (ms : Modules) (m : ℕ) (locals : List SlotType) (cl
   compound_typed op place x q r b sx sb =
       fit_one (type.Plain r) b _ sb (λ y sy. num _ _ _ (changed_typed z ms m locals x q r op y sx sy.tree))
 
-  compound_arithmetic_typed : (op : Operator) (a b : Operand) → Typed a → Typed b → IfOk (compound_arithmetic ancestors op a b) Typed
-  unfolding compound_arithmetic
+  compound_arithmetic_typed : (op : Operator) (a b : Operand) → Typed a → Typed b → IfOk (compounded common_type ancestors op a b) Typed
+  unfolding compounded
   compound_arithmetic_typed op a b sa sb =
       holds (Stored (T a.ty)) Typed (target a) _ (target_typed z ms m locals a sa)
       (λ x sx. with_number Typed a _ (λ q is. with_integer Typed b _
       (λ r. compound_typed op a.place x q (common_type q r) b (subst (λ s. Stored s x) is sx) sb)))
 
-  compound_shift_typed : (op : Operator) (a b : Operand) → Typed a → Typed b → IfOk (compound_shift ancestors op a b) Typed
-  unfolding compound_shift
+  compound_shift_typed : (op : Operator) (a b : Operand) → Typed a → Typed b → IfOk (compounded shift_type ancestors op a b) Typed
+  unfolding compounded
   compound_shift_typed op a b sa sb =
       holds (Stored (T a.ty)) Typed (target a) _ (target_typed z ms m locals a sa)
       (λ x sx. with_number Typed a _ (λ q is. with_integer Typed b _

@@ -1,5 +1,6 @@
 -- A use of a name means a variable of its type, or what is called with its parameters.
 use Rattle.std.specs.Prelude.{◌≡◌, ℕ, nat_lt, Bool, true, false, if◌then◌else◌, List, [], ◌∷◌, map, slice_get, option_map, Option, Some, None, IfSome}
+use Rattle.std.specs.Option.{option_map_or}
 use Rattle.std.proofs.Common.{refl, ap, ◌∙◌, subst}
 use Rattle.std.proofs.lemmas.Option.{slice_get-map}
 use Rattle.ang_kinds.specs.declared.error.ErrorKind.{ErrorKind}
@@ -9,7 +10,8 @@ use Rattle.ang_types.specs.declared.arg_type.ArgType.TheVariants as type
 use Rattle.ang_types.specs.declared.asks.Asks.TheVariants as asks
 use Rattle.ang_types.specs.declared.candidate.Pick.{Pick}
 use Rattle.ang_types.specs.declared.candidate.Pick.TheVariants as pick
-use Rattle.ang_types.specs.Overloads.{IsViable, params_in, params_at}
+use Rattle.ang_types.specs.declared.candidate.Candidate.{Candidate}
+use Rattle.ang_types.specs.Overloads.{IsViable, params_at}
 use Rattle.ang_types.specs.Best.{best_of}
 use Rattle.ang_types.proofs.BestLaws.{best_of-says}
 use Rattle.ang_check_contest.specs.declared.host.SeenProperty.{SeenProperty}
@@ -168,7 +170,7 @@ module _ (z : Environment) (ms : Modules) (m : ℕ) (s : BodyContext) (built : I
 
   candidate_at : (cs : List Callable) (i : ℕ) (c : Callable) → slice_get cs i ≡ Some c → params_at (candidates_of cs) i ≡ c.candidate.params
   candidate_at cs i c e =
-      ap params_in (slice_get-map (λ (c : Callable). c.candidate) cs i ∙ ap (option_map (λ (c : Callable). c.candidate)) e)
+      ap (λ (o : Option Candidate). option_map_or (λ (k : Candidate). k.params) o []) (slice_get-map (λ (c : Callable). c.candidate) cs i ∙ ap (option_map (λ (c : Callable). c.candidate)) e)
 
   best_typed : (cs : List Callable) (args : List ArgType) (i : ℕ) (c : Option Callable) → slice_get cs i ≡ c → Every Can cs
       → IsViable s.ancestors (params_at (candidates_of cs) i) args → IsMeantCall args (called_at c)

@@ -78,20 +78,15 @@ truth a = truth_in a a.ty
 
 -- the number of an object's or a handle's type, and whether the object may not be changed
 abbrev pub object_of : ArgType → Option (ℕ × Bool)
-object_of type.Void = None
-object_of type.Null = None
-object_of (type.Plain q) = None
-object_of (type.Enumeration n) = None
 object_of (type.Object n c) = Some (n, c)
 object_of (type.Handle n c) = Some (n, c)
+object_of _ = None
 
 abbrev pub identity_in : Operand → ArgType → Typing t.Expr
-identity_in a type.Void = Err (fault kind.BadConversion a.place)
 identity_in a type.Null = Ok a.tree
-identity_in a (type.Plain q) = Err (fault kind.BadConversion a.place)
-identity_in a (type.Enumeration n) = Err (fault kind.BadConversion a.place)
 identity_in a (type.Object n c) = Ok a.tree
 identity_in a (type.Handle n c) = Ok a.tree
+identity_in a _ = Err (fault kind.BadConversion a.place)
 
 -- the operand as an object, a handle or null
 unfoldable pub identity : Operand → Typing t.Expr

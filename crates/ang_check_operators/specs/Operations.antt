@@ -63,26 +63,27 @@ worked_in ancestors r op a b = do
   y ← fit ancestors (type.Plain r) b
   Ok (operand a.place (type.Plain r) (t.operate op r x y))
 
--- Two integers are worked on in their common type.
-unfoldable pub arithmetic : Ancestors → Operator → Operand → Operand → Typing Operand
-arithmetic ancestors op a b = do
+-- Two integers, worked on in a type that comes of theirs.
+unfoldable pub worked : (Primitive → Primitive → Primitive) → Ancestors → Operator → Operand → Operand → Typing Operand
+worked type_of ancestors op a b = do
   q ← integer a
   r ← integer b
-  worked_in ancestors (common_type q r) op a b
+  worked_in ancestors (type_of q r) op a b
 
 -- A shift works in the left operand's type, raised.
-unfoldable pub shift : Ancestors → Operator → Operand → Operand → Typing Operand
-shift ancestors op a b = do
-  q ← integer a
-  r ← integer b
-  worked_in ancestors (raised_type q) op a b
+abbrev pub shift_type : Primitive → Primitive → Primitive
+shift_type q r = raised_type q
+
+-- A truth value that is made of two operands' values.
+abbrev pub tested : (Operand → Typing t.Expr) → (t.Expr → t.Expr → t.Expr) → Operand → Operand → Typing Operand
+tested value make a b = do
+  x ← value a
+  y ← value b
+  Ok (operand a.place (type.Plain p.Bool) (make x y))
 
 -- Both operands are compared in one type.
 abbrev pub compared_in : Ancestors → Primitive → Comparison → Operand → Operand → Typing Operand
-compared_in ancestors r c a b = do
-  x ← fit ancestors (type.Plain r) a
-  y ← fit ancestors (type.Plain r) b
-  Ok (operand a.place (type.Plain p.Bool) (t.compare c r x y))
+compared_in ancestors r c a b = tested (fit ancestors (type.Plain r)) (t.compare c r) a b
 
 -- Two integers are compared in their common type.
 unfoldable pub order : Ancestors → Comparison → Operand → Operand → Typing Operand
@@ -99,52 +100,19 @@ equality_by ancestors c a b _ = order ancestors c a b
 unfoldable pub equality : Ancestors → Comparison → Operand → Operand → Typing Operand
 equality ancestors c a b = equality_by ancestors c a b a.ty
 
--- `&&`
-unfoldable pub conjunction : Operand → Operand → Typing Operand
-conjunction a b = do
-  x ← truth a
-  y ← truth b
-  Ok (operand a.place (type.Plain p.Bool) (t.and x y))
-
--- `||`
-unfoldable pub disjunction : Operand → Operand → Typing Operand
-disjunction a b = do
-  x ← truth a
-  y ← truth b
-  Ok (operand a.place (type.Plain p.Bool) (t.or x y))
-
--- `xor`: one of two truth values and not the other
-unfoldable pub exclusion : Operand → Operand → Typing Operand
-exclusion a b = do
-  x ← truth a
-  y ← truth b
-  Ok (operand a.place (type.Plain p.Bool) (t.compare cmp.NotEqual p.Bool x y))
-
--- `is`: two objects, handles or nulls are one
-unfoldable pub sameness : Operand → Operand → Typing Operand
-sameness a b = do
-  x ← identity a
-  y ← identity b
-  Ok (operand a.place (type.Plain p.Bool) (t.same x y))
-
--- `!is`
-unfoldable pub difference : Operand → Operand → Typing Operand
-difference a b = do
-  x ← identity a
-  y ← identity b
-  Ok (operand a.place (type.Plain p.Bool) (t.not (t.same x y)))
-
+-- Two integers are worked on in their common type. `xor` is one of two truth values and not the other; `is` and `!is` compare which
+-- object two objects, handles or nulls are.
 abbrev pub formed : Ancestors → Option OperatorForm → Operand → Operand → Typing Operand
 formed ancestors None a b = misplaced a.place
-formed ancestors (Some (form.Integers (work.Arithmetic op))) a b = arithmetic ancestors op a b
-formed ancestors (Some (form.Integers (work.Shift op))) a b = shift ancestors op a b
+formed ancestors (Some (form.Integers (work.Arithmetic op))) a b = worked common_type ancestors op a b
+formed ancestors (Some (form.Integers (work.Shift op))) a b = worked shift_type ancestors op a b
 formed ancestors (Some (form.Order c)) a b = order ancestors c a b
 formed ancestors (Some (form.Equality c)) a b = equality ancestors c a b
-formed ancestors (Some form.And) a b = conjunction a b
-formed ancestors (Some form.Or) a b = disjunction a b
-formed ancestors (Some form.Xor) a b = exclusion a b
-formed ancestors (Some form.Same) a b = sameness a b
-formed ancestors (Some form.Differ) a b = difference a b
+formed ancestors (Some form.And) a b = tested truth t.and a b
+formed ancestors (Some form.Or) a b = tested truth t.or a b
+formed ancestors (Some form.Xor) a b = tested truth (t.compare cmp.NotEqual p.Bool) a b
+formed ancestors (Some form.Same) a b = tested identity t.same a b
+formed ancestors (Some form.Differ) a b = tested identity (λ x y. t.not (t.same x y)) a b
 
 -- Two operands with a binary operator between them.
 unfoldable pub binary_typing : Ancestors → Operand → TokenKind → Operand → Typing Operand
@@ -152,28 +120,13 @@ binary_typing ancestors a op b = formed ancestors (form_of (binary_operator op))
 
 -- ---- one operand
 
--- a number's sign, and all bits turned, in the operand's type, raised
-unfoldable pub negated : Ancestors → Place → Operand → Typing Operand
-negated ancestors place a = do
+-- what is made of an integer in its type, raised
+unfoldable pub of_raised : (Primitive → t.Expr → t.Expr) → Ancestors → Place → Operand → Typing Operand
+of_raised make ancestors place a = do
   q ← integer a
   let r = raised_type q in do
     x ← fit ancestors (type.Plain r) a
-    Ok (operand place (type.Plain r) (t.negate r x))
-
-unfoldable pub complemented : Ancestors → Place → Operand → Typing Operand
-complemented ancestors place a = do
-  q ← integer a
-  let r = raised_type q in do
-    x ← fit ancestors (type.Plain r) a
-    Ok (operand place (type.Plain r) (t.complement r x))
-
--- `+` raises its operand
-unfoldable pub raised_operand : Ancestors → Place → Operand → Typing Operand
-raised_operand ancestors place a = do
-  q ← integer a
-  let r = raised_type q in do
-    x ← fit ancestors (type.Plain r) a
-    Ok (operand place (type.Plain r) x)
+    Ok (operand place (type.Plain r) (make r x))
 
 -- one of two truth values for the other
 unfoldable pub opposite : Place → Operand → Typing Operand
@@ -187,12 +140,10 @@ seat_of is_object (Some x) = Some (record { target = x; is_object = is_object })
 
 -- `@` in front of an object or a handle gives the handle, and in front of null null. What stands after it is a site for `=` alone.
 abbrev pub handle_in : Place → Operand → ArgType → Typing Operand
-handle_in place a type.Void = Err (fault kind.BadConversion a.place)
 handle_in place a type.Null = Ok (operand place type.Null a.tree)
-handle_in place a (type.Plain q) = Err (fault kind.BadConversion a.place)
-handle_in place a (type.Enumeration n) = Err (fault kind.BadConversion a.place)
 handle_in place a (type.Object n c) = Ok (record { place = place; ty = type.Handle n c; tree = a.tree; target = None; seat = seat_of true a.target })
 handle_in place a (type.Handle n c) = Ok (record { place = place; ty = type.Handle n c; tree = a.tree; target = None; seat = seat_of false a.target })
+handle_in place a _ = Err (fault kind.BadConversion a.place)
 
 unfoldable pub handle_typing : Place → Operand → Typing Operand
 handle_typing place a = handle_in place a a.ty
@@ -206,9 +157,9 @@ stepped kind place a = do
 
 abbrev pub prefix_by : Ancestors → Token → TokenKind → Operand → Typing Operand
 prefix_by ancestors op k.Not a = opposite op.place a
-prefix_by ancestors op k.Minus a = negated ancestors op.place a
-prefix_by ancestors op k.Plus a = raised_operand ancestors op.place a
-prefix_by ancestors op k.Tilde a = complemented ancestors op.place a
+prefix_by ancestors op k.Minus a = of_raised t.negate ancestors op.place a
+prefix_by ancestors op k.Plus a = of_raised (λ r x. x) ancestors op.place a
+prefix_by ancestors op k.Tilde a = of_raised t.complement ancestors op.place a
 prefix_by ancestors op k.Increment a = stepped step.IncrementBefore op.place a
 prefix_by ancestors op k.Decrement a = stepped step.DecrementBefore op.place a
 prefix_by ancestors op k.At a = handle_typing op.place a
@@ -333,24 +284,17 @@ compound_in ancestors op place x q r b = do
   y ← fit ancestors (type.Plain r) b
   Ok (operand place (type.Plain q) (t.compound x q op r y))
 
-unfoldable pub compound_arithmetic : Ancestors → Operator → Operand → Operand → Typing Operand
-compound_arithmetic ancestors op a b = do
+unfoldable pub compounded : (Primitive → Primitive → Primitive) → Ancestors → Operator → Operand → Operand → Typing Operand
+compounded type_of ancestors op a b = do
   x ← target a
   q ← number a
   r ← integer b
-  compound_in ancestors op a.place x q (common_type q r) b
-
-unfoldable pub compound_shift : Ancestors → Operator → Operand → Operand → Typing Operand
-compound_shift ancestors op a b = do
-  x ← target a
-  q ← number a
-  r ← integer b
-  compound_in ancestors op a.place x q (raised_type q) b
+  compound_in ancestors op a.place x q (type_of q r) b
 
 abbrev pub assignment_by : Ancestors → Place → Option IntegerOperator → Operand → Operand → Typing Operand
 assignment_by ancestors at None a b = assigned_by ancestors at a b a.seat
-assignment_by ancestors at (Some (work.Arithmetic op)) a b = compound_arithmetic ancestors op a b
-assignment_by ancestors at (Some (work.Shift op)) a b = compound_shift ancestors op a b
+assignment_by ancestors at (Some (work.Arithmetic op)) a b = compounded common_type ancestors op a b
+assignment_by ancestors at (Some (work.Shift op)) a b = compounded shift_type ancestors op a b
 
 -- A target and its value, with `=` or a compound assignment between them.
 unfoldable pub assignment_typing : Ancestors → Operand → Token → Operand → Typing Operand

@@ -1,5 +1,6 @@
 //! Assignments.
 ghost use Rattle.std.specs.Prelude.{◌≡◌};
+ghost use Rattle.ang_types.specs.Integers.{common_type};
 ghost use Rattle.ang_check_operators.specs.Refusals.{Gives};
 ghost use Rattle.ang_check_operators.specs.View.{view_operand};
 ghost use Rattle.ang_check_operators.specs.Operations as spec;
@@ -113,7 +114,7 @@ fn compound_in(
     Ok(plain_operand(place, ArgType::Plain(ty), tree))
 }
 
-#[tactic(auto, unfolding(crate::specs::Operations::compound_arithmetic))]
+#[tactic(auto, unfolding(crate::specs::Operations::compounded))]
 fn compound_arithmetic(
     alloc: Global,
     lineage: &Lineage,
@@ -121,7 +122,7 @@ fn compound_arithmetic(
     written: Operand,
     value: Operand,
 ) -> Result<Operand, TypingError>
-    ensures exact { Gives view_operand result (spec.compound_arithmetic lineage.now operator
+    ensures exact { Gives view_operand result (spec.compounded common_type lineage.now operator
         (view_operand written) (view_operand value)) }
 {
     let place = written.place;
@@ -133,7 +134,7 @@ fn compound_arithmetic(
     compound_in(alloc, lineage, operator, place, site, own, operating, value)
 }
 
-#[tactic(auto, unfolding(crate::specs::Operations::compound_shift))]
+#[tactic(auto, unfolding(crate::specs::Operations::compounded))]
 fn compound_shift(
     alloc: Global,
     lineage: &Lineage,
@@ -141,7 +142,7 @@ fn compound_shift(
     written: Operand,
     value: Operand,
 ) -> Result<Operand, TypingError>
-    ensures exact { Gives view_operand result (spec.compound_shift lineage.now operator
+    ensures exact { Gives view_operand result (spec.compounded spec.shift_type lineage.now operator
         (view_operand written) (view_operand value)) }
 {
     let place = written.place;

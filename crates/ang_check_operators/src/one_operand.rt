@@ -1,5 +1,6 @@
 //! One operand: operators in front of it and after it, conversions, and parentheses.
 ghost use Rattle.std.specs.Prelude.{◌≡◌};
+ghost use Rattle.ang_typed.specs.Typed as t;
 ghost use Rattle.ang_check_operators.specs.Refusals.{Gives};
 ghost use Rattle.ang_check_operators.specs.View.{view_operand};
 ghost use Rattle.ang_check_operators.specs.Operations as spec;
@@ -15,7 +16,7 @@ use ang_typed::StepKind;
 use ang_types::{ArgType, Lineage, common};
 use std::alloc::Global;
 
-#[tactic(auto, unfolding(crate::specs::Operations::negated))]
+#[tactic(auto, unfolding(crate::specs::Operations::of_raised))]
 fn negated(
     alloc: Global,
     lineage: &Lineage,
@@ -23,7 +24,7 @@ fn negated(
     operand: Operand,
 ) -> Result<Operand, TypingError>
     ensures exact { Gives view_operand result
-        (spec.negated lineage.now place (view_operand operand)) }
+        (spec.of_raised t.negate lineage.now place (view_operand operand)) }
 {
     let own = integer(&operand)?;
     let ty = common(own, own);
@@ -32,7 +33,7 @@ fn negated(
     Ok(plain_operand(place, ArgType::Plain(ty), tree))
 }
 
-#[tactic(auto, unfolding(crate::specs::Operations::complemented))]
+#[tactic(auto, unfolding(crate::specs::Operations::of_raised))]
 fn complemented(
     alloc: Global,
     lineage: &Lineage,
@@ -40,7 +41,7 @@ fn complemented(
     operand: Operand,
 ) -> Result<Operand, TypingError>
     ensures exact { Gives view_operand result
-        (spec.complemented lineage.now place (view_operand operand)) }
+        (spec.of_raised t.complement lineage.now place (view_operand operand)) }
 {
     let own = integer(&operand)?;
     let ty = common(own, own);
@@ -49,7 +50,7 @@ fn complemented(
     Ok(plain_operand(place, ArgType::Plain(ty), tree))
 }
 
-#[tactic(auto, unfolding(crate::specs::Operations::raised_operand))]
+#[tactic(auto, unfolding(crate::specs::Operations::of_raised))]
 fn raised_operand(
     alloc: Global,
     lineage: &Lineage,
@@ -57,7 +58,7 @@ fn raised_operand(
     operand: Operand,
 ) -> Result<Operand, TypingError>
     ensures exact { Gives view_operand result
-        (spec.raised_operand lineage.now place (view_operand operand)) }
+        (spec.of_raised (λ r x. x) lineage.now place (view_operand operand)) }
 {
     let own = integer(&operand)?;
     let ty = common(own, own);

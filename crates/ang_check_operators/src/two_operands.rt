@@ -1,5 +1,10 @@
 //! Two operands with a binary operator between them.
 ghost use Rattle.std.specs.Prelude.{◌≡◌};
+ghost use Rattle.ang_kinds.specs.declared.operator.Comparison.TheVariants as cmp;
+ghost use Rattle.ang_kinds.specs.declared.primitive.Primitive.TheVariants as prim;
+ghost use Rattle.ang_types.specs.Integers.{common_type};
+ghost use Rattle.ang_typed.specs.Typed as t;
+ghost use Rattle.ang_check_operators.specs.Operands as operands;
 ghost use Rattle.ang_check_operators.specs.Refusals.{Gives};
 ghost use Rattle.ang_check_operators.specs.View.{view_operand};
 ghost use Rattle.ang_check_operators.specs.Operations as spec;
@@ -31,7 +36,7 @@ fn worked_in(
     Ok(plain_operand(place, ArgType::Plain(ty), tree))
 }
 
-#[tactic(auto, unfolding(crate::specs::Operations::arithmetic))]
+#[tactic(auto, unfolding(crate::specs::Operations::worked))]
 fn arithmetic(
     alloc: Global,
     lineage: &Lineage,
@@ -40,14 +45,14 @@ fn arithmetic(
     right: Operand,
 ) -> Result<Operand, TypingError>
     ensures exact { Gives view_operand result
-        (spec.arithmetic lineage.now operator (view_operand left) (view_operand right)) }
+        (spec.worked common_type lineage.now operator (view_operand left) (view_operand right)) }
 {
     let own = integer(&left)?;
     let other = integer(&right)?;
     worked_in(alloc, lineage, common(own, other), operator, left, right)
 }
 
-#[tactic(auto, unfolding(crate::specs::Operations::shift))]
+#[tactic(auto, unfolding(crate::specs::Operations::worked))]
 fn shift(
     alloc: Global,
     lineage: &Lineage,
@@ -56,7 +61,8 @@ fn shift(
     right: Operand,
 ) -> Result<Operand, TypingError>
     ensures exact { Gives view_operand result
-        (spec.shift lineage.now operator (view_operand left) (view_operand right)) }
+        (spec.worked spec.shift_type lineage.now operator (view_operand left)
+        (view_operand right)) }
 {
     let own = integer(&left)?;
     let _ = integer(&right)?;
@@ -117,10 +123,9 @@ fn equality(
     }
 }
 
-#[tactic(auto, unfolding(crate::specs::Operations::conjunction))]
 fn conjunction(alloc: Global, left: Operand, right: Operand) -> Result<Operand, TypingError>
     ensures exact { Gives view_operand result
-        (spec.conjunction (view_operand left) (view_operand right)) }
+        (spec.tested operands.truth t.and (view_operand left) (view_operand right)) }
 {
     let place = left.place;
     let left = truth(left)?;
@@ -129,10 +134,9 @@ fn conjunction(alloc: Global, left: Operand, right: Operand) -> Result<Operand, 
     Ok(plain_operand(place, ArgType::Plain(Prim::Bool), tree))
 }
 
-#[tactic(auto, unfolding(crate::specs::Operations::disjunction))]
 fn disjunction(alloc: Global, left: Operand, right: Operand) -> Result<Operand, TypingError>
     ensures exact { Gives view_operand result
-        (spec.disjunction (view_operand left) (view_operand right)) }
+        (spec.tested operands.truth t.or (view_operand left) (view_operand right)) }
 {
     let place = left.place;
     let left = truth(left)?;
@@ -141,10 +145,10 @@ fn disjunction(alloc: Global, left: Operand, right: Operand) -> Result<Operand, 
     Ok(plain_operand(place, ArgType::Plain(Prim::Bool), tree))
 }
 
-#[tactic(auto, unfolding(crate::specs::Operations::exclusion))]
 fn exclusion(alloc: Global, left: Operand, right: Operand) -> Result<Operand, TypingError>
     ensures exact { Gives view_operand result
-        (spec.exclusion (view_operand left) (view_operand right)) }
+        (spec.tested operands.truth (t.compare cmp.NotEqual prim.Bool)
+        (view_operand left) (view_operand right)) }
 {
     let place = left.place;
     let left = truth(left)?;
@@ -153,10 +157,9 @@ fn exclusion(alloc: Global, left: Operand, right: Operand) -> Result<Operand, Ty
     Ok(plain_operand(place, ArgType::Plain(Prim::Bool), tree))
 }
 
-#[tactic(auto, unfolding(crate::specs::Operations::sameness))]
 fn sameness(alloc: Global, left: Operand, right: Operand) -> Result<Operand, TypingError>
     ensures exact { Gives view_operand result
-        (spec.sameness (view_operand left) (view_operand right)) }
+        (spec.tested operands.identity t.same (view_operand left) (view_operand right)) }
 {
     let place = left.place;
     let left = identity(left)?;
@@ -165,10 +168,10 @@ fn sameness(alloc: Global, left: Operand, right: Operand) -> Result<Operand, Typ
     Ok(plain_operand(place, ArgType::Plain(Prim::Bool), tree))
 }
 
-#[tactic(auto, unfolding(crate::specs::Operations::difference))]
 fn difference(alloc: Global, left: Operand, right: Operand) -> Result<Operand, TypingError>
     ensures exact { Gives view_operand result
-        (spec.difference (view_operand left) (view_operand right)) }
+        (spec.tested operands.identity (λ x y. t.not (t.same x y))
+        (view_operand left) (view_operand right)) }
 {
     let place = left.place;
     let left = identity(left)?;

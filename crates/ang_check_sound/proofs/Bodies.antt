@@ -35,7 +35,8 @@ use Rattle.ang_check_uses.specs.declared.uses.Resolution.TheVariants as resoluti
 use Rattle.ang_check_uses.specs.Uses.{makers_of}
 use Rattle.ang_check_stmt.specs.declared.frame.Returns.TheVariants as returns
 use Rattle.ang_check_stmt.specs.Typing.{block_typing, stmts_typing, initializer_typing, own_object}
-use Rattle.ang_check.specs.Typing.{Base, parameter_local, typed_parameter, typed_parameters, this_local, is_void, ending, frame_of, function_typing, method_body_typing, base_call, body_called, super_chosen, super_by, super_typing, default_base, implicit_super, base_typing, with_last, constructed, maker_frame, constructor_typing, global_typing}
+use Rattle.ang_check.specs.Typing.{Base, parameter_local, typed_parameter, typed_parameters, this_local, ending, frame_of, function_typing, method_body_typing, base_call, body_called, super_chosen, super_by, super_typing, default_base, implicit_super, base_typing, with_last, constructed, maker_frame, constructor_typing, global_typing}
+use Rattle.ang_types.specs.ArgTypes.{is_void}
 use Rattle.ang_source.specs.Sound.{Module, SoundOption, SoundStatement, SoundStatements, SoundArguments, SoundFunction, declared}
 use Rattle.ang_check_sound.specs.Checked.{with_this}
 use Rattle.ang_check_sound.specs.Built.{IsBuiltContext, HasThis}

@@ -30,7 +30,8 @@ use Rattle.ang_check_context.specs.Scope.{BodyContext}
 use Rattle.ang_check_stmt.specs.Positions.{token_position, positions_in, positions_of, inner_positions}
 use Rattle.ang_check_stmt.specs.Typing.{FunctionContext, with_same, optional_typing, expression_typing, condition_typing, optional_condition, steps_typing, locals_typing, declaration_typing, result_typing, return_typing, jump, start_typing, head_typing, block_of, alone, tested_of, either_of, while_of, do_while_of, for_of, stmt_typing, block_typing, stmts_typing, own_object}
 use Rattle.ang_check.specs.Positions.{base_positions, constructor_positions}
-use Rattle.ang_check.specs.Typing.{Base, parameter_local, typed_parameters, this_parameter, this_local, is_void, ending, frame_of, function_typing, method_body_typing, base_call, base_typing, with_last, maker_frame, constructor_typing}
+use Rattle.ang_check.specs.Typing.{Base, parameter_local, typed_parameters, this_parameter, this_local, ending, frame_of, function_typing, method_body_typing, base_call, base_typing, with_last, maker_frame, constructor_typing}
+use Rattle.ang_types.specs.ArgTypes.{is_void}
 use Rattle.ang_check.specs.Bodies.{Part, a_function, a_global, a_method, a_constructor, a_default, parts_of, Judgement, of_function, of_global, of_member, of_default, context_in, within_of, base_of, base_name, judged_function, judged_global, method_at, judged_method, constructor_at, judged_constructor, judgements, function_given, member_given, body_refusals, program_of}
 use Rattle.ang_check_sound.specs.Placed.{AreCounted}
 use Rattle.ang_check_sound.proofs.Judged.{holds, either_holds, any}

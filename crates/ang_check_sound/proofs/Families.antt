@@ -1,6 +1,7 @@
 -- What is found of a family, own and inherited, is a member of a family that is there.
 use Rattle.std.specs.Prelude.{◌≡◌, ℕ, suc, Bool, true, false, if◌then◌else◌, cond, List, [], ◌∷◌, ◌++◌, filter, find, option_map, option_and_then, Option, Some, None, IfSome, slice_get}
 use Rattle.std.specs.List.{list_any, flat_map}
+use Rattle.std.specs.Option.{option_map_or}
 use Rattle.std.proofs.Common.{refl}
 use Rattle.ang_tree.specs.Stmt.{Every}
 use Rattle.ang_names_known.specs.declared.names.ScriptConstructor.{ScriptConstructor}
@@ -9,7 +10,7 @@ use Rattle.ang_names_known.specs.declared.names.Default.TheVariants as default
 use Rattle.ang_names_known.specs.declared.names.Family.{Family}
 use Rattle.ang_names_known.specs.declared.names.ScriptMethod.{ScriptMethod}
 use Rattle.ang_names_known.specs.Items.{is_empty, each_after}
-use Rattle.ang_names_known.specs.Lookup.{Numbered, with_family, families_at, kin_in, kin_of, FoundMethod, methods_in, methods_of, stands_in, is_named, if_nearest, methods_named, takes_nothing, default_among, own_default, written_default, has_constructors, nearest_default, constructors_in, default_of}
+use Rattle.ang_names_known.specs.Lookup.{Numbered, with_family, families_at, kin_of, FoundMethod, methods_in, methods_of, stands_in, is_named, if_nearest, methods_named, takes_nothing, default_among, written_or, has_constructors, nearest_default, constructors_in, default_of}
 use Rattle.ang_check_sound.proofs.Items.{every_joined, every_mapped, every_placed, every_filter}
 
 module _ (fs : List Family) where
@@ -26,7 +27,7 @@ module _ (fs : List Family) where
   all_numbered [] = tt
   all_numbered (n ∷ ns) = one_numbered n (slice_get fs n) (families_at fs ns) refl (all_numbered ns)
 
-  kin_by : (o : Option Family) → Every IsNumbered (kin_in fs o)
+  kin_by : (o : Option Family) → Every IsNumbered (option_map_or (λ (f : Family). families_at fs f.order) o [])
   kin_by None = tt
   kin_by (Some f) = all_numbered f.order
 
@@ -99,11 +100,11 @@ module _ (fs : List Family) (Q : ℕ → Type 0)
   nearest [] a = tt
   nearest (f ∷ kin) a = first_of_kin f kin (has_constructors f) (among f.1.constructors (each f.0 f.1 a.0)) (nearest kin a.1)
 
-  own_by : (o : Option ℕ) → IfSome o Q → IfWritten Q (own_default o)
+  own_by : (o : Option ℕ) → IfSome o Q → IfWritten Q (written_or default.Missing o)
   own_by None h = tt
   own_by (Some k) h = h
 
-  written_by : (o : Option ℕ) → IfSome o Q → IfWritten Q (written_default o)
+  written_by : (o : Option ℕ) → IfSome o Q → IfWritten Q (written_or default.Unwritten o)
   written_by None h = tt
   written_by (Some k) h = h
 
@@ -115,6 +116,6 @@ module _ (fs : List Family) (Q : ℕ → Type 0)
   unfolding default_of
   default_holds c = by (is_empty (constructors_in (slice_get fs c)))
     where
-      by : (b : Bool) → IfWritten Q (if b then written_default (nearest_default (kin_of fs c)) else own_default (default_among (constructors_in (slice_get fs c))))
+      by : (b : Bool) → IfWritten Q (if b then written_or default.Unwritten (nearest_default (kin_of fs c)) else written_or default.Missing (default_among (constructors_in (slice_get fs c))))
       by true = written_by (nearest_default (kin_of fs c)) (nearest (kin_of fs c) (kin_numbered fs c))
       by false = own_by (default_among (constructors_in (slice_get fs c))) (of_family c (slice_get fs c) refl)

@@ -1,5 +1,5 @@
 -- The bodies of names by number: how many there are, that those of a number are listed, and what holds of each.
-use Rattle.std.specs.Prelude.{◌≡◌, ℕ, zero, suc, ◌+◌, ◌==◌, Bool, true, false, ◌||◌, cond, length, List, [], ◌∷◌, ◌++◌, map, option_map, Option, Some, None, slice_get, find}
+use Rattle.std.specs.Prelude.{◌≡◌, ℕ, zero, suc, ◌+◌, ◌==◌, Bool, true, false, ◌||◌, cond, length, List, [], ◌∷◌, ◌++◌, map, option_map, Option, Some, None, slice_get, find, if◌then◌else◌}
 use Rattle.std.specs.List.{cons_option, filter_map, flat_map, list_any}
 use Rattle.std.proofs.Common.{refl, ap, sym, ◌∙◌, subst, arith, length-append}
 use Rattle.std.proofs.lemmas.List.{length-map}
@@ -19,7 +19,7 @@ use Rattle.ang_names_listed.specs.declared.listed.MemberKind.{MemberKind}
 use Rattle.ang_names_listed.specs.declared.listed.MemberKind.TheVariants as member
 use Rattle.ang_names_listed.specs.Declarations.{Declaring}
 use Rattle.ang_names_classes.specs.Headings.{heading_of}
-use Rattle.ang_names_classes.specs.Resolved.{has_body, with_bodies, body_members, body_number, method_with, methods_by, constructors_by, methods_after, constructors_after, families_after, family_with}
+use Rattle.ang_names_classes.specs.Resolved.{has_body, with_bodies, body_members, method_with, methods_by, constructors_by, methods_after, constructors_after, families_after, family_with}
 use Rattle.ang_check_sound.specs.Checked.{NumberedBody, with_this, method_bodies, constructor_bodies, bodies_of}
 use Rattle.ang_check_sound.proofs.Items.{every_joined}
 
@@ -33,7 +33,7 @@ constructor_body c k = (k.body, with_this (record { family = c; read_only = fals
 -- ---- how many there are
 
 module _ (E : Space) (all : List (ScriptFunction × Bool)) (d : Declaring) (first c : ℕ) where
-  by_class : (b : Bool) (m : ListedMember) (y : ScriptMethod) (n : ℕ) (ms : List ScriptMethod) (ks : List ScriptConstructor) (others : List ListedMember) → y.body ≡ body_number b n
+  by_class : (b : Bool) (m : ListedMember) (y : ScriptMethod) (n : ℕ) (ms : List ScriptMethod) (ks : List ScriptConstructor) (others : List ListedMember) → y.body ≡ (if b then Some n else None)
       → length (filter_map (method_body c) ms) + length ks ≡ length others
       → length (filter_map (method_body c) (y ∷ ms)) + length ks ≡ length (cond b (m ∷ others) others)
   by_class true m y n ms ks others e h =

@@ -29,7 +29,7 @@ use Rattle.ang_lex.specs.declared.operators.IntegerOperator.TheVariants as work
 use Rattle.ang_check_operators.specs.Operands.{Operand, operand, reading, conversion, fit_by, fit, integer, number, truth_in, truth, identity_in, identity, object_of, site_in, site_or, target_by, target, seat_by, seat}
 use Rattle.ang_check_operators.specs.Refusals.{Typing, ◌>>=◌, refused}
 use Rattle.ang_lex.specs.Operators.{binary_operator, compound_operator, form_of}
-use Rattle.ang_check_operators.specs.Operations.{literal_by, literal_typing, raised_type, worked_in, arithmetic, shift, compared_in, order, equality_by, equality, conjunction, disjunction, exclusion, sameness, difference, formed, binary_typing, negated, complemented, raised_operand, opposite, seat_of, handle_in, handle_typing, stepped, prefix_by, prefix_typing, postfix_by, postfix_typing, converted_by, convert_typing, inside, group_typing, choice_as, choice_of_integers, stands_for, choice_of, choice_of_objects, choice_of_enumerations, choice_by, choice, conditional_typing, assign_in, assigned, reseated, assigned_by, compound_in, compound_arithmetic, compound_shift, assignment_by, assignment_typing}
+use Rattle.ang_check_operators.specs.Operations.{literal_by, literal_typing, raised_type, worked_in, worked, shift_type, tested, compared_in, order, equality_by, equality, formed, binary_typing, of_raised, opposite, seat_of, handle_in, handle_typing, stepped, prefix_by, prefix_typing, postfix_by, postfix_typing, converted_by, convert_typing, inside, group_typing, choice_as, choice_of_integers, stands_for, choice_of, choice_of_objects, choice_of_enumerations, choice_by, choice, conditional_typing, assign_in, assigned, reseated, assigned_by, compound_in, compounded, assignment_by, assignment_typing}
 use Rattle.ang_source.specs.Sound.{Module, IsVariable, IsStored, IsMember, IsStoredMember, Sound}
 use Rattle.ang_check_sound.proofs.Judged.{holds, either_holds, any}
 
@@ -204,13 +204,13 @@ module _ (M : Module) (n : ℕ) where
   compared_sound ancestors r c a b sa sb =
       fit_two ancestors (type.Plain r) a b (λ x y. Ok (operand a.place (type.Plain p.Bool) (t.compare c r x y))) sa sb (λ x y sx sy. no_site _ _ _ (sx, sy))
 
-  arithmetic_sound : (ancestors : Ancestors) (op : Operator) (a b : Operand) → SoundOperand a → SoundOperand b → IfOk (arithmetic ancestors op a b) SoundOperand
-  unfolding arithmetic
+  arithmetic_sound : (ancestors : Ancestors) (op : Operator) (a b : Operand) → SoundOperand a → SoundOperand b → IfOk (worked common_type ancestors op a b) SoundOperand
+  unfolding worked
   arithmetic_sound ancestors op a b sa sb =
       with_integer SoundOperand a _ (λ q. with_integer SoundOperand b _ (λ r. worked_sound ancestors (common_type q r) op a b sa sb))
 
-  shift_sound : (ancestors : Ancestors) (op : Operator) (a b : Operand) → SoundOperand a → SoundOperand b → IfOk (shift ancestors op a b) SoundOperand
-  unfolding shift
+  shift_sound : (ancestors : Ancestors) (op : Operator) (a b : Operand) → SoundOperand a → SoundOperand b → IfOk (worked shift_type ancestors op a b) SoundOperand
+  unfolding worked
   shift_sound ancestors op a b sa sb =
       with_integer SoundOperand a _ (λ q. with_integer SoundOperand b _ (λ r. worked_sound ancestors (raised_type q) op a b sa sb))
 
@@ -228,18 +228,15 @@ module _ (M : Module) (n : ℕ) where
   unfolding equality
   equality_sound ancestors c a b sa sb = equality_by_sound ancestors c a b a.ty sa sb
 
-  conjunction_sound : (a b : Operand) → SoundOperand a → SoundOperand b → IfOk (conjunction a b) SoundOperand
-  unfolding conjunction
+  conjunction_sound : (a b : Operand) → SoundOperand a → SoundOperand b → IfOk (tested truth t.and a b) SoundOperand
   conjunction_sound a b sa sb =
       truth_two a b (λ x y. Ok (operand a.place (type.Plain p.Bool) (t.and x y))) sa sb (λ x y sx sy. no_site _ _ _ (sx, sy))
 
-  disjunction_sound : (a b : Operand) → SoundOperand a → SoundOperand b → IfOk (disjunction a b) SoundOperand
-  unfolding disjunction
+  disjunction_sound : (a b : Operand) → SoundOperand a → SoundOperand b → IfOk (tested truth t.or a b) SoundOperand
   disjunction_sound a b sa sb =
       truth_two a b (λ x y. Ok (operand a.place (type.Plain p.Bool) (t.or x y))) sa sb (λ x y sx sy. no_site _ _ _ (sx, sy))
 
-  exclusion_sound : (a b : Operand) → SoundOperand a → SoundOperand b → IfOk (exclusion a b) SoundOperand
-  unfolding exclusion
+  exclusion_sound : (a b : Operand) → SoundOperand a → SoundOperand b → IfOk (tested truth (t.compare cmp.NotEqual p.Bool) a b) SoundOperand
   exclusion_sound a b sa sb =
       truth_two a b (λ x y. Ok (operand a.place (type.Plain p.Bool) (t.compare cmp.NotEqual p.Bool x y))) sa sb (λ x y sx sy. no_site _ _ _ (sx, sy))
 
@@ -250,13 +247,11 @@ module _ (M : Module) (n : ℕ) where
       holds (Sound M n) SoundOperand (identity a) (λ x. identity b >>= (λ y. f x y)) (identity_sound a sa)
       (λ x sx. holds (Sound M n) SoundOperand (identity b) (λ y. f x y) (identity_sound b sb) (λ y sy. g x y sx sy))
 
-  sameness_sound : (a b : Operand) → SoundOperand a → SoundOperand b → IfOk (sameness a b) SoundOperand
-  unfolding sameness
+  sameness_sound : (a b : Operand) → SoundOperand a → SoundOperand b → IfOk (tested identity t.same a b) SoundOperand
   sameness_sound a b sa sb =
       identity_two a b (λ x y. Ok (operand a.place (type.Plain p.Bool) (t.same x y))) sa sb (λ x y sx sy. no_site _ _ _ (sx, sy))
 
-  difference_sound : (a b : Operand) → SoundOperand a → SoundOperand b → IfOk (difference a b) SoundOperand
-  unfolding difference
+  difference_sound : (a b : Operand) → SoundOperand a → SoundOperand b → IfOk (tested identity (λ x y. t.not (t.same x y)) a b) SoundOperand
   difference_sound a b sa sb =
       identity_two a b (λ x y. Ok (operand a.place (type.Plain p.Bool) (t.not (t.same x y)))) sa sb (λ x y sx sy. no_site _ _ _ (sx, sy))
 
@@ -283,18 +278,18 @@ module _ (M : Module) (n : ℕ) where
       → ((x : t.Expr) → Sound M n x → IfOk (f x) SoundOperand) → IfOk (fit ancestors r a >>= f) SoundOperand
   fit_one ancestors r a f sa g = holds (Sound M n) SoundOperand (fit ancestors r a) f (fit_sound ancestors r a sa) g
 
-  negated_sound : (ancestors : Ancestors) (place : Place) (a : Operand) → SoundOperand a → IfOk (negated ancestors place a) SoundOperand
-  unfolding negated
+  negated_sound : (ancestors : Ancestors) (place : Place) (a : Operand) → SoundOperand a → IfOk (of_raised t.negate ancestors place a) SoundOperand
+  unfolding of_raised
   negated_sound ancestors place a sa =
       with_integer SoundOperand a _ (λ q. fit_one ancestors (type.Plain (raised_type q)) a _ sa (λ x sx. no_site _ _ _ sx))
 
-  complemented_sound : (ancestors : Ancestors) (place : Place) (a : Operand) → SoundOperand a → IfOk (complemented ancestors place a) SoundOperand
-  unfolding complemented
+  complemented_sound : (ancestors : Ancestors) (place : Place) (a : Operand) → SoundOperand a → IfOk (of_raised t.complement ancestors place a) SoundOperand
+  unfolding of_raised
   complemented_sound ancestors place a sa =
       with_integer SoundOperand a _ (λ q. fit_one ancestors (type.Plain (raised_type q)) a _ sa (λ x sx. no_site _ _ _ sx))
 
-  raised_sound : (ancestors : Ancestors) (place : Place) (a : Operand) → SoundOperand a → IfOk (raised_operand ancestors place a) SoundOperand
-  unfolding raised_operand
+  raised_sound : (ancestors : Ancestors) (place : Place) (a : Operand) → SoundOperand a → IfOk (of_raised (λ r x. x) ancestors place a) SoundOperand
+  unfolding of_raised
   raised_sound ancestors place a sa =
       with_integer SoundOperand a _ (λ q. fit_one ancestors (type.Plain (raised_type q)) a _ sa (λ x sx. no_site _ _ _ sx))
 
@@ -443,15 +438,15 @@ module _ (M : Module) (n : ℕ) where
       fit_one ancestors (type.Plain r) b _ sb (λ y sy. no_site _ _ _ (change_sound x q r op y sx sy))
 
   compound_arithmetic_sound : (ancestors : Ancestors) (op : Operator) (a b : Operand) → SoundOperand a → SoundOperand b
-      → IfOk (compound_arithmetic ancestors op a b) SoundOperand
-  unfolding compound_arithmetic
+      → IfOk (compounded common_type ancestors op a b) SoundOperand
+  unfolding compounded
   compound_arithmetic_sound ancestors op a b sa sb =
       holds IsStoredSite SoundOperand (target a) _ (target_sound a sa)
       (λ x sx. with_number SoundOperand a _ (λ q. with_integer SoundOperand b _ (λ r. compound_sound ancestors op a.place x q (common_type q r) b sx sb)))
 
   compound_shift_sound : (ancestors : Ancestors) (op : Operator) (a b : Operand) → SoundOperand a → SoundOperand b
-      → IfOk (compound_shift ancestors op a b) SoundOperand
-  unfolding compound_shift
+      → IfOk (compounded shift_type ancestors op a b) SoundOperand
+  unfolding compounded
   compound_shift_sound ancestors op a b sa sb =
       holds IsStoredSite SoundOperand (target a) _ (target_sound a sa)
       (λ x sx. with_number SoundOperand a _ (λ q. with_integer SoundOperand b _ (λ r. compound_sound ancestors op a.place x q (raised_type q) b sx sb)))

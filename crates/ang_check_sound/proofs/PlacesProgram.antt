@@ -29,7 +29,8 @@ use Rattle.ang_check_stmt.specs.Paths.{body_ends}
 use Rattle.ang_check_stmt.specs.Positions.{inner_positions}
 use Rattle.ang_check_stmt.specs.Typing.{block_typing, stmts_typing}
 use Rattle.ang_check.specs.Positions.{constructor_positions}
-use Rattle.ang_check.specs.Typing.{Base, parameter_local, this_local, is_void, frame_of, function_typing, method_body_typing, base_typing, maker_frame, constructor_typing}
+use Rattle.ang_check.specs.Typing.{Base, parameter_local, this_local, frame_of, function_typing, method_body_typing, base_typing, maker_frame, constructor_typing}
+use Rattle.ang_types.specs.ArgTypes.{is_void}
 use Rattle.ang_check.specs.Bodies.{Part, a_function, a_global, a_method, a_constructor, a_default, parts_of, Judgement, of_function, context_in, within_of, base_of, base_name, judged_function, judged_global, method_at, judged_method, constructor_at, judged_constructor, judged, judgements, refusal_in, function_given, member_given, body_refusals, program_of}
 use Rattle.ang_check_sound.specs.Parts.{IsPartOf}
 use Rattle.ang_check_sound.specs.Placed.{StandsIn, ArePlaced}

@@ -42,7 +42,8 @@ use Rattle.ang_check_context.specs.Scope.{BodyContext}
 use Rattle.ang_check_stmt.specs.Paths.{body_ends}
 use Rattle.ang_check_stmt.specs.Positions.{inner_positions}
 use Rattle.ang_check_stmt.specs.Typing.{initializer_typing, block_typing, stmts_typing}
-use Rattle.ang_check.specs.Typing.{typed_parameter, typed_parameters, parameter_local, this_local, this_parameter, is_void, ending, frame_of, maker_frame, base_typing, function_typing, method_body_typing, constructor_typing, global_typing}
+use Rattle.ang_check.specs.Typing.{typed_parameter, typed_parameters, parameter_local, this_local, this_parameter, ending, frame_of, maker_frame, base_typing, function_typing, method_body_typing, constructor_typing, global_typing}
+use Rattle.ang_types.specs.ArgTypes.{is_void}
 use Rattle.ang_check.specs.Bodies.{Part, a_function, a_global, a_method, a_constructor, a_default, parts_of, Judgement, of_function, of_global, of_member, of_default, context_in, within_of, base_of, base_name, judged_function, judged_global, method_at, judged_method, constructor_at, judged_constructor, judged, judgements, given, function_given, member_given, global_given, body_refusals, typed_class, method_heading, import_heading, program_of}
 use Rattle.ang_source.specs.Sound as s
 use Rattle.ang_source.specs.Sound.{Module, module_of, IsEntity, IsNoBlank, IsSeenType, declared, declared_by, SoundProgram}

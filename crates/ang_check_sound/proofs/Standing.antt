@@ -1,5 +1,5 @@
 -- The body of each method and each constructor stands in the module at its number, with its parameters.
-use Rattle.std.specs.Prelude.{◌≡◌, ℕ, zero, suc, ◌+◌, ◌<◌, Bool, true, false, cond, length, List, [], ◌∷◌, ◌++◌, map, unwrap_or, option_map, Option, Some, slice_get}
+use Rattle.std.specs.Prelude.{◌≡◌, ℕ, zero, suc, ◌+◌, ◌<◌, Bool, true, false, cond, length, List, [], ◌∷◌, ◌++◌, map, unwrap_or, option_map, Option, Some, slice_get, if◌then◌else◌, None}
 use Rattle.std.specs.List.{flat_map, list_any, range_with_len}
 use Rattle.std.proofs.Common.{refl, ap, sym, ◌∙◌, subst, arith, append_assoc, length-append}
 use Rattle.std.proofs.lemmas.Bool.{eqb-true}
@@ -24,7 +24,7 @@ use Rattle.ang_names_listed.specs.declared.listed.MemberKind.TheVariants as memb
 use Rattle.ang_names_listed.specs.Declarations.{Declaring, declarations_of, families_of}
 use Rattle.ang_names_classes.specs.Resolved.{space_of_declared}
 use Rattle.ang_names_classes.specs.Headings.{heading_of, maker_of, signatures_of}
-use Rattle.ang_names_classes.specs.Resolved.{has_body, with_bodies, body_members, body_number, methods_by, methods_after, constructors_by, constructors_after, families_after, functions_in, families_in, names_of}
+use Rattle.ang_names_classes.specs.Resolved.{has_body, with_bodies, body_members, methods_by, methods_after, constructors_by, constructors_after, families_after, functions_in, families_in, names_of}
 use Rattle.ang_check.specs.Typing.{typed_parameters}
 use Rattle.ang_check_sound.specs.Checked.{NumberedBody, with_this, bodies_of, body_parameters, module_in}
 use Rattle.ang_check_sound.proofs.Items.{every_joined, every_other, every_at, at_front}
@@ -59,7 +59,7 @@ record FamilyStands (first : ℕ) (bodies : List (List TypedParameter)) (c : ℕ
   methods : Every (MethodStands first bodies c) f.methods
   constructors : Every (ConstructorStands first bodies c) f.constructors
 
-body_by : (b : Bool) (first : ℕ) (bodies : List (List TypedParameter)) (n k : ℕ) (ps : List TypedParameter) → body_number b n ≡ Some k → (b ≡ true → Stands first bodies n ps)
+body_by : (b : Bool) (first : ℕ) (bodies : List (List TypedParameter)) (n k : ℕ) (ps : List TypedParameter) → (if b then Some n else None) ≡ Some k → (b ≡ true → Stands first bodies n ps)
     → Stands first bodies k ps
 body_by true first bodies n k ps e h = subst (λ i. Stands first bodies i ps) (same_Some n k e) (h refl)
 body_by false first bodies n k ps e h = cc

@@ -1,5 +1,6 @@
 -- A use of a name means a variable, a property or a function that is there, a value or an enumeration that the view has.
 use Rattle.std.specs.Prelude.{◌≡◌, ◌≢◌, ℕ, suc, ◌<◌, Bool, true, false, if◌then◌else◌, length, List, [], ◌∷◌, map, slice_get, option_map, Option, Some, None, IfSome, IsSome, is_some}
+use Rattle.std.specs.Option.{option_map_or}
 use Rattle.std.proofs.Common.{refl, ap, sym, ◌∙◌}
 use Rattle.std.proofs.lemmas.Option.{slice_get_within, slice_get-map}
 use Rattle.ang_kinds.specs.declared.error.ErrorKind.{ErrorKind}
@@ -7,11 +8,12 @@ use Rattle.ang_kinds.specs.declared.error.ErrorKind.TheVariants as kind
 use Rattle.ang_kinds.specs.declared.types.Pass.TheVariants as pass
 use Rattle.ang_typed.specs.declared.program.TypedParameter.{TypedParameter}
 use Rattle.ang_types.specs.declared.arg_type.ArgType.{ArgType}
+use Rattle.ang_types.specs.declared.candidate.Candidate.{Candidate}
 use Rattle.ang_types.specs.declared.arg_type.ArgType.TheVariants as type
 use Rattle.ang_types.specs.declared.asks.Asks.TheVariants as asks
 use Rattle.ang_types.specs.declared.candidate.Pick.{Pick}
 use Rattle.ang_types.specs.declared.candidate.Pick.TheVariants as pick
-use Rattle.ang_types.specs.Overloads.{Params, params_in, params_at}
+use Rattle.ang_types.specs.Overloads.{Params, params_at}
 use Rattle.ang_types.specs.Best.{best_of}
 use Rattle.ang_types.proofs.BestLaws.{best_of-says}
 use Rattle.ang_kinds.specs.declared.mask.EntityNo.{EntityNo}
@@ -288,7 +290,7 @@ module _ (s : BodyContext) where
 
   candidate_at : (cs : List Callable) (i : ℕ) (c : Callable) → slice_get cs i ≡ Some c → params_at (candidates_of cs) i ≡ c.candidate.params
   candidate_at cs i c e =
-      ap params_in (slice_get-map (λ (c : Callable). c.candidate) cs i ∙ ap (option_map (λ (c : Callable). c.candidate)) e)
+      ap (λ (o : Option Candidate). option_map_or (λ (k : Candidate). k.params) o []) (slice_get-map (λ (c : Callable). c.candidate) cs i ∙ ap (option_map (λ (c : Callable). c.candidate)) e)
 
   best_there : (cs : List Callable) (args : List ArgType) (i : ℕ) (c : Option Callable) → slice_get cs i ≡ c → Every IsCallable cs
       → length (params_at (candidates_of cs) i) ≡ length args → IsMeantCall args (called_at c)

@@ -120,30 +120,18 @@ fitted ancestors ty a = do
 
 -- A variable without an initializer: an object is made without arguments.
 abbrev pub absent_typing : BodyContext → List LocalVariable → TypeName → ArgType → Typing (Option t.Expr)
-absent_typing s ps y type.Void = Ok None
-absent_typing s ps y type.Null = Ok None
-absent_typing s ps y (type.Plain p) = Ok None
-absent_typing s ps y (type.Enumeration n) = Ok None
 absent_typing s ps y (type.Object n c) = made (default_typing s ps y.name n)
-absent_typing s ps y (type.Handle n c) = Ok None
+absent_typing s ps y _ = Ok None
 
 -- One with `=`: no object is assigned by value.
 abbrev pub value_typing : Ancestors → Token → ArgType → Operand → Typing (Option t.Expr)
-value_typing ancestors equals type.Void a = fitted ancestors type.Void a
-value_typing ancestors equals type.Null a = fitted ancestors type.Null a
-value_typing ancestors equals (type.Plain p) a = fitted ancestors (type.Plain p) a
-value_typing ancestors equals (type.Enumeration n) a = fitted ancestors (type.Enumeration n) a
 value_typing ancestors equals (type.Object n c) a = Err (fault kind.NoAssign equals.place)
-value_typing ancestors equals (type.Handle n c) a = fitted ancestors (type.Handle n c) a
+value_typing ancestors equals ty a = fitted ancestors ty a
 
 -- One with arguments, which objects alone take.
 abbrev pub arguments_typing : BodyContext → List LocalVariable → TypeName → ArgType → List Operand → Typing (Option t.Expr)
-arguments_typing s ps y type.Void operands = Err (refused kind.NoMatch y.name)
-arguments_typing s ps y type.Null operands = Err (refused kind.NoMatch y.name)
-arguments_typing s ps y (type.Plain p) operands = Err (refused kind.NoMatch y.name)
-arguments_typing s ps y (type.Enumeration n) operands = Err (refused kind.NoMatch y.name)
 arguments_typing s ps y (type.Object n c) operands = made (made_typing s ps y.name n operands)
-arguments_typing s ps y (type.Handle n c) operands = Err (refused kind.NoMatch y.name)
+arguments_typing s ps y _ operands = Err (refused kind.NoMatch y.name)
 
 -- What a variable of this type begins with.
 abbrev pub initializer_typing : BodyContext → List LocalVariable → TypeName → ArgType → Init → Typing (Option t.Expr)
@@ -191,19 +179,11 @@ declaration_typing f start ps vs = do
 
 abbrev pub value_returned : Ancestors → ArgType → Operand → Typing t.Expr
 value_returned ancestors type.Void a = Err (fault kind.BadConversion a.place)
-value_returned ancestors type.Null a = fit ancestors type.Null a
-value_returned ancestors (type.Plain p) a = fit ancestors (type.Plain p) a
-value_returned ancestors (type.Enumeration n) a = fit ancestors (type.Enumeration n) a
-value_returned ancestors (type.Object n c) a = fit ancestors (type.Object n c) a
-value_returned ancestors (type.Handle n c) a = fit ancestors (type.Handle n c) a
+value_returned ancestors ty a = fit ancestors ty a
 
 abbrev pub nothing_returned : ArgType → Token → Typing (Option t.Expr)
 nothing_returned type.Void word = Ok None
-nothing_returned type.Null word = Err (fault kind.BadConversion word.place)
-nothing_returned (type.Plain p) word = Err (fault kind.BadConversion word.place)
-nothing_returned (type.Enumeration n) word = Err (fault kind.BadConversion word.place)
-nothing_returned (type.Object n c) word = Err (fault kind.BadConversion word.place)
-nothing_returned (type.Handle n c) word = Err (fault kind.BadConversion word.place)
+nothing_returned _ word = Err (fault kind.BadConversion word.place)
 
 -- `this` as the object that a constructor gives back
 abbrev pub own_object : ArgType → t.Expr

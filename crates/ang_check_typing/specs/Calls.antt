@@ -44,10 +44,8 @@ use Rattle.ang_lex.specs.Text.{text_of}
 
 -- a variable that an `&out` value can move into
 abbrev pub is_out_variable : TypedVariable → Bool
-is_out_variable (variable.Local n) = true
-is_out_variable (variable.Global n) = true
 is_out_variable (variable.Property h) = false
-is_out_variable (variable.Field i) = true
+is_out_variable _ = true
 
 abbrev pub out_variable : t.Site → Option TypedVariable
 out_variable (t.named x) = if is_out_variable x then Some x else None
@@ -55,12 +53,10 @@ out_variable (t.member_of e m) = None
 
 -- an object variable is none
 abbrev pub is_out_type : ArgType → Bool
-is_out_type type.Void = false
-is_out_type type.Null = false
 is_out_type (type.Plain p) = true
 is_out_type (type.Enumeration n) = true
-is_out_type (type.Object n c) = false
 is_out_type (type.Handle n c) = true
+is_out_type _ = false
 
 -- by its bare name, and not `const`
 abbrev pub is_out : Operand → Option SiteUse → Bool
@@ -90,10 +86,8 @@ out_for ty a = do
   Ok (t.out x ty a.ty)
 
 abbrev pub argument_by : Ancestors → Pass → ArgType → Operand → Typing t.Arg
-argument_by ancestors pass.Value ty a = value_for ancestors ty a
-argument_by ancestors pass.RefIn ty a = value_for ancestors ty a
 argument_by ancestors pass.RefOut ty a = out_for ty a
-argument_by ancestors pass.RefInOut ty a = value_for ancestors ty a
+argument_by ancestors _ ty a = value_for ancestors ty a
 
 -- an argument for a parameter
 unfoldable pub argument : Ancestors → ArgType × Pass → Operand → Typing t.Arg
@@ -149,12 +143,7 @@ virtual_method n x = record {
 
 abbrev pub direct_by : ℕ → FoundMethod → Option ℕ → List Callable
 direct_by n x None = []
-direct_by n x (Some k) = record {
-  called = calls.Script (callee.Own k);
-  result = x.method.function.result.ty;
-  candidate = record { params = with_receiver n x.method };
-  reach = Some (record { owner = x.owner; access = x.method.access });
-} ∷ []
+direct_by n x (Some k) = record (virtual_method n x) { called = calls.Script (callee.Own k) } ∷ []
 
 -- a method as its class has it, whatever the object's class; one without a body is none
 abbrev pub direct_method : ℕ → FoundMethod → List Callable
@@ -175,9 +164,8 @@ enumerated place n a = do
   Ok (operand place (type.Enumeration n) (t.naming (record { 0 = n }) (t.convert q p.I32 a.tree)))
 
 abbrev pub enumerated_of : Token → ℕ → List Operand → Typing Operand
-enumerated_of x n [] = Err (refused kind.NoMatch x)
 enumerated_of x n (a ∷ []) = enumerated x.place n a
-enumerated_of x n (a ∷ b ∷ rest) = Err (refused kind.NoMatch x)
+enumerated_of x n _ = Err (refused kind.NoMatch x)
 
 -- A bare call that was resolved: of an enumeration's name it is a conversion.
 abbrev pub bare_use : BodyContext → Token → Asks → Bool → List Operand → Resolution → Typing Operand

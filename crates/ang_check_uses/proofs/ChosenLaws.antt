@@ -33,11 +33,11 @@ use Rattle.ang_check_uses.specs.declared.scripts.FunctionList.TheVariants as dec
 use Rattle.ang_check_uses.specs.declared.uses.Callable.{Callable}
 use Rattle.ang_check_uses.specs.CallableKinds.{function_in, host_callable_as}
 use Rattle.ang_check_uses.specs.Choosing.{is_seen, params_as, function_entry, entry_named, host_entry, host_by, entity, function_by, functions_named, method_by, methods_named, constructor_entries, constructor_in, constructor_by, constructors_in}
-use Rattle.ang_check_contest.specs.Contest.{Entry, Standing, fresh, after, entered, outcome_of, is_none_viable, placed}
+use Rattle.ang_check_contest.specs.Contest.{Entry, IsContest, Standing, fresh, after, entered, outcome_of, is_none_viable, placed}
 use Rattle.ang_check_uses.specs.Contenders.{entry_of, entry_in, entries_by, callables_by, meant_by}
 use Rattle.ang_check_uses.specs.Uses.{best_of_those, candidates_of, constructor_of, default_maker, factories_of, functions_of, host_methods, makers_in, script_callables, is_none_viable as none_viable}
 use Rattle.ang_check_contest.specs.Scopes.{Scope}
-use Rattle.ang_check_uses.proofs.Contests.{after_append, entries_append, callables_append, entries_map, callables_map, empty_none, meant_best, none_best}
+use Rattle.ang_check_uses.proofs.Contests.{after_append, candidates_as, entries_append, callables_append, entries_map, callables_map, empty_none, meant_best, none_best}
 
 split : {A : Type 0} → (xs ys zs : List A) → (xs ++ ys) ++ zs ≡ xs ++ (ys ++ zs)
 split [] ys zs = refl
@@ -233,6 +233,30 @@ pub methods_none : (l : Ancestors) (args : List ArgType) (V : RegistrationList) 
 methods_none l args V n name c e =
     ap (λ x. is_none_viable (outcome_of x)) e ∙ none_best l args (method_by V n name) (methods_named V n name)
     ∙ ap (λ cs. none_viable (best_of l (candidates_of cs) args)) (methods_are V n name)
+
+-- ---- the contests themselves
+
+contest_by : (l : Ancestors) (args : List ArgType) (by : Contender → Option Callable) (ts : List Contender) (cs : List Callable) (c : Standing) → callables_by by ts ≡ cs
+    → c ≡ after l args fresh (entries_by by ts) → IsContest l (candidates_of cs) args c
+contest_by l args by ts cs c are e = record { entries = entries_by by ts; taken_in = e; are = candidates_as by ts ∙ ap candidates_of are }
+
+pub contest_of_functions : (s : Scope) (name : List ℕ) (args : List ArgType) (c : Standing) → c ≡ after s.ancestors args fresh (entries_by (function_by s name) (functions_named s name))
+    → IsContest s.ancestors (candidates_of (functions_of s name)) args c
+contest_of_functions s name args c e = contest_by s.ancestors args (function_by s name) (functions_named s name) (functions_of s name) c (functions_are s name) e
+
+pub contest_of_factories : (l : Ancestors) (args : List ArgType) (V : RegistrationList) (n : ℕ) (es : List EntityNo) (c : Standing) → map (λ (e : EntityNo). e.0) es ≡ makers V n
+    → c ≡ after l args fresh (flat_map (host_entry (usage.Maker n) (wanted.Factory n) V) es) → IsContest l (candidates_of (factories_of V n)) args c
+contest_of_factories l args V n es c row e =
+    let u = usage.Maker n in
+    let w = wanted.Factory n in
+    let by = host_by u w V in
+    contest_by l args by (map entity (makers V n)) (factories_of V n) c
+    (host_callables u w V by (λ k. refl) (makers V n) (factories_in V n (map entity_of (makers V n)) (numbers (makers V n))))
+    (e ∙ ap (after l args fresh) (host_entries u w V by (λ k. refl) es (makers V n) row))
+
+pub contest_of_methods : (l : Ancestors) (args : List ArgType) (V : RegistrationList) (n : ℕ) (name : List ℕ) (c : Standing)
+    → c ≡ after l args fresh (entries_by (method_by V n name) (methods_named V n name)) → IsContest l (candidates_of (host_methods V n name)) args c
+contest_of_methods l args V n name c e = contest_by l args (method_by V n name) (methods_named V n name) (host_methods V n name) c (methods_are V n name) e
 
 -- ---- constructors of a class
 

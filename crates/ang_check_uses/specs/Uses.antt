@@ -58,15 +58,8 @@ why _ = kind.UnknownName
 
 -- the entry of number n as a value of the enumeration that it names
 abbrev pub value_by : ℕ → EntryKind → Option EntityNo → Option EnumerationValue
-value_by n entry.HostType owner = None
-value_by n entry.Factory owner = None
-value_by n entry.Method owner = None
-value_by n entry.Property owner = None
-value_by n entry.Function owner = None
-value_by n entry.Global owner = None
-value_by n entry.Enumeration owner = None
-value_by n (entry.EnumValue v) None = None
 value_by n (entry.EnumValue v) (Some e) = Some (record { entity = record { 0 = n }; enumeration = e.0; number = v })
+value_by n _ owner = None
 
 abbrev pub value_in : ℕ → Option Entry → Option EnumerationValue
 value_in n None = None
@@ -128,12 +121,7 @@ own_function n f = record {
 }
 
 abbrev pub imported_function : ℕ → ScriptFunction → Callable
-imported_function n f = record {
-  called = called.Script (callee.Import n);
-  result = f.result.ty;
-  candidate = record { params = parameters_of f };
-  reach = None;
-}
+imported_function n f = record (own_function n f) { called = called.Script (callee.Import n) }
 
 abbrev pub callable_in : (ℕ → ScriptFunction → Callable) → ℕ → Option ScriptFunction → Option Callable
 callable_in f n None = None
@@ -214,18 +202,14 @@ best_of_those ancestors unviable cs args = picked unviable cs (best_of ancestors
 
 -- an integer type or an enumeration
 abbrev pub is_numeric : ArgType → Bool
-is_numeric type.Void = false
-is_numeric type.Null = false
 is_numeric (type.Plain p) = is_integer p
 is_numeric (type.Enumeration n) = true
-is_numeric (type.Object n c) = false
-is_numeric (type.Handle n c) = false
+is_numeric _ = false
 
 -- one integer, or one value of an enumeration
 abbrev pub takes_number : List ArgType → Bool
-takes_number [] = false
 takes_number (ty ∷ []) = is_numeric ty
-takes_number (ty ∷ other ∷ rest) = false
+takes_number _ = false
 
 abbrev pub enumeration_called : ℕ → List ArgType → Resolution
 enumeration_called n args = if takes_number args then resolution.Enumeration n else resolution.Refused kind.NoMatch
@@ -253,9 +237,8 @@ type_meant (named.Enumeration n) = resolution.Enumeration n
 
 -- in front of `::`
 abbrev pub enumeration_meant : Named → Resolution
-enumeration_meant named.Unknown = resolution.Refused kind.UnknownName
-enumeration_meant (named.Object n) = resolution.Refused kind.UnknownName
 enumeration_meant (named.Enumeration n) = resolution.Enumeration n
+enumeration_meant _ = resolution.Refused kind.UnknownName
 
 -- ---- members of a host type
 
@@ -272,8 +255,7 @@ host_methods V n name = map (host_method n) (host_where (wanted.Method n name) V
 
 abbrev pub is_none_viable : Pick → Bool
 is_none_viable pick.NoViable = true
-is_none_viable pick.Ambiguous = false
-is_none_viable (pick.One i) = false
+is_none_viable _ = false
 
 -- `Const` where some method would take the arguments on a receiver that may be changed
 abbrev pub unmatched : Ancestors → List Callable → ℕ → Bool → List ArgType → ErrorKind

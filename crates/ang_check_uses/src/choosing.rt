@@ -139,7 +139,7 @@ fn function_picked(
 /// All functions of a name, as they are taken in for these arguments.
 ///
 /// The only error is want of memory.
-fn functions_entered(
+pub fn functions_entered(
     alloc: Global,
     scope: &Scope<'_>,
     name: &[u8],
@@ -185,7 +185,7 @@ pub fn function_meant(
 /// The host's functions that are wanted, as they are taken in for these arguments.
 ///
 /// The only error is want of memory.
-fn hosts_entered(
+pub fn hosts_entered(
     alloc: Global,
     scope: &Scope<'_>,
     args: &[ArgType],
@@ -234,7 +234,7 @@ pub fn factory_meant(
 ///
 /// The only error is want of memory.
 #[tactic(auto, using(crate::proofs::ChosenLaws::methods_joined))]
-fn methods_entered(
+pub fn methods_entered(
     alloc: Global,
     scope: &Scope<'_>,
     number: u32,

@@ -9,10 +9,9 @@ use Rattle.ang_kinds.specs.declared.types.Shape.TheVariants as shape
 use Rattle.ang_kinds.specs.declared.types.Signature.{Signature}
 use Rattle.ang_kinds.specs.declared.types.TypeRef.{TypeRef}
 use Rattle.ang_kinds.specs.declared.types.TypeRef.TheVariants as type
-use Rattle.ang_lex.specs.declared.token.Token.{Token}
 use Rattle.ang_lex.specs.declared.token.TokenKind.{TokenKind}
 use Rattle.ang_lex.specs.declared.token.TokenKind.TheVariants as k
-use Rattle.ang_lex.specs.Text.{text_of}
+use Rattle.ang_lex.specs.Text.{text_of, name_of}
 use Rattle.ang_tree.specs.Kinds.{primitive_kind}
 use Rattle.ang_parse_read.specs.Tokens.{is_name}
 use Rattle.ang_decl.specs.declared.tree.HostType.{HostType}
@@ -70,11 +69,6 @@ abbrev pub is_type_left_out : HostType → Bool
 is_type_left_out y = not (is_result_type y || is_property_type y || is_plain_handle y)
 
 -- ---- what is declared
-
--- empty where no name is written
-abbrev pub name_of : List ℕ → Option Token → List ℕ
-name_of text None = []
-name_of text (Some t) = text_of text t
 
 -- `T`, `T@` or `T@+`
 abbrev pub shape_of : Option HostHandle → Shape

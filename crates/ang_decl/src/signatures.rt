@@ -1,5 +1,6 @@
 //! What declarations declare.
 ghost use Rattle.std.specs.Prelude.{◌≡◌, IfOk, map};
+ghost use Rattle.ang_lex.specs.Text as lexer;
 ghost use Rattle.ang_decl.specs.Signatures as spec;
 
 use crate::taken::is_value_kind;
@@ -9,7 +10,7 @@ use ang_lex::{Token, TokenKind, text_of};
 use std::alloc::{AllocError, Global};
 
 fn name_of(alloc: Global, text: &[u8], name: &Option<Token>) -> Result<List<u8>, AllocError>
-    ensures exact { IfOk result (λ x. x ≡ spec.name_of text.now name.now) }
+    ensures exact { IfOk result (λ x. x ≡ lexer.name_of text.now name.now) }
 {
     match name {
         None => Ok(List::from_vec(Vec::new(alloc))),

@@ -8,8 +8,6 @@ use Rattle.ang_kinds.specs.declared.primitive.Primitive.TheVariants.{I8, I16, I3
 use Rattle.ang_kinds.specs.declared.value.Value.{Value}
 use Rattle.ang_kinds.specs.declared.value.Value.TheVariants.{Int, Uint, Bool as Truth, Key}
 use Rattle.ang_view.specs.Registration.{RegistrationList}
-use Rattle.ang_types.specs.declared.arg_type.ArgType.{ArgType}
-use Rattle.ang_types.specs.declared.arg_type.ArgType.TheVariants.{Void, Null, Plain, Enumeration, Object, Handle}
 use Rattle.ang_typed.specs.declared.program.TypedParameter.{TypedParameter}
 use Rattle.ang_typed.specs.Typed as t
 use Rattle.ang_names_known.specs.declared.names.Names.{Names}
@@ -26,9 +24,9 @@ use Rattle.ang_meaning.specs.Counting.{Thing, names as names_in, how_many}
 use Rattle.ang_meaning.specs.World.{Input, World as RunWorld, with_inputs}
 use Rattle.ang_meaning.specs.Told.{answers_told, answers_listed}
 use Rattle.ang_meaning.proofs.Counting.{many_append, bits_name_none}
-use Rattle.ang_source.specs.Meaning as source
 use Rattle.ang_code.specs.Values.{answer_of}
-use Rattle.ang_engine_call.specs.Calls.{is_callable, primitive_of, result_of, plain_slot, arguments_of, arguments_for, argument_of, in_front}
+use Rattle.ang_engine_call.specs.Calls.{is_callable, result_of, plain_slot, arguments_of, arguments_for, argument_of, in_front}
+use Rattle.ang_types.specs.ArgTypes.{primitive_of}
 use Rattle.ang_engine_modules.specs.Modules.{Module, module_at, result_in, TakesSoMany}
 use Rattle.ang_engine_modules.specs.Executed.{call_of}
 use Rattle.ang_engine_modules.specs.Ends.{end_of}
@@ -180,21 +178,13 @@ takes-named V names ss ms m n f slots has one =
       params = ap length here.same ∙ length-map f.params typed_parameter ∙ sym one.count;
     }
 
--- and gives a value of the same type there
-typed-same : (ty : ArgType) → source.primitive_of ty ≡ primitive_of ty
-typed-same Void = refl
-typed-same Null = refl
-typed-same (Plain p) = refl
-typed-same (Enumeration n) = refl
-typed-same (Object n r) = refl
-typed-same (Handle n r) = refl
-
 taken-at : {A : Type 0} (n k : ℕ) (xs : List A) (x : A) → slice_get (take n xs) k ≡ Some x → slice_get xs k ≡ Some x
 taken-at zero k xs x e = absurd (cc)
 taken-at (suc n) k [] x e = absurd (cc)
 taken-at (suc n) zero (y ∷ xs) x e = e
 taken-at (suc n) (suc k) (y ∷ xs) x e = taken-at n k xs x e
 
+-- and gives a value of the same type there
 pub typed-named : (V : RegistrationList) (names : Names) (ss : List Source) (ms : List Module) (m n : ℕ) (f : ScriptFunction)
     → HasNames V names ss (module_at ms m).tree → slice_get names.functions n ≡ Some f → IsTyped ms names m n
 typed-named V names ss ms m n f has at =
@@ -206,7 +196,7 @@ typed-named V names ss ms m n f has at =
     record {
       function = f;
       at = at;
-      result = ap result_in here.at ∙ ap source.primitive_of here.same ∙ typed-same f.result.ty;
+      result = ap result_in here.at ∙ ap primitive_of here.same;
     }
 
 -- ---- its run

@@ -16,11 +16,11 @@ use Rattle.ang_view.specs.declared.entry.EntryKind.TheVariants.{HostType, Factor
 use Rattle.ang_view.specs.Only.{IsWithin}
 use Rattle.ang_view.specs.Registration.{RegistrationList, entry_at, is_seen, seen_entry, seen}
 use Rattle.ang_host.specs.declared.event.Role.{Role}
-use Rattle.ang_engine.specs.Roles.{AreRoles, role_by}
+use Rattle.ang_engine.specs.Roles.{AreRoles}
 use Rattle.ang_view.proofs.Seen.{entry_at-seen}
 use Rattle.ang_meaning.specs.declared.host.HostUse.{HostUse}
 use Rattle.ang_meaning.specs.World.{World as RunWorld}
-use Rattle.ang_source.specs.Hosts.{is_asked, use_of, asked_as, use_in, role_in}
+use Rattle.ang_source.specs.Hosts.{is_asked, use_of, asked_as, use_in}
 use Rattle.ang_engine_modules.specs.declared.modules.LoadedModule.{LoadedModule}
 use Rattle.ang_engine_modules.specs.Loaded.{modules_of}
 use Rattle.ang_engine_modules.specs.Modules.{module_at, AreDriversThere, AgreesWith, IsAskedIn}
@@ -45,23 +45,12 @@ registered_by R mask (Some x) y e = ap (λ z. Some z) (seen_by (is_seen R mask x
 pub registered : (R : RegistrationList) (mask n : ℕ) (x : Entry) → entry_at (seen R mask) n ≡ Some x → entry_at R n ≡ Some x
 registered R mask n x e = registered_by R mask (entry_at R n) x (sym (entry_at-seen R mask n) ∙ e)
 
--- what is asked is asked by the role of its kind
-role_same : (k : EntryKind) (f : ℕ) → is_asked k ≡ true → role_by k f ≡ role_in k f
-role_same HostType f e = cc
-role_same Factory f e = refl
-role_same Method f e = refl
-role_same Property f e = refl
-role_same Function f e = refl
-role_same Global f e = refl
-role_same Enumeration f e = cc
-role_same (EnumValue v) f e = cc
-
 asked_by : (b : Bool) (roles : List Role) (R : RegistrationList) (n : ℕ) (x : Entry) (u : HostUse) → AreRoles roles R → entry_at R n ≡ Some x → is_asked x.kind ≡ b
     → (if b then Some (use_of x) else None) ≡ Some u → role_at roles n ≡ u.role
 asked_by false roles R n x u fit at t e = cc
 asked_by true roles R n x u fit at t e =
     let same : use_of x ≡ u = cc in
-    fit n x at t ∙ role_same x.kind x.f t ∙ ap (λ y. y.role) same
+    fit n x at t ∙ ap (λ y. y.role) same
 
 asked_role : (roles : List Role) (R : RegistrationList) (mask n : ℕ) (o : Option Entry) (u : HostUse) → AreRoles roles R → entry_at (seen R mask) n ≡ o → asked_as o ≡ Some u → role_at roles n ≡ u.role
 asked_role roles R mask n None u fit at e = cc

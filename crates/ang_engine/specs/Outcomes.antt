@@ -12,7 +12,8 @@ use Rattle.ang_meaning.specs.Counting.{Thing, how_many}
 use Rattle.ang_source.specs.Meaning.{routine}
 use Rattle.ang_names_known.specs.declared.names.Names.{Names}
 use Rattle.ang_names_known.specs.declared.names.ScriptFunction.{ScriptFunction}
-use Rattle.ang_engine_call.specs.Calls.{primitive_of, result_of}
+use Rattle.ang_engine_call.specs.Calls.{result_of}
+use Rattle.ang_types.specs.ArgTypes.{primitive_of}
 use Rattle.ang_engine_build.specs.declared.program.NoProgram.{NoProgram}
 use Rattle.ang_engine_build.specs.declared.program.NoProgram.TheVariants as no
 use Rattle.ang_engine_build.specs.Build.{Built, Errors, Compiled}
@@ -27,7 +28,7 @@ use Rattle.ang_engine_modules.specs.declared.reply.Outcome.{Outcome}
 use Rattle.ang_engine_modules.specs.declared.reply.Outcome.TheVariants.{Done, Failed, Refused}
 use Rattle.ang_engine_modules.specs.declared.reply.Reply.{Reply}
 use Rattle.ang_engine_modules.specs.declared.reply.Refusal.{Refusal}
-use Rattle.ang_engine_modules.specs.declared.reply.Refusal.TheVariants.{BadName, ModuleExists, Limit, NoModule, NotBuilt, BadBudget, BuildMemory, BuildErrors, InitFailed, NoFunction, NoImport, SignatureDiffers, NotCallable, BadArguments, Memory, NoGroup, InUse}
+use Rattle.ang_engine_modules.specs.declared.reply.Refusal.TheVariants.{BuildMemory, BuildErrors, InitFailed, Memory}
 use Rattle.ang_engine_modules.specs.World.{Program, World, module_named, globals_ended}
 use Rattle.ang_engine.specs.Engines.{resolved_in}
 use Rattle.ang_engine_modules.specs.Commands.{Stepped, reply_of, on_module, on_both, discard}
@@ -38,25 +39,11 @@ use Rattle.ang_engine.specs.Step.{Chosen, Not}
 -- This holds where a command was refused before it did anything, as every refused command is but a
 -- build that was begun.
 abbrev pub IfRefusedAtOnce : Outcome → Type 0 → Type 0
-IfRefusedAtOnce (Done v) P = Unit {0}
-IfRefusedAtOnce (Failed f) P = Unit {0}
 IfRefusedAtOnce (Refused BuildMemory) P = Unit {0}
 IfRefusedAtOnce (Refused BuildErrors) P = Unit {0}
 IfRefusedAtOnce (Refused (InitFailed f)) P = Unit {0}
-IfRefusedAtOnce (Refused BadName) P = P
-IfRefusedAtOnce (Refused ModuleExists) P = P
-IfRefusedAtOnce (Refused Limit) P = P
-IfRefusedAtOnce (Refused NoModule) P = P
-IfRefusedAtOnce (Refused NotBuilt) P = P
-IfRefusedAtOnce (Refused BadBudget) P = P
-IfRefusedAtOnce (Refused NoFunction) P = P
-IfRefusedAtOnce (Refused NoImport) P = P
-IfRefusedAtOnce (Refused SignatureDiffers) P = P
-IfRefusedAtOnce (Refused NoGroup) P = P
-IfRefusedAtOnce (Refused InUse) P = P
-IfRefusedAtOnce (Refused NotCallable) P = P
-IfRefusedAtOnce (Refused BadArguments) P = P
-IfRefusedAtOnce (Refused Memory) P = P
+IfRefusedAtOnce (Refused why) P = P
+IfRefusedAtOnce _ P = Unit {0}
 
 -- ---- bindings
 

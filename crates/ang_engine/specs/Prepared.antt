@@ -13,12 +13,12 @@ use Rattle.ang_meaning.specs.World.{Input}
 use Rattle.ang_engine_call.specs.Named.{function_named_by}
 use Rattle.ang_engine_call.specs.Calls.{is_callable}
 use Rattle.ang_engine_modules.specs.declared.command.Command.{Command}
-use Rattle.ang_engine_modules.specs.declared.command.Command.TheVariants.{NewModule, SetMask, AddSection, Build, Bind, Unbind, Call, Discard, RemoveGroup}
+use Rattle.ang_engine_modules.specs.declared.command.Command.TheVariants.{Build, Call, Discard}
 use Rattle.ang_engine_modules.specs.declared.reply.Reply.{Reply}
 use Rattle.ang_engine_modules.specs.declared.reply.Outcome.{Outcome}
-use Rattle.ang_engine_modules.specs.declared.reply.Outcome.TheVariants.{Done, Failed, Refused}
+use Rattle.ang_engine_modules.specs.declared.reply.Outcome.TheVariants.{Refused}
 use Rattle.ang_engine_modules.specs.declared.reply.Refusal.{Refusal}
-use Rattle.ang_engine_modules.specs.declared.reply.Refusal.TheVariants.{BadName, ModuleExists, Limit, NoModule, NotBuilt, BadBudget, BuildMemory, BuildErrors, InitFailed, NoFunction, NoImport, SignatureDiffers, NotCallable, BadArguments, Memory, NoGroup, InUse}
+use Rattle.ang_engine_modules.specs.declared.reply.Refusal.TheVariants.{NoModule, NotBuilt, BuildMemory, BuildErrors, InitFailed, NoFunction, NotCallable}
 use Rattle.ang_engine_modules.specs.World.{Program, World, module_named, module_at}
 use Rattle.ang_engine_modules.specs.Commands.{Stepped, refused, reply_of}
 use Rattle.ang_engine.specs.declared.engine.Engine.{Engine}
@@ -88,37 +88,17 @@ is_there builds p = is_build (build_in p) (builds (place_in p))
 
 -- whether a build that was answered so had begun, or a discard that was answered so was done
 abbrev pub has_begun : Outcome → Bool
-has_begun (Done v) = true
-has_begun (Failed f) = true
 has_begun (Refused BuildMemory) = true
 has_begun (Refused BuildErrors) = true
 has_begun (Refused (InitFailed f)) = true
-has_begun (Refused BadName) = false
-has_begun (Refused ModuleExists) = false
-has_begun (Refused Limit) = false
-has_begun (Refused NoModule) = false
-has_begun (Refused NotBuilt) = false
-has_begun (Refused BadBudget) = false
-has_begun (Refused NoFunction) = false
-has_begun (Refused NoImport) = false
-has_begun (Refused SignatureDiffers) = false
-has_begun (Refused NoGroup) = false
-has_begun (Refused InUse) = false
-has_begun (Refused NotCallable) = false
-has_begun (Refused BadArguments) = false
-has_begun (Refused Memory) = false
+has_begun (Refused why) = false
+has_begun _ = true
 
 -- The number of the module that a command has built anew, left unbuilt or discarded, if there is one.
 abbrev pub replaced : Command → Outcome → World → Option ℕ
 replaced (Build name budget) outcome w = if has_begun outcome then module_named name w else None
 replaced (Discard name) outcome w = if has_begun outcome then module_named name w else None
-replaced (RemoveGroup name) outcome w = None
-replaced (NewModule name mask) outcome w = None
-replaced (SetMask name mask) outcome w = None
-replaced (AddSection name text) outcome w = None
-replaced (Bind name index exporter decl) outcome w = None
-replaced (Unbind name index) outcome w = None
-replaced (Call name decl args budget) outcome w = None
+replaced _ outcome w = None
 
 -- What was looked up while n builds had begun, when k have: of the module that was replaced nothing is
 -- there any more, and of every other all is there that was, and nothing else. So what is not there never

@@ -28,7 +28,7 @@ use Rattle.ang_engine_modules.specs.declared.reply.Reply.{Reply}
 use Rattle.ang_engine_modules.specs.declared.reply.Outcome.{Outcome}
 use Rattle.ang_engine_modules.specs.declared.reply.Outcome.TheVariants.{Done, Failed, Refused}
 use Rattle.ang_engine_modules.specs.declared.reply.Refusal.{Refusal}
-use Rattle.ang_engine_modules.specs.declared.reply.Refusal.TheVariants.{BadName, ModuleExists, Limit, NoModule, NotBuilt, BadBudget, BuildMemory, BuildErrors, InitFailed, NoFunction, NoImport, SignatureDiffers, NotCallable, BadArguments, Memory, NoGroup, InUse}
+use Rattle.ang_engine_modules.specs.declared.reply.Refusal.TheVariants.{NotBuilt, BadBudget, BuildMemory, BuildErrors, InitFailed, NoFunction, NoImport, SignatureDiffers, NotCallable, BadArguments, Memory}
 use Rattle.ang_engine_modules.specs.World.{Program, ModuleState, ModuleStates, World, module_named, module_at, placed, all_unbound_from, built_in, running, left_to, globals_ended}
 use Rattle.ang_engine.specs.Groups.{removal, removing, list_of}
 use Rattle.ang_engine_modules.specs.Commands.{Stepped, answered, refused, after_run, linked, added_module, set_mask, add_section, unbind, discard, on_module, on_both}
@@ -239,15 +239,10 @@ judged R w (RemoveGroup name) inputs = removing (removal name R w.modules) w inp
 
 -- whether a command may be refused for want of memory before it changes anything
 abbrev pub may_want_memory : Command → Bool
-may_want_memory (NewModule name mask) = true
 may_want_memory (SetMask name mask) = false
-may_want_memory (AddSection name text) = true
-may_want_memory (Build name budget) = true
-may_want_memory (Bind name index exporter decl) = true
 may_want_memory (Unbind name index) = false
-may_want_memory (Call name decl args budget) = true
-may_want_memory (Discard name) = true
 may_want_memory (RemoveGroup name) = false
+may_want_memory _ = true
 
 -- such a command: the first input says whether there is memory to begin
 abbrev pub granted : Grouped → World → Command → List Input → Option Stepped
@@ -263,37 +258,17 @@ step R w c inputs = if may_want_memory c then granted R w c inputs else judged R
 -- The list after a command: `RemoveGroup` alone changes it, and that only where it is done. What a
 -- list was before, no command gives back.
 abbrev pub list_after : Grouped → World → Command → Grouped
-list_after R w (NewModule name mask) = R
-list_after R w (SetMask name mask) = R
-list_after R w (AddSection name text) = R
-list_after R w (Build name budget) = R
-list_after R w (Bind name index exporter decl) = R
-list_after R w (Unbind name index) = R
-list_after R w (Call name decl args budget) = R
-list_after R w (Discard name) = R
 list_after R w (RemoveGroup name) = list_of R (removal name R w.modules)
+list_after R w _ = R
 
 -- ---- what an outcome tells
 
 -- the fault that a refusal of a command tells
 abbrev pub fault_of_refusal : Refusal → Option Fault
-fault_of_refusal BadName = None
-fault_of_refusal ModuleExists = None
-fault_of_refusal Limit = None
-fault_of_refusal NoModule = None
-fault_of_refusal NotBuilt = None
-fault_of_refusal BadBudget = None
 fault_of_refusal BuildMemory = Some MemoryFault
-fault_of_refusal BuildErrors = None
 fault_of_refusal (InitFailed f) = Some f
-fault_of_refusal NoFunction = None
-fault_of_refusal NoImport = None
-fault_of_refusal SignatureDiffers = None
-fault_of_refusal NoGroup = None
-fault_of_refusal InUse = None
-fault_of_refusal NotCallable = None
-fault_of_refusal BadArguments = None
 fault_of_refusal Memory = Some MemoryFault
+fault_of_refusal _ = None
 
 -- the fault that an outcome tells
 abbrev pub fault_told : Outcome → Option Fault

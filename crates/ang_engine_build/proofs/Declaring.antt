@@ -6,7 +6,7 @@ use Rattle.std.proofs.lemmas.List.Quantifiers.{position-Some}
 use Rattle.ang_lex.specs.declared.token.Token.{Token}
 use Rattle.ang_lex.specs.declared.token.TokenKind.{TokenKind}
 use Rattle.ang_lex.specs.declared.token.TokenKind.TheVariants as k
-use Rattle.ang_lex.specs.Text.{text_of}
+use Rattle.ang_lex.specs.Text.{text_of, name_of}
 use Rattle.ang_tree.specs.declared.declaration.Parameter.{Parameter}
 use Rattle.ang_tree.specs.declared.type_name.TypeName.{TypeName}
 use Rattle.ang_tree.specs.declared.type_name.Handle.{Handle}
@@ -30,7 +30,6 @@ use Rattle.ang_names_known.specs.Lookup.{function_with, same_heading}
 use Rattle.ang_names_known.specs.Spaces.{Space, family_of_type, type_of_name}
 use Rattle.ang_names_listed.specs.declared.role.TypePosition.{TypePosition}
 use Rattle.ang_names_listed.specs.declared.role.TypePosition.TheVariants as role
-use Rattle.ang_names_listed.specs.Sources.{name_of}
 use Rattle.ang_names_listed.specs.Types.{TypeOrError, ◌and_then◌, admitted, is_const_handle, object_type, pass_of, settled, type_in, written_type}
 use Rattle.ang_names_classes.specs.Headings.{function_with as declared_with, heading_of, parameter_of, parameter_role}
 use Rattle.ang_names.specs.Refusals.{heading_refusal, parameter_limit, parameters_refusal, why_refused}

@@ -32,7 +32,8 @@ use Rattle.ang_names_listed.specs.declared.spelling.Sign.{Sign}
 use Rattle.ang_names_listed.specs.declared.spelling.Sign.TheVariants as sign
 use Rattle.ang_lex.specs.Text.{text_of}
 use Rattle.ang_names_listed.specs.Spellings.{base_by, sign_by, sign_of, sign_number, spelling_of, same_base, same_spelling, same_spellings}
-use Rattle.ang_names_listed.specs.Types.{TypeOrError, without_handle, object_type, written_type, no_void, passed, own_role, pass_of, type_in, is_const_handle, settled, ◌and_then◌}
+use Rattle.ang_names_listed.specs.declared.role.TypePosition.TheVariants as role
+use Rattle.ang_names_listed.specs.Types.{TypeOrError, without_handle, object_type, written_type, no_void, passed, pass_of, type_in, is_const_handle, settled, ◌and_then◌}
 use Rattle.ang_names.specs.Refusals.{parameters_refusal, type_refusal_of, why_refused}
 use Rattle.ang_names_classes.specs.Headings.{parameter_of}
 use Rattle.ang_engine_call.specs.Headings.{Passed, passed_of}
@@ -249,7 +250,7 @@ passed_is pass.RefInOut (type.Enumeration n) t h = cc
 passed_is pass.RefInOut (type.Object n c) t h = cc
 passed_is pass.RefInOut (type.Handle n c) t h = cc
 
-parameter_is : (E : Space) (text : List ℕ) (p : Parameter) (t : ArgType) → type_in E (own_role p) text p.declared_type ≡ Ok t
+parameter_is : (E : Space) (text : List ℕ) (p : Parameter) (t : ArgType) → type_in E (role.Parameter (pass_of p.reference)) text p.declared_type ≡ Ok t
     → IsSpelled E t (is_const_handle p.declared_type.handle) (base_by text p.declared_type p.declared_type.name.kind) (sign_of p.declared_type.handle)
 unfolding type_in
 parameter_is E text p t e =
@@ -268,8 +269,8 @@ all_hold : (a b c d : Bool) → a ≡ true → b ≡ true → c ≡ true → d �
 all_hold a b c d e f g h = λ i. e i && f i && g i && h i
 
 -- of two parameters with types
-one_spelling : (E : Space) (text other : List ℕ) (p q : Parameter) (t u : ArgType) → length E.view ≤ 1024 → type_in E (own_role p) text p.declared_type ≡ Ok t
-    → type_in E (own_role q) other q.declared_type ≡ Ok u → passed_of (parameter_of E text false p) ≡ passed_of (parameter_of E other false q)
+one_spelling : (E : Space) (text other : List ℕ) (p q : Parameter) (t u : ArgType) → length E.view ≤ 1024 → type_in E (role.Parameter (pass_of p.reference)) text p.declared_type ≡ Ok t
+    → type_in E (role.Parameter (pass_of q.reference)) other q.declared_type ≡ Ok u → passed_of (parameter_of E text false p) ≡ passed_of (parameter_of E other false q)
     → same_spelling (spelling_of text p) (spelling_of other q) ≡ true
 unfolding spelling_of
 one_spelling E text other p q t u small e f same =
@@ -289,8 +290,8 @@ one_spelling E text other p q t u small e f same =
     all_hold (same_base (base_by text y y.name.kind) b) (sign_number (sign_of y.handle) == sign_number s) (beq (is_some y.constant) (is_some z.constant))
     (pass_number (pass_of p.reference) == pass_number (pass_of q.reference)) alike.0 (eq-eqb _ _ (ap sign_number alike.1)) ((booleans_Decides _ _).1 constants) (eq-eqb _ _ (ap pass_number way))
 
-typed_from : (E : Space) (p : Parameter) (text : List ℕ) (m : TypeOrError) → type_in E (own_role p) text p.declared_type ≡ m
-    → type_refusal_of E text (own_role p) p.declared_type ≡ None → (t : ArgType) × (type_in E (own_role p) text p.declared_type ≡ Ok t)
+typed_from : (E : Space) (p : Parameter) (text : List ℕ) (m : TypeOrError) → type_in E (role.Parameter (pass_of p.reference)) text p.declared_type ≡ m
+    → type_refusal_of E text (role.Parameter (pass_of p.reference)) p.declared_type ≡ None → (t : ArgType) × (type_in E (role.Parameter (pass_of p.reference)) text p.declared_type ≡ Ok t)
 typed_from E p text (Ok t) is e = (t, is)
 typed_from E p text (Err kind) is e = let refused = ap (λ m. why_refused text p.declared_type.name m) (sym is) ∙ e in cc
 
@@ -306,8 +307,8 @@ same_lists E text other [] [] small e f same = refl
 same_lists E text other [] (q ∷ qs) small e f same = cc
 same_lists E text other (p ∷ ps) [] small e f same = cc
 same_lists E text other (p ∷ ps) (q ∷ qs) small e f same =
-    let x = both_none (type_refusal_of E text (own_role p) p.declared_type) (parameters_refusal E text false ps) e in
-    let y = both_none (type_refusal_of E other (own_role q) q.declared_type) (parameters_refusal E other false qs) f in
+    let x = both_none (type_refusal_of E text (role.Parameter (pass_of p.reference)) p.declared_type) (parameters_refusal E text false ps) e in
+    let y = both_none (type_refusal_of E other (role.Parameter (pass_of q.reference)) q.declared_type) (parameters_refusal E other false qs) f in
     let t = typed_from E p text _ refl x.0 in
     let u = typed_from E q other _ refl y.0 in
     let head : passed_of (parameter_of E text false p) ≡ passed_of (parameter_of E other false q) = cc in

@@ -1,37 +1,18 @@
 -- What a call from outside hands to a function and gets from it (docs/HOST.md, "Commands"; the AngelScript manual, "Calling a
 -- script function"; that only primitives and enumerations by value pass is this profile's own). An enumeration is a primitive here, with the
 -- range of `int`.
-use Rattle.std.specs.Prelude.{◌≡◌, Bool, true, false, ◌&&◌, ◌||◌, is_some, List, [], ◌∷◌, Option, Some, None, option_map, Vec}
+use Rattle.std.specs.Prelude.{◌≡◌, Bool, ◌&&◌, ◌||◌, is_some, List, [], ◌∷◌, Option, Some, None, option_map, Vec}
 use Rattle.std.specs.List.{list_all}
 use Rattle.std.specs.declared.alloc.Global.{Global}
 use Rattle.ang_kinds.specs.declared.primitive.Primitive.{Primitive}
-use Rattle.ang_kinds.specs.declared.primitive.Primitive.TheVariants.{I32}
 use Rattle.ang_kinds.specs.declared.value.Value.{Value}
 use Rattle.ang_meaning.specs.declared.slot.Slot.{Slot}
 use Rattle.ang_meaning.specs.declared.host.HostValueType.TheVariants.{Plain as PlainType}
 use Rattle.ang_meaning.specs.Hosts.{slot_of, value_of}
-use Rattle.ang_types.specs.declared.arg_type.ArgType.{ArgType}
-use Rattle.ang_types.specs.declared.arg_type.ArgType.TheVariants.{Void, Null, Plain, Enumeration, Object, Handle}
+use Rattle.ang_types.specs.ArgTypes.{is_void, primitive_of}
 use Rattle.ang_names_known.specs.declared.names.ScriptFunction.{ScriptFunction}
 use Rattle.ang_names_known.specs.declared.names.ScriptParameter.{ScriptParameter}
 use Rattle.ang_names_listed.specs.Types.{is_by_value}
-
--- the primitive type that it is, if it is one; an enumeration counts as `int`
-abbrev pub primitive_of : ArgType → Option Primitive
-primitive_of Void = None
-primitive_of Null = None
-primitive_of (Plain p) = Some p
-primitive_of (Enumeration n) = Some I32
-primitive_of (Object n r) = None
-primitive_of (Handle n r) = None
-
-abbrev pub is_void : ArgType → Bool
-is_void Void = true
-is_void Null = false
-is_void (Plain p) = false
-is_void (Enumeration n) = false
-is_void (Object n r) = false
-is_void (Handle n r) = false
 
 -- a primitive by value
 abbrev pub is_plain_parameter : ScriptParameter → Bool
@@ -52,15 +33,13 @@ abbrev pub argument_of : ScriptParameter → Value → Option Slot
 argument_of p v = plain_slot (primitive_of p.written.ty) v
 
 abbrev pub in_front : Option Slot → Option (List Slot) → Option (List Slot)
-in_front None rest = None
-in_front (Some x) None = None
 in_front (Some x) (Some xs) = Some (x ∷ xs)
+in_front _ _ = None
 
 abbrev pub arguments_for : List ScriptParameter → List Value → Option (List Slot)
 arguments_for [] [] = Some []
-arguments_for [] (v ∷ vs) = None
-arguments_for (p ∷ ps) [] = None
 arguments_for (p ∷ ps) (v ∷ vs) = in_front (argument_of p v) (arguments_for ps vs)
+arguments_for _ _ = None
 
 -- the arguments of a call with these values, in order: a value for each parameter, each of its type and in its range
 unfoldable pub arguments_of : ScriptFunction → List Value → Option (List Slot)

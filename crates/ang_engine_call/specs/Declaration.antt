@@ -6,7 +6,7 @@ use Rattle.ang_lex.specs.declared.token.Token.{Token}
 use Rattle.ang_lex.specs.declared.error.LexError.{LexError}
 use Rattle.ang_lex.specs.Tokens.{tokens_of}
 use Rattle.ang_tree.specs.declared.declaration.Script.{Script}
-use Rattle.ang_tree.specs.Declarations.{Decl, class, interface, import, function, globals, empty}
+use Rattle.ang_tree.specs.Declarations.{Decl, function}
 use Rattle.ang_tree.specs.View.{view_script}
 use Rattle.ang_parse.specs.Answers.{script_of}
 use Rattle.ang_types.specs.declared.asks.Refused.{Refused}
@@ -43,18 +43,13 @@ unless_refused (Some r) f = None
 
 -- the heading of a function in a section of these bytes, where each of its types can stand where it is written
 abbrev pub heading_by : Space → List ℕ → Decl → Option ScriptFunction
-heading_by E text (class final word x bases left members right) = None
-heading_by E text (interface word x bases left methods right) = None
-heading_by E text (import word y x ps from module_name semicolon) = None
 heading_by E text (function y x ps b) = unless_refused (heading_refusal E text false x y ps.items) (heading_of E nowhere text x y ps.items)
-heading_by E text (globals vs) = None
-heading_by E text (empty semicolon) = None
+heading_by E text _ = None
 
 -- of a function, and nothing else
 abbrev pub heading_of_one : Space → List ℕ → List Decl → Option ScriptFunction
-heading_of_one E text [] = None
 heading_of_one E text (d ∷ []) = heading_by E text d
-heading_of_one E text (d ∷ e ∷ ds) = None
+heading_of_one E text _ = None
 
 abbrev pub heading_alone : Space → List ℕ → Option (List Decl) → Option ScriptFunction
 heading_alone E text None = None

@@ -1,6 +1,7 @@
 //! Which functions can be called from outside.
 ghost use Rattle.std.specs.Prelude.{◌≡◌, is_some};
 ghost use Rattle.std.specs.List.{list_all};
+ghost use Rattle.ang_types.specs.ArgTypes.{is_void, primitive_of};
 ghost use Rattle.ang_engine_call.specs.Calls as spec;
 
 use ang_kinds::Prim;
@@ -13,7 +14,7 @@ pub const NO_DRIVER: u32 = 0;
 
 /// The primitive type that it is, if it is one. An enumeration counts as `int`.
 pub fn primitive_of(ty: ArgType) -> Option<Prim>
-    ensures exact { result ≡ spec.primitive_of ty }
+    ensures exact { result ≡ primitive_of ty }
 {
     match ty {
         ArgType::Plain(primitive) => Some(primitive),
@@ -26,7 +27,7 @@ pub fn primitive_of(ty: ArgType) -> Option<Prim>
 }
 
 fn is_void(ty: ArgType) -> bool
-    ensures exact { result ≡ spec.is_void ty }
+    ensures exact { result ≡ is_void ty }
 {
     matches!(ty, ArgType::Void)
 }

@@ -5,7 +5,8 @@ use Rattle.ang_kinds.specs.declared.primitive.Primitive.{Primitive}
 use Rattle.ang_typed.specs.Typed as tree
 use Rattle.ang_meaning.specs.declared.routine.Routine.{Routine}
 use Rattle.ang_meaning.specs.declared.routine.Passing.{Passing}
-use Rattle.ang_source.specs.Meaning.{Code, passings_of, passings_in, primitive_of, results_in, initializers_from, routine}
+use Rattle.ang_source.specs.Meaning.{Code, passings_of, passings_in, results_in, initializers_from, routine}
+use Rattle.ang_types.specs.ArgTypes.{primitive_of}
 use Rattle.ang_engine_modules.specs.Executed.{routines_from, initializers_of}
 
 -- how a function takes its arguments

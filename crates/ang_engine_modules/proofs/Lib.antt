@@ -27,3 +27,4 @@ pub mod Tracing
 pub mod Standing
 pub mod Statements
 pub mod Frames
+mod Joining

@@ -8,7 +8,7 @@ use Rattle.ang_names_known.specs.declared.names.ScriptFunction.{ScriptFunction}
 use Rattle.ang_meaning.specs.declared.routine.Routine.{Routine}
 use Rattle.ang_meaning.specs.World.{Input, World as RunWorld}
 use Rattle.ang_engine_modules.specs.declared.command.Command.{Command}
-use Rattle.ang_engine_modules.specs.declared.command.Command.TheVariants.{NewModule, SetMask, AddSection, Build, Bind, Unbind, Call, Discard, RemoveGroup}
+use Rattle.ang_engine_modules.specs.declared.command.Command.TheVariants.{Build, Call}
 use Rattle.ang_engine_modules.specs.declared.reply.Reply.{Reply}
 use Rattle.ang_engine_modules.specs.declared.reply.Outcome.{Outcome}
 use Rattle.ang_engine_modules.specs.declared.reply.Outcome.TheVariants.{Done, Refused}
@@ -26,15 +26,9 @@ most_sections = 64
 
 -- the ticks that a command may take; one that runs nothing has none
 abbrev pub budget_of : Command → ℕ
-budget_of (NewModule name mask) = 0
-budget_of (SetMask name mask) = 0
-budget_of (AddSection name text) = 0
 budget_of (Build name budget) = budget
-budget_of (Bind name index exporter decl) = 0
-budget_of (Unbind name index) = 0
 budget_of (Call name decl args budget) = budget
-budget_of (Discard name) = 0
-budget_of (RemoveGroup name) = 0
+budget_of _ = 0
 
 -- the reply, the world after it, and the inputs that were not asked for
 pub record Stepped : Type 0 where

@@ -3,27 +3,12 @@ use Rattle.std.specs.Prelude.{Bool, true, false}
 use Rattle.ang_engine_modules.specs.declared.reply.Outcome.{Outcome}
 use Rattle.ang_engine_modules.specs.declared.reply.Outcome.TheVariants.{Done, Failed, Refused}
 use Rattle.ang_engine_modules.specs.declared.reply.Refusal.{Refusal}
-use Rattle.ang_engine_modules.specs.declared.reply.Refusal.TheVariants.{BadName, ModuleExists, Limit, NoModule, NotBuilt, BadBudget, BuildMemory, BuildErrors, InitFailed, NoFunction, NoImport, SignatureDiffers, NotCallable, BadArguments, Memory, NoGroup, InUse}
+use Rattle.ang_engine_modules.specs.declared.reply.Refusal.TheVariants.{InitFailed}
 
 -- whether an initializer has faulted
 abbrev pub is_failed_start : Refusal → Bool
 is_failed_start (InitFailed f) = true
-is_failed_start BuildMemory = false
-is_failed_start BuildErrors = false
-is_failed_start BadName = false
-is_failed_start ModuleExists = false
-is_failed_start Limit = false
-is_failed_start NoModule = false
-is_failed_start NotBuilt = false
-is_failed_start BadBudget = false
-is_failed_start NoFunction = false
-is_failed_start NoImport = false
-is_failed_start SignatureDiffers = false
-is_failed_start NoGroup = false
-is_failed_start InUse = false
-is_failed_start NotCallable = false
-is_failed_start BadArguments = false
-is_failed_start Memory = false
+is_failed_start _ = false
 
 -- whether a command ended with a fault, of a call or of an initializer
 abbrev pub is_fault : Outcome → Bool

@@ -1,5 +1,6 @@
 pub mod Modules
 pub mod Trees
+pub mod Joining
 pub mod Executed
 pub mod Ends
 pub mod Initializing

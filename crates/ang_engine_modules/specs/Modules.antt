@@ -10,7 +10,8 @@ use Rattle.ang_host.specs.Events.{role_at}
 use Rattle.ang_view.specs.declared.entry.Entry.{Entry}
 use Rattle.ang_view.specs.Registration.{RegistrationList, entry_at}
 use Rattle.ang_typed.specs.Typed as t
-use Rattle.ang_source.specs.Meaning.{nothing, primitive_of, heading_among, passings_in}
+use Rattle.ang_source.specs.Meaning.{nothing, heading_among, passings_in}
+use Rattle.ang_types.specs.ArgTypes.{primitive_of}
 use Rattle.ang_meaning.specs.declared.host.HostUse.{HostUse}
 use Rattle.ang_meaning.specs.declared.routine.Passing.{Passing}
 use Rattle.ang_meaning.specs.declared.routine.Routine.{Routine}

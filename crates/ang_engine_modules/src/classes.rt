@@ -1,8 +1,9 @@
 //! The classes of a module's tree as the machine's table has them.
 ghost use Rattle.std.specs.Prelude.{◌≡◌, ◌++◌, ◌∷◌, [], Some, None, MatchOption, IfOk, OnOk, length, option_and_then, slice_get, map as list_map};
-ghost use Rattle.ang_source.specs.Meaning.{kind_of, fields_by, class_of as class_in};
+ghost use Rattle.ang_source.specs.Meaning.{kind_of, fields_by};
 ghost use Rattle.ang_engine_modules.specs.Loaded as spec;
-ghost use Rattle.ang_engine_modules.specs.Trees.{own_methods, methods_by, script_class, classes_from};
+ghost use Rattle.ang_engine_modules.specs.Trees.{own_methods, methods_by, classes_from};
+ghost use Rattle.ang_engine_modules.specs.Joining as joining;
 
 use ang_kinds::List;
 use ang_meaning as meaning;
@@ -80,33 +81,14 @@ fn kinds_of(
     Ok(kinds)
 }
 
-/// The numbers of a class and of those above it.
-fn numbers_of(alloc: Global, number: usize, above: &[usize]) -> Result<Vec<usize>, AllocError>
-    ensures exact { IfOk result (λ found. found.items ≡ number ∷ above.now) }
+/// The numbers of a class and of those above it, in the room of the latter.
+fn numbers_of(number: usize, above: Vec<usize>) -> Result<Vec<usize>, AllocError>
+    ensures exact { IfOk result (λ found. found.items ≡ number ∷ above.items) }
 {
-    let mut found = Vec::new(alloc);
-    found.push(number)?;
-    found.extend_from_slice(above)?;
+    let mut found = above;
+    found.reserve_exact(1)?;
+    found.insert(0, number)?;
     Ok(found)
-}
-
-/// The class of a number as its objects have it.
-fn class_in(
-    alloc: Global,
-    classes: &[TypedClass],
-    number: usize,
-    class: &TypedClass,
-) -> Result<meaning::Class, AllocError>
-    ensures exact { IfOk result (λ c. c ≡ class_in classes.now number class.now) }
-{
-    let fields = kinds_of(alloc, classes, class)?;
-    let under = numbers_of(alloc, number, class.above.as_slice())?;
-    Ok(meaning::Class {
-        number,
-        rank: class.rank,
-        fields: List::from_vec(fields),
-        under: List::from_vec(under),
-    })
 }
 
 /// The methods that a class has itself, after those that there are.
@@ -151,39 +133,98 @@ fn add_chain(
     }
 }
 
-/// The code of a class: what its objects have, and its methods, the nearest one of each slot.
-fn class_code(
+/// What a class has by those above it: what the fields of its objects hold, and its methods, the nearest one of each slot.
+#[derive(Drop)]
+struct ClassParts {
+    fields: Vec<ValueKind>,
+    methods: Methods,
+}
+
+fn class_parts(
     alloc: Global,
     home: u32,
     classes: &[TypedClass],
-    number: usize,
     class: &TypedClass,
-) -> Result<ClassCode, AllocError>
+) -> Result<ClassParts, AllocError>
     ensures exact { IfOk result
-        (λ code. spec.class_of code ≡ script_class home classes.now number class.now) }
+        (λ p. joining.parts_in p ≡ joining.parts_of home classes.now class.now) }
 {
     let mut found = Vec::new(alloc);
     add_chain(home, classes, classes.len(), class, &mut found)?;
     let methods = Methods::new(found)?;
-    let class = class_in(alloc, classes, number, class)?;
+    let fields = kinds_of(alloc, classes, class)?;
+    Ok(ClassParts { fields, methods })
+}
+
+fn all_parts(
+    alloc: Global,
+    home: u32,
+    classes: &[TypedClass],
+) -> Result<Vec<ClassParts>, AllocError>
+    ensures exact { IfOk result (λ all. list_map joining.parts_in all.items
+        ≡ list_map (joining.parts_of home classes.now) classes.now) }
+{
+    let mut all = Vec::with_capacity(alloc, classes.len())?;
+    for class in classes {
+        all.push(class_parts(alloc, home, classes, class)?)?;
+    }
+    Ok(all)
+}
+
+/// The code of the class of a number, which has these parts.
+fn class_code(number: usize, class: TypedClass, parts: ClassParts) -> Result<ClassCode, AllocError>
+    ensures exact { IfOk result (λ code. spec.class_of code
+        ≡ joining.class_with number class (joining.parts_in parts)) }
+{
+    let ClassParts { fields, methods } = parts;
+    let under = numbers_of(number, class.above.into_vec())?;
+    let class = meaning::Class {
+        number,
+        rank: class.rank,
+        fields: List::from_vec(fields),
+        under: List::from_vec(under),
+    };
     Ok(ClassCode { class, methods })
 }
 
-/// The code of all classes of a module, by number.
+/// The code of classes, each of which has the parts of its place.
+fn codes_with(
+    alloc: Global,
+    classes: Vec<TypedClass>,
+    parts: Vec<ClassParts>,
+) -> Result<Vec<ClassCode>, AllocError>
+    ensures exact { IfOk result (λ codes. list_map spec.class_of codes.items
+        ≡ joining.classes_with 0 classes.items (list_map joining.parts_in parts.items)) }
+{
+    let count = classes.len();
+    let mut codes = Vec::with_capacity(alloc, count)?;
+    let mut left = classes.into_iter();
+    let mut rest = parts.into_iter();
+    for number in 0..count {
+        let Some(class) = left.next() else {
+            return Ok(codes);
+        };
+        let Some(part) = rest.next() else {
+            return Ok(codes);
+        };
+        let code = class_code(number, class, part)?;
+        codes.push(code)?;
+    }
+    Ok(codes)
+}
+
+/// The code of all classes of a module, by number. What a class stands under stays where it is, and takes no room anew.
 ///
 /// # Errors
 /// Want of memory.
 pub fn classes_of(
     alloc: Global,
     home: u32,
-    classes: &[TypedClass],
+    classes: Vec<TypedClass>,
 ) -> Result<Vec<ClassCode>, AllocError>
-    ensures exact { IfOk result (λ codes.
-        list_map spec.class_of codes.items ≡ classes_from home classes.now 0 classes.now) }
+    ensures exact { IfOk result (λ codes. list_map spec.class_of codes.items
+        ≡ classes_from home classes.items 0 classes.items) }
 {
-    let mut codes = Vec::with_capacity(alloc, classes.len())?;
-    for (number, class) in classes.iter().enumerate() {
-        codes.push(class_code(alloc, home, classes, number, class)?)?;
-    }
-    Ok(codes)
+    let parts = all_parts(alloc, home, classes.as_slice())?;
+    codes_with(alloc, classes, parts)
 }

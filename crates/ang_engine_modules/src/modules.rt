@@ -192,15 +192,13 @@ impl Modules {
             }
         };
         let name = loaded.name.as_slice();
-        let code = match code_of(alloc, home, name, &loaded.view, &tree, generated) {
+        let code = match code_of(alloc, home, name, &loaded.view, tree, generated) {
             Ok(code) => code,
             Err(error) => {
                 drop(loaded);
-                drop(tree);
                 return Err(error);
             }
         };
-        drop(tree);
         put_code(&mut self.table.modules, home, code);
         put_loaded(&mut self.loaded, home, Some(loaded));
         Ok(())

@@ -85,7 +85,7 @@ fn imports_of(alloc: Global, headings: &[Heading]) -> Result<Vec<LinkedImport>, 
 }
 
 /// A module's code in the place `home` of the table: its bodies, the entities of its view, and what
-/// its tree declares.
+/// its tree declares. The tree's own bodies are given up first.
 ///
 /// # Errors
 /// Want of memory.
@@ -94,27 +94,36 @@ pub fn code_of(
     home: u32,
     name: &[u8],
     view: &View,
-    tree: &Typed,
+    tree: Typed,
     code: Code,
 ) -> Result<ModuleCode, AllocError>
     ensures name { IfOk result (λ m. m.name.items ≡ name.now) }
     ensures bodies { IfOk result (λ m. m.bodies.items ≡ code) }
     ensures imports { IfOk result
-        (λ m. list_map (λ y. y.params.items) m.imports.items ≡ headings_in tree.now.imports) }
+        (λ m. list_map (λ y. y.params.items) m.imports.items ≡ headings_in tree.imports) }
     ensures bound { IfOk result
-        (λ m. list_map (λ y. y.bound) m.imports.items ≡ list_map (λ h. None) tree.now.imports) }
+        (λ m. list_map (λ y. y.bound) m.imports.items ≡ list_map (λ h. None) tree.imports) }
     ensures entities { IfOk result (λ m. m.entities.items ≡ spec.uses_of view.now) }
     ensures classes { IfOk result (λ m. list_map spec.class_of m.classes.items
-        ≡ classes_from home tree.now.classes 0 tree.now.classes) }
+        ≡ classes_from home tree.classes 0 tree.classes) }
     ensures slots { IfOk result
-        (λ m. list_map (λ y. y.items) m.slots.items ≡ headings_in tree.now.methods) }
+        (λ m. list_map (λ y. y.items) m.slots.items ≡ headings_in tree.methods) }
 {
+    let Typed {
+        functions,
+        globals,
+        classes,
+        methods,
+        imports,
+    } = tree;
+    drop(functions);
+    drop(globals);
     let codes = code.into_bodies();
     let name = Vec::from_slice(alloc, name)?;
     let entities = uses_of(alloc, view)?;
-    let imports = imports_of(alloc, tree.imports.as_slice())?;
-    let classes = classes_of(alloc, home, tree.classes.as_slice())?;
-    let slots = slots_of(alloc, tree.methods.as_slice())?;
+    let imports = imports_of(alloc, imports.as_slice())?;
+    let classes = classes_of(alloc, home, classes.into_vec())?;
+    let slots = slots_of(alloc, methods.as_slice())?;
     let bodies = bodies_of(alloc, codes)?;
     Ok(ModuleCode {
         name,

@@ -7,8 +7,8 @@ use Rattle.std.specs.Prelude.{All}
 use Rattle.std.specs.declared.alloc.Global.{Global}
 use Rattle.std.specs.declared.dyn_box.DynBox.{DynBox}
 use Rattle.ang_kinds.specs.declared.value.Value.{Value}
-use Rattle.ang_host.specs.declared.answer.Made.TheVariants.{Key as MadeKey, Nothing, Fault as MadeFault, Memory as MadeMemory, Full as MadeFull}
-use Rattle.ang_host.specs.declared.answer.Answer.TheVariants.{Void, Gave, Fault, Memory, Full}
+use Rattle.ang_host.specs.declared.answer.Made.TheVariants.{Key as MadeKey, Full as MadeFull}
+use Rattle.ang_host.specs.declared.answer.Answer.TheVariants.{Void, Full}
 use Rattle.ang_host.specs.declared.answer.HostReply.{HostReply}
 use Rattle.ang_host.specs.declared.answer.HostReply.TheVariants.{Making, Asking}
 use Rattle.ang_host.specs.declared.event.HostEvent.{HostEvent}
@@ -35,24 +35,13 @@ role_at rs n = slice_index_or rs n (MakingRole 0)
 -- whether the driver refused to be asked, for want of room in its tallies
 abbrev pub is_full : HostReply → Bool
 is_full (Making MadeFull) = true
-is_full (Making (MadeKey _)) = false
-is_full (Making Nothing) = false
-is_full (Making (MadeFault _)) = false
-is_full (Making MadeMemory) = false
 is_full (Asking Full) = true
-is_full (Asking Void) = false
-is_full (Asking (Gave _)) = false
-is_full (Asking (Fault _)) = false
-is_full (Asking Memory) = false
+is_full _ = false
 
 -- the key that a reply brings to life
 abbrev pub is_born : ℕ → HostReply → Bool
 is_born k (Making (MadeKey j)) = nat_eq j k
-is_born k (Making MadeFull) = false
-is_born k (Making Nothing) = false
-is_born k (Making (MadeFault _)) = false
-is_born k (Making MadeMemory) = false
-is_born k (Asking _) = false
+is_born k _ = false
 
 -- the core stays where b is true, and else p holds
 abbrev pub StaysIf : Bool → List ℕ → List ℕ → Type 0 → Type 0

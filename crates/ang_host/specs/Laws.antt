@@ -5,9 +5,9 @@ use Rattle.std.specs.FinMap as map
 use Rattle.ang_kinds.specs.declared.value.Value.{Value}
 use Rattle.ang_kinds.specs.declared.value.Value.TheVariants.{Key as KeyValue}
 use Rattle.ang_host.specs.declared.answer.Made.{Made}
-use Rattle.ang_host.specs.declared.answer.Made.TheVariants.{Key as MadeKey, Nothing, Fault as MadeFault, Memory as MadeMemory, Full as MadeFull}
+use Rattle.ang_host.specs.declared.answer.Made.TheVariants.{Key as MadeKey, Full as MadeFull}
 use Rattle.ang_host.specs.declared.answer.Answer.{Answer}
-use Rattle.ang_host.specs.declared.answer.Answer.TheVariants.{Void, Gave, Fault, Memory, Full}
+use Rattle.ang_host.specs.declared.answer.Answer.TheVariants.{Void, Gave, Full}
 use Rattle.ang_host.specs.declared.answer.HostReply.{HostReply}
 use Rattle.ang_host.specs.declared.answer.HostReply.TheVariants.{Making, Asking}
 use Rattle.ang_host.specs.State.{State, Tally, Ask, end, limit, total}
@@ -64,10 +64,7 @@ IsAsked fits s a r t =
 -- a host call through `call`, `read` or `write`
 abbrev pub Answers : Fits → State → Ask → Answer → State → Type 0
 Answers fits s a Full t = (t ≡ s) × IsFull s
-Answers fits s a Void t = IsAsked fits s a (Asking Void) t
-Answers fits s a (Gave v) t = IsAsked fits s a (Asking (Gave v)) t
-Answers fits s a (Fault n) t = IsAsked fits s a (Asking (Fault n)) t
-Answers fits s a Memory t = IsAsked fits s a (Asking Memory) t
+Answers fits s a r t = IsAsked fits s a (Asking r) t
 
 -- a host call through `make`
 abbrev pub Makes : Fits → State → Ask → Made → State → Type 0
@@ -76,9 +73,7 @@ Makes fits s a (MadeKey k) t =
     (map.get s.counts k ≡ None) × (t.counts ≡ map.insert s.counts k 1)
     × (t.tally ≡ record s.tally { asked = s.tally.asked + 1; made = s.tally.made + 1 })
     × fits s.core a (Making (MadeKey k)) t.core
-Makes fits s a Nothing t = IsAsked fits s a (Making Nothing) t
-Makes fits s a (MadeFault n) t = IsAsked fits s a (Making (MadeFault n)) t
-Makes fits s a MadeMemory t = IsAsked fits s a (Making MadeMemory) t
+Makes fits s a r t = IsAsked fits s a (Making r) t
 
 -- one more reference to the key k, or a full tally
 abbrev pub Adds : State → ℕ → Bool → State → Type 0

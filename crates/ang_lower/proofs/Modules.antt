@@ -10,7 +10,8 @@ use Rattle.ang_meaning.specs.Environment.{Environment}
 use Rattle.ang_core.specs.declared.tree.CoreBody.{CoreBody}
 use Rattle.ang_core.specs.Meaning.{Bodies}
 use Rattle.ang_core.specs.Sound.{LinksFit, AreSound}
-use Rattle.ang_source.specs.Meaning.{Code, of_function, Codes, passings_of, codes_of, codes_in, code_or, passings_in, primitive_of, results_in, initializer_of, initializers_from, nothing, routine}
+use Rattle.ang_source.specs.Meaning.{Code, of_function, Codes, passings_of, codes_of, codes_in, code_or, passings_in, results_in, initializer_of, initializers_from, nothing, routine}
+use Rattle.ang_types.specs.ArgTypes.{primitive_of}
 use Rattle.ang_source.specs.Sound.{Module, module_of, SoundOption, SoundStatements, SoundFunctions, SoundGlobals, SoundProgram}
 use Rattle.ang_lower.specs.Tree as stmt
 use Rattle.ang_lower.specs.Plain.{plain_stmt, plain_body}

@@ -27,7 +27,8 @@ use Rattle.ang_meaning.specs.declared.routine.Callee.TheVariants.{Own}
 use Rattle.ang_meaning.specs.declared.routine.Passing.{Passing}
 use Rattle.ang_meaning.specs.declared.routine.Passing.TheVariants.{In, Out, Object}
 use Rattle.ang_meaning.specs.declared.routine.Target.{Target}
-use Rattle.ang_meaning.specs.Numbers.{is_signed, converted, negated, complemented, denied}
+use Rattle.ang_meaning.specs.Numbers.{converted, negated, complemented, denied}
+use Rattle.ang_kinds.specs.Primitives.{is_signed}
 use Rattle.ang_meaning.specs.Environment.{Environment, host_in, is_fit, is_called_by, is_property, may_call, may_access, may_write}
 use Rattle.ang_meaning.specs.Perform.{operands, member_count}
 use Rattle.ang_core.specs.Sound.{out_count, Fits, AreSpots}

@@ -20,7 +20,8 @@ use Rattle.ang_meaning.specs.declared.operation.Operation.{Operation}
 use Rattle.ang_meaning.specs.declared.operation.Operation.TheVariants.{Binary, Compare, Convert, Negate, Complement, Not, Same, GlobalGet, GlobalSet, GlobalChange, Ask, Read, Write, Alter, Make, FieldGet, FieldSet, FieldChange, Cast}
 use Rattle.ang_meaning.specs.declared.routine.Callee.TheVariants.{Own}
 use Rattle.ang_meaning.specs.declared.routine.Target.{Target}
-use Rattle.ang_meaning.specs.Numbers.{truth, is_signed, converted, negated, complemented, denied}
+use Rattle.ang_meaning.specs.Numbers.{truth, converted, negated, complemented, denied}
+use Rattle.ang_kinds.specs.Primitives.{is_signed}
 use Rattle.ang_meaning.specs.World.{World}
 use Rattle.ang_meaning.specs.Environment.{Environment, default_of}
 use Rattle.ang_meaning.specs.Hosts.{Fine}

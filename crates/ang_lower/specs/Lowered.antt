@@ -5,7 +5,8 @@ use Rattle.ang_typed.specs.declared.expression.TypedVariable.TheVariants as vari
 use Rattle.ang_typed.specs.Typed as t
 use Rattle.ang_typed.specs.View.{Repeated}
 use Rattle.ang_core.specs.declared.tree.CoreStatement.{CoreStatement}
-use Rattle.ang_source.specs.Meaning.{Code, of_function, of_global, passings_of, primitive_of}
+use Rattle.ang_source.specs.Meaning.{Code, of_function, of_global, passings_of}
+use Rattle.ang_types.specs.ArgTypes.{primitive_of}
 use Rattle.ang_source.specs.Sound.{declared, declared_by}
 use Rattle.ang_lower.specs.LoweredExpr.{stored, lowered, lowered_or, lowered_begin}
 use Rattle.ang_lower.specs.Tree as stmt

@@ -17,7 +17,8 @@ use Rattle.ang_meaning.specs.declared.routine.Callee.TheVariants.{Own}
 use Rattle.ang_meaning.specs.declared.routine.Spot.{Spot}
 use Rattle.ang_meaning.specs.declared.routine.Spot.TheVariants as spot
 use Rattle.ang_meaning.specs.declared.routine.Target.{Target}
-use Rattle.ang_meaning.specs.Numbers.{truth, is_signed, converted, negated, complemented, denied}
+use Rattle.ang_meaning.specs.Numbers.{truth, converted, negated, complemented, denied}
+use Rattle.ang_kinds.specs.Primitives.{is_signed}
 use Rattle.ang_source.specs.Meaning.{compound_of, step_of, brought_to, kind_of, callee_of}
 use Rattle.ang_lower.specs.ExprTree as c
 

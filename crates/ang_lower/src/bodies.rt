@@ -2,7 +2,8 @@
 ghost use Rattle.std.specs.Prelude.{◌≡◌, ◌+◌, ◌++◌, ◌∷◌, [], None, suc, length, reverse, IfOk, OnOk, map as list_map};
 ghost use Rattle.std.specs.List.{flat_map};
 ghost use Rattle.ang_typed.specs.View.{view_block, view_expr, view_function, view_global, view_typed};
-ghost use Rattle.ang_source.specs.Meaning.{referred, passing_of, passings_of, passings_in, primitive_of, results_in, of_global};
+ghost use Rattle.ang_source.specs.Meaning.{referred, passing_of, passings_of, passings_in, results_in, of_global};
+ghost use Rattle.ang_types.specs.ArgTypes.{primitive_of};
 ghost use Rattle.ang_lower.specs.Plain.{plain_body, plain_stmt};
 ghost use Rattle.ang_lower.specs.Lowered as spec;
 ghost use Rattle.ang_lower.specs.Same.{LowersProgram, KeepsSound};

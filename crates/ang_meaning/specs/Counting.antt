@@ -16,14 +16,9 @@ pub data Thing : Type 0 where
 
 -- 1 where the slot names it, and else 0
 abbrev pub names : Thing → Slot → ℕ
-names (KeyOf d k) (Bits n) = 0
-names (KeyOf d k) (Script j) = 0
-names (KeyOf d k) (Host e None) = 0
 names (KeyOf d k) (Host e (Some j)) = cond (nat_eq e d && nat_eq j k) 1 0
-names (NumberOf n) (Bits x) = 0
-names (NumberOf n) (Script None) = 0
 names (NumberOf n) (Script (Some j)) = cond (nat_eq j n) 1 0
-names (NumberOf n) (Host e j) = 0
+names _ _ = 0
 
 -- how many of these places hold it
 abbrev pub how_many : Thing → List Slot → ℕ
@@ -69,10 +64,8 @@ Counts elsewhere vs w = CountsIn elsewhere vs w.objects w.hosts
 
 -- an object that a field holds is of a lower rank
 abbrev pub IsBelow : ScriptObjects → ℕ → Slot → Type 0
-IsBelow os r (Bits n) = Unit {0}
-IsBelow os r (Script None) = Unit {0}
 IsBelow os r (Script (Some n)) = (o : ScriptRecord) → map.get os n ≡ Some o → o.rank < r
-IsBelow os r (Host d k) = Unit {0}
+IsBelow os r _ = Unit {0}
 
 abbrev pub AreBelow : ScriptObjects → ℕ → List Slot → Type 0
 AreBelow os r [] = Unit {0}

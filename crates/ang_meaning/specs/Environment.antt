@@ -20,7 +20,7 @@ use Rattle.ang_meaning.specs.declared.routine.Routine.{Routine}
 use Rattle.ang_meaning.specs.declared.routine.Callee.{Callee}
 use Rattle.ang_meaning.specs.declared.routine.Callee.TheVariants.{Own, Import, Virtual}
 use Rattle.ang_meaning.specs.declared.routine.Passing.{Passing}
-use Rattle.ang_meaning.specs.declared.routine.Passing.TheVariants.{In, Out, Object}
+use Rattle.ang_meaning.specs.declared.routine.Passing.TheVariants.{Object}
 
 -- The first number of each is a module's. The values of a function's parameters come with the last one first, here and everywhere.
 pub record Environment : Type 0 where
@@ -88,10 +88,8 @@ method_of z m s None = Misses Null
 method_of z m s (Some o) = bound (z.method m o.class s)
 
 abbrev pub virtual_of : Environment → ℕ → ℕ → Slot → World → Found
-virtual_of z m s (Bits n) w = Misses Null
-virtual_of z m s (Script None) w = Misses Null
 virtual_of z m s (Script (Some n)) w = method_of z m s (map.get w.objects n)
-virtual_of z m s (Host d k) w = Misses Null
+virtual_of z m s _ w = Misses Null
 
 -- the value of the first parameter: the last of as many values as there are parameters, and 0 where there are none or too few
 abbrev pub receiver_in : List Passing → List Slot → Slot
@@ -105,19 +103,16 @@ target z m (Import i) vs w = bound (z.linked m i)
 target z m (Virtual s) vs w = virtual_of z m s (receiver_in (params_in (z.slot m s)) vs) w
 
 unfoldable pub is_null : Slot → Bool
-is_null (Bits n) = false
 is_null (Script None) = true
-is_null (Script (Some n)) = false
 is_null (Host d None) = true
-is_null (Host d (Some k)) = false
+is_null _ = false
 
 -- whether each parameter that wants an object has one; both lists have the last one first
 abbrev pub has_objects : List Passing → List Slot → Bool
 has_objects [] vs = true
 has_objects (p ∷ ps) [] = true
-has_objects (In ∷ ps) (v ∷ vs) = has_objects ps vs
-has_objects (Out ∷ ps) (v ∷ vs) = has_objects ps vs
 has_objects (Object ∷ ps) (v ∷ vs) = not (is_null v) && has_objects ps vs
+has_objects (p ∷ ps) (v ∷ vs) = has_objects ps vs
 
 abbrev pub params_of : Environment → Routine → List Passing
 params_of z g = params_in (z.params g)
@@ -129,9 +124,8 @@ is_called_by (CallingRole f) member = true
 is_called_by (PropertyRole f) member = false
 
 abbrev pub is_property : Role → Bool
-is_property (MakingRole f) = false
-is_property (CallingRole f) = false
 is_property (PropertyRole f) = true
+is_property _ = false
 
 abbrev pub may_call : Option HostUse → Bool
 may_call None = false

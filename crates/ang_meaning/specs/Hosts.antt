@@ -3,7 +3,7 @@ use Rattle.std.specs.Prelude.{ℕ, suc, ◌^◌, ◌-◌, ◌&&◌, Bool, true, 
 use Rattle.ang_kinds.specs.declared.value.Value.{Value}
 use Rattle.ang_kinds.specs.declared.value.Value.TheVariants.{Int, Uint, Bool as Truth, Key}
 use Rattle.ang_kinds.specs.declared.primitive.Primitive.{Primitive}
-use Rattle.ang_kinds.specs.declared.primitive.Primitive.TheVariants.{I8, I16, I32, I64, U8, U16, U32, U64, Bool as TruthType}
+use Rattle.ang_kinds.specs.declared.primitive.Primitive.TheVariants.{U8, U16, U32, U64, Bool as TruthType}
 use Rattle.ang_kinds.specs.declared.mask.EntityNo.{EntityNo}
 use Rattle.ang_kinds.specs.declared.fault.Fault.{Fault}
 use Rattle.ang_kinds.specs.declared.fault.Fault.TheVariants.{Host as HostFault, BadAnswer, NoObject, Memory, Tally}
@@ -18,7 +18,8 @@ use Rattle.ang_meaning.specs.declared.slot.Slot.{Slot}
 use Rattle.ang_meaning.specs.declared.slot.Slot.TheVariants.{Bits, Script, Host}
 use Rattle.ang_meaning.specs.declared.host.HostValueType.{HostValueType}
 use Rattle.ang_meaning.specs.declared.host.HostValueType.TheVariants.{Nothing, Plain, Handle}
-use Rattle.ang_meaning.specs.Numbers.{is_signed, width_of, number, bits_of, least}
+use Rattle.ang_meaning.specs.Numbers.{number, bits_of, least}
+use Rattle.ang_kinds.specs.Primitives.{is_signed, width_of}
 use Rattle.ang_meaning.specs.World.{World, Input, Said, or_else, memory_step, one_more, hold, has_events, has_object}
 use Rattle.ang_meaning.specs.Environment.{Environment, use_at}
 
@@ -34,14 +35,11 @@ holding v w = or_else (hold v w) (Fails Tally) (Fine v)
 -- a number as it is handed to a driver
 abbrev pub plain_value : Primitive → ℕ → Value
 plain_value TruthType n = Truth (not (nat_eq n 0))
-plain_value I8 n = Int (number true n)
-plain_value I16 n = Int (number true n)
-plain_value I32 n = Int (number true n)
-plain_value I64 n = Int (number true n)
 plain_value U8 n = Uint n
 plain_value U16 n = Uint n
 plain_value U32 n = Uint n
 plain_value U64 n = Uint n
+plain_value _ n = Int (number true n)
 
 -- a slot as it is handed to driver d, where its declared type is this; what is not of the type goes as the null key
 abbrev pub value_of : ℕ → HostValueType → Slot → Value
@@ -56,15 +54,11 @@ values_of d (ty ∷ types) (v ∷ vs) = value_of d ty v ∷ values_of d types vs
 
 -- an integer type without a sign
 abbrev pub is_unsigned : Primitive → Bool
-is_unsigned TruthType = false
-is_unsigned I8 = false
-is_unsigned I16 = false
-is_unsigned I32 = false
-is_unsigned I64 = false
 is_unsigned U8 = true
 is_unsigned U16 = true
 is_unsigned U32 = true
 is_unsigned U64 = true
+is_unsigned _ = false
 
 -- whether a number is in the range of a signed type
 abbrev pub is_within : Primitive → ℤ → Bool
@@ -91,8 +85,7 @@ accepted (Some v) w = holding v w
 -- whether the declared result is void
 abbrev pub is_void : HostValueType → Bool
 is_void Nothing = true
-is_void (Plain p) = false
-is_void Handle = false
+is_void _ = false
 
 -- one event more is listed or owed
 abbrev pub one_reserved : World → World
@@ -114,17 +107,14 @@ replied_by d result (Asking Full) w = Fails Tally w
 -- whether a reply is of the kind that an entity of this role gives: a factory says what it made, a function, method or property what it answers
 abbrev pub is_reply_to : Role → HostReply → Bool
 is_reply_to (MakingRole f) (Making made) = true
-is_reply_to (MakingRole f) (Asking answer) = false
-is_reply_to (CallingRole f) (Making made) = false
 is_reply_to (CallingRole f) (Asking answer) = true
-is_reply_to (PropertyRole f) (Making made) = false
 is_reply_to (PropertyRole f) (Asking answer) = true
+is_reply_to _ _ = false
 
 -- Whether the host's bounds allow that an entity of this role is asked: its event, and for a factory one object more, which will end once.
 abbrev pub may_ask : Role → World → Bool
 may_ask (MakingRole f) w = has_object w && has_events 2 w
-may_ask (CallingRole f) w = has_events 1 w
-may_ask (PropertyRole f) w = has_events 1 w
+may_ask _ w = has_events 1 w
 
 -- One host call: the event is listed, whatever the reply says. A reply of another kind is none to this host call, and is left as an input of another sort is.
 abbrev pub asked_from : Environment → ℕ → EntityNo → Option ℕ → List Value → HostValueType → List Input → World → Done

@@ -3,6 +3,7 @@ use Rattle.std.specs.Prelude.{ℕ, zero, suc, ◌-◌, ◌*◌, ◌/◌, ◌%◌
 use Rattle.std.specs.Int.{w8, w16, w32, w64, cast_signed, cast_unsigned, int_div_euclid, int_rem_euclid, int_wrap}
 use Rattle.ang_kinds.specs.declared.primitive.Primitive.{Primitive}
 use Rattle.ang_kinds.specs.declared.primitive.Primitive.TheVariants.{I8, I16, I32, I64, U8, U16, U32, U64, Bool as Truth}
+use Rattle.ang_kinds.specs.Primitives.{is_signed, width_of}
 use Rattle.ang_kinds.specs.declared.fault.Fault.{Fault}
 use Rattle.ang_kinds.specs.declared.fault.Fault.TheVariants.{DivideByZero, DivideOverflow}
 use Rattle.ang_kinds.specs.declared.operator.Operator.{Operator}
@@ -10,29 +11,6 @@ use Rattle.ang_kinds.specs.declared.operator.Operator.TheVariants.{Add, Subtract
 use Rattle.ang_kinds.specs.declared.operator.Comparison.{Comparison}
 use Rattle.ang_kinds.specs.declared.operator.Comparison.TheVariants.{Equal, NotEqual, Less, LessEqual, Greater, GreaterEqual}
 use Rattle.ang_meaning.specs.declared.operation.Update.{Update}
-
-abbrev pub is_signed : Primitive → Bool
-is_signed I8 = true
-is_signed I16 = true
-is_signed I32 = true
-is_signed I64 = true
-is_signed U8 = false
-is_signed U16 = false
-is_signed U32 = false
-is_signed U64 = false
-is_signed Truth = false
-
--- the number of bits of a type
-abbrev pub width_of : Primitive → ℕ
-width_of I8 = 8
-width_of I16 = 16
-width_of I32 = 32
-width_of I64 = 64
-width_of U8 = 8
-width_of U16 = 16
-width_of U32 = 32
-width_of U64 = 64
-width_of Truth = 1
 
 -- the one number of the type that differs from z by a multiple of 2 ^ width
 abbrev pub wrapped : Primitive → ℤ → ℤ
@@ -73,11 +51,7 @@ least I8 = negsuc (2 ^ 7 - 1)
 least I16 = negsuc (2 ^ 15 - 1)
 least I32 = negsuc (2 ^ 31 - 1)
 least I64 = negsuc (2 ^ 63 - 1)
-least U8 = pos 0
-least U16 = pos 0
-least U32 = pos 0
-least U64 = pos 0
-least Truth = pos 0
+least _ = pos 0
 
 -- the least number divided by -1 has no quotient in its type
 abbrev pub divided : Primitive → ℤ → ℤ → ℤ → Worked

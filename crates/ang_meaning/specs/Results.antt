@@ -1,16 +1,16 @@
 -- How the parts of a script end, and one combinator for each construct that says what follows from its parts' ends. Locals are a list, the innermost
 -- one first; t is the number of ticks that are left. A fault gives up what each construct holds, in the reverse order of taking
 -- (docs/CLAIMS.md, "What a body does").
-use Rattle.std.specs.Prelude.{ℕ, zero, suc, ◌+◌, ◌-◌, Bool, ltb, List, [], ◌∷◌, length, Option, Some, None, if◌then◌else◌}
+use Rattle.std.specs.Prelude.{ℕ, zero, suc, ◌+◌, ◌-◌, Bool, ltb, List, [], ◌∷◌, length, Option, Some, if◌then◌else◌}
 use Rattle.ang_kinds.specs.declared.fault.Fault.{Fault}
 use Rattle.ang_kinds.specs.declared.fault.Fault.TheVariants.{Null, Budget, Depth, Memory, Tally}
 use Rattle.ang_meaning.specs.declared.slot.Slot.{Slot}
-use Rattle.ang_meaning.specs.declared.slot.Slot.TheVariants.{Bits, Script, Host}
+use Rattle.ang_meaning.specs.declared.slot.Slot.TheVariants.{Bits}
 use Rattle.ang_meaning.specs.declared.operation.Update.{Update}
 use Rattle.ang_meaning.specs.declared.routine.Routine.{Routine}
 use Rattle.ang_meaning.specs.declared.routine.Callee.{Callee}
 use Rattle.ang_meaning.specs.declared.routine.Passing.{Passing}
-use Rattle.ang_meaning.specs.declared.routine.Passing.TheVariants.{In, Out, Object}
+use Rattle.ang_meaning.specs.declared.routine.Passing.TheVariants.{Out}
 use Rattle.ang_meaning.specs.declared.routine.Target.{Target}
 use Rattle.ang_meaning.specs.declared.routine.Spot.{Spot}
 use Rattle.ang_meaning.specs.declared.routine.Spot.TheVariants.{Local, Global, Field}
@@ -83,8 +83,7 @@ at_zero (suc n) a b = b
 -- by a truth value: the second at false, the third at true, and the first where it is none
 abbrev pub on_test : {A : Type 0} → Slot → A → A → A → A
 on_test (Bits n) bad off on = at_zero n off on
-on_test (Script k) bad off on = bad
-on_test (Host d k) bad off on = bad
+on_test _ bad off on = bad
 
 -- a tick, where one is left
 abbrev pub ticked : {A : Type 0} → ℕ → A → (ℕ → A) → A
@@ -130,10 +129,8 @@ then_rest vs (Failed f ls w) go = Broke f ls (give_all vs w)
 
 -- a value as it is brought to its target's type
 unfoldable pub brought : Option Primitive → Slot → Slot
-brought None v = v
 brought (Some p) (Bits n) = Bits (converted p n)
-brought (Some p) (Script k) = Script k
-brought (Some p) (Host d k) = Host d k
+brought _ v = v
 
 -- a variable and the value that moves into it change places
 pub record Traded : Type 0 where
@@ -190,10 +187,7 @@ with_value (Failed f ls w) go = Halted f ls w
 
 abbrev pub then_run : Ran → (List Slot → ℕ → World → Ran) → Ran
 then_run (Went ls t w) go = go ls t w
-then_run (Returned v ls t w) go = Returned v ls t w
-then_run (Halted f ls w) go = Halted f ls w
-then_run (Broken ls t w) go = Broken ls t w
-then_run (Continued ls t w) go = Continued ls t w
+then_run r go = r
 
 -- the end of a loop's body, which leaves n locals: a `continue` goes on with the step, and a `break` after the loop
 abbrev pub caught : ℕ → Ran → (List Slot → ℕ → World → Ran) → Ran
@@ -207,16 +201,14 @@ caught n (Halted f ls w) go = Halted f (drop_some (length ls - n) ls) (give_some
 abbrev pub outs_of : List Passing → List Slot → List Slot
 outs_of [] vs = []
 outs_of (p ∷ ps) [] = []
-outs_of (In ∷ ps) (v ∷ vs) = outs_of ps vs
-outs_of (Object ∷ ps) (v ∷ vs) = outs_of ps vs
 outs_of (Out ∷ ps) (v ∷ vs) = v ∷ outs_of ps vs
+outs_of (p ∷ ps) (v ∷ vs) = outs_of ps vs
 
 abbrev pub give_others : List Passing → List Slot → World → World
 give_others [] vs w = w
 give_others (p ∷ ps) [] w = w
-give_others (In ∷ ps) (v ∷ vs) w = give_others ps vs (give v w)
-give_others (Object ∷ ps) (v ∷ vs) w = give_others ps vs (give v w)
 give_others (Out ∷ ps) (v ∷ vs) w = give_others ps vs w
+give_others (p ∷ ps) (v ∷ vs) w = give_others ps vs (give v w)
 
 -- A body's end: it gives up its locals, the last one first, and then the parameters other than `&out`, the last one first.
 abbrev pub yielded : List Passing → Slot → List Slot → ℕ → World → Reply

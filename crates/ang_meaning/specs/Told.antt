@@ -5,7 +5,7 @@ use Rattle.ang_kinds.specs.declared.fault.Fault.TheVariants.{Memory, Tally}
 use Rattle.ang_host.specs.declared.answer.HostReply.{HostReply}
 use Rattle.ang_host.specs.declared.event.HostEvent.{HostEvent}
 use Rattle.ang_host.specs.declared.event.HostEvent.TheVariants.{Called, Ended}
-use Rattle.ang_meaning.specs.World.{World, Input, Room, Said, Tallied, Fresh}
+use Rattle.ang_meaning.specs.World.{World, Input, Room, Said, Tallied}
 
 -- The first, told these inputs and any more, gives what the second gives, told the rest. Where the second hands its inputs on untouched, these are
 -- exactly the inputs that the first asks for.
@@ -17,32 +17,24 @@ pub record Told {A : Type 0} (before after : List Input → A) : Type 0 where
 -- so these two are said of used inputs alone.)
 abbrev pub has_room : List Input → Bool
 has_room [] = true
-has_room (Room true ∷ inputs) = has_room inputs
 has_room (Room false ∷ inputs) = false
-has_room (Tallied true ∷ inputs) = has_room inputs
 has_room (Tallied false ∷ inputs) = false
-has_room (Said reply ∷ inputs) = has_room inputs
-has_room (Fresh n ∷ inputs) = has_room inputs
+has_room (i ∷ inputs) = has_room inputs
 
 -- it was refused at the last of them, and never before: the fault of that refusal
 abbrev pub stopped_by : List Input → Option Fault
 stopped_by [] = None
-stopped_by (Room true ∷ inputs) = stopped_by inputs
 stopped_by (Room false ∷ []) = Some Memory
 stopped_by (Room false ∷ i ∷ inputs) = None
-stopped_by (Tallied true ∷ inputs) = stopped_by inputs
 stopped_by (Tallied false ∷ []) = Some Tally
 stopped_by (Tallied false ∷ i ∷ inputs) = None
-stopped_by (Said reply ∷ inputs) = stopped_by inputs
-stopped_by (Fresh n ∷ inputs) = stopped_by inputs
+stopped_by (i ∷ inputs) = stopped_by inputs
 
 -- what drivers answered, as a run was told, and as its events list it
 abbrev pub answers_told : List Input → List HostReply
 answers_told [] = []
 answers_told (Said reply ∷ inputs) = reply ∷ answers_told inputs
-answers_told (Room b ∷ inputs) = answers_told inputs
-answers_told (Tallied b ∷ inputs) = answers_told inputs
-answers_told (Fresh n ∷ inputs) = answers_told inputs
+answers_told (i ∷ inputs) = answers_told inputs
 
 abbrev pub answers_listed : List HostEvent → List HostReply
 answers_listed [] = []

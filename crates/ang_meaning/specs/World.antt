@@ -1,6 +1,6 @@
 -- The world outside the locals of a run: objects with the counts of the places that hold them, globals, events, and what the run is told from
 -- outside (docs/CLAIMS.md, "The world of a run"; the AngelScript manual, "Memory management").
-use Rattle.std.specs.Prelude.{ℕ, zero, suc, ◌+◌, ◌-◌, ◌^◌, Bool, true, false, cond, nat_eq, nat_lt, nat_le, ltb, length, List, [], ◌∷◌, ◌++◌, Option, Some, None, if◌then◌else◌}
+use Rattle.std.specs.Prelude.{ℕ, suc, ◌+◌, ◌-◌, ◌^◌, Bool, true, false, cond, nat_eq, nat_lt, nat_le, ltb, length, List, [], ◌∷◌, ◌++◌, Option, Some, None, if◌then◌else◌}
 use Rattle.std.specs.Ordering.{nat_cmp}
 use Rattle.std.specs.FinMap as map
 use Rattle.ang_host.specs.declared.answer.HostReply.{HostReply}
@@ -8,7 +8,7 @@ use Rattle.ang_host.specs.declared.event.HostEvent.{HostEvent}
 use Rattle.ang_host.specs.declared.event.HostEvent.TheVariants.{Ended}
 use Rattle.ang_host.specs.State.{count_at}
 use Rattle.ang_meaning.specs.declared.slot.Slot.{Slot}
-use Rattle.ang_meaning.specs.declared.slot.Slot.TheVariants.{Bits, Script, Host}
+use Rattle.ang_meaning.specs.declared.slot.Slot.TheVariants.{Script, Host}
 
 -- a script object, which the table of objects has under its number: its class, that class's rank, the places that hold it, and its fields, those of the
 -- base class first, in order of declaration. The class is a number of the module that made the object; objects do not pass between modules.
@@ -107,11 +107,9 @@ unfoldable pub host_raised : ℕ → ℕ → HostCounts → HostCounts
 host_raised d k hs = host_put d (map.insert (hs d) k (suc (count_at (hs d) k))) hs
 
 unfoldable pub one_more : Slot → World → World
-one_more (Bits n) w = w
-one_more (Script None) w = w
 one_more (Script (Some n)) w = record w { objects = script_raised n w.objects }
-one_more (Host d None) w = w
 one_more (Host d (Some k)) w = record w { hosts = host_raised d k w.hosts }
+one_more v w = w
 
 -- Which limit a hold can meet: a script object's count stands at its end or inside it; of a host object the driver decides, whose
 -- tallies no world has.
@@ -137,11 +135,9 @@ tally_told e (Tallied false ∷ rest) w = refused_at e rest w
 tally_told e _ w = No w
 
 unfoldable pub tally_step : Slot → World → Tried
-tally_step (Bits n) w = Yes w
-tally_step (Script None) w = Yes w
 tally_step (Script (Some n)) w = tally_told (hold_limit_of (map.get w.objects n)) w.inputs w
-tally_step (Host d None) w = Yes w
 tally_step (Host d (Some k)) w = tally_told OfDriver w.inputs w
+tally_step v w = Yes w
 
 -- one more place holds the value, unless a tally is full
 unfoldable pub hold : Slot → World → Tried
@@ -153,9 +149,8 @@ pub data Lowered : Type 0 where
   Kept : ScriptObjects → Lowered
 
 abbrev pub one_less : ℕ → ScriptRecord → ℕ → ScriptObjects → Lowered
-one_less n o zero os = Gone o.fields (map.remove os n)
-one_less n o (suc zero) os = Gone o.fields (map.remove os n)
 one_less n o (suc (suc c)) os = Kept (map.insert os n (record o { count = suc c }))
+one_less n o _ os = Gone o.fields (map.remove os n)
 
 abbrev pub lowered_at : ℕ → Option ScriptRecord → ScriptObjects → Lowered
 lowered_at n None os = Kept os
@@ -171,9 +166,8 @@ pub record HostLowered : Type 0 where
 
 abbrev pub host_less : ℕ → ℕ → Option ℕ → HostCounts → HostLowered
 host_less d k None hs = record { ended = false; hosts = hs }
-host_less d k (Some zero) hs = record { ended = true; hosts = host_put d (map.remove (hs d) k) hs }
-host_less d k (Some (suc zero)) hs = record { ended = true; hosts = host_put d (map.remove (hs d) k) hs }
 host_less d k (Some (suc (suc c))) hs = record { ended = false; hosts = host_put d (map.insert (hs d) k (suc c)) hs }
+host_less d k (Some _) hs = record { ended = true; hosts = host_put d (map.remove (hs d) k) hs }
 
 unfoldable pub host_lowered : ℕ → ℕ → HostCounts → HostLowered
 host_lowered d k hs = host_less d k (map.get (hs d) k) hs
@@ -194,12 +188,10 @@ script_given go (Gone vs os) w = each_given go vs (record w { objects = os })
 
 -- One place fewer, where at most n script objects end one inside the other. Each leaves the world as it ends, so there are never more than the world has.
 unfoldable pub given : ℕ → Slot → World → World
-given n (Bits x) w = w
-given n (Script None) w = w
-given n (Host d None) w = w
 given n (Host d (Some k)) w = host_given d k (host_lowered d k w.hosts) w
-given zero (Script (Some k)) w = w
+given n (Script None) w = w
 given (suc n) (Script (Some k)) w = script_given (given n) (script_lowered k w.objects) w
+given n v w = w
 
 -- one place gives up its value
 unfoldable pub give : Slot → World → World

@@ -1,5 +1,5 @@
 -- What is refused of families by their numbers is what is refused of the declarations that declare them.
-use Rattle.std.specs.Prelude.{ℕ, suc, ◌≡◌, ◌<◌, ◌≤◌, ◌+◌, ◌*◌, Bool, List, [], ◌∷◌, ◌++◌, length, drop, Option, Some, None, option_to_list, slice_get, get_or}
+use Rattle.std.specs.Prelude.{ℕ, suc, ◌≡◌, ◌<◌, ◌≤◌, ◌+◌, ◌*◌, Bool, List, [], ◌∷◌, ◌++◌, length, drop, Option, Some, None, option_to_list, slice_get, get_or, option_and_then}
 use Rattle.std.specs.List.{cons_option, filter_map}
 use Rattle.std.proofs.Common.{arith, refl, sym, subst, ap, ◌∙◌, length-append}
 use Rattle.std.proofs.Math.Seq.{drop-cons}
@@ -28,7 +28,7 @@ use Rattle.ang_names_classes.specs.Tables.{AreTables}
 use Rattle.ang_names.specs.Phases as phase
 use Rattle.ang_names.specs.Heirs.{ancestor_refusal, at_name, cycle_refusal, heir_refusal}
 use Rattle.ang_names.specs.ByNumber.{heritage_refusals, refused_from, ring_refusal}
-use Rattle.ang_names.specs.Phases.{families, first_refusals, of_family, refusals, with_number}
+use Rattle.ang_names.specs.Phases.{families, first_refusals, of_family, refusals}
 use Rattle.ang_names.proofs.Few.{family_number}
 
 -- ---- lists of refusals, of which the first with some counts
@@ -59,12 +59,12 @@ module _ (p : ℕ → Family → Option Refused) (fs : List Family) where
   one_declared before d (part.Family s) n more later rest e one l h =
       let lt : n < length fs = omega (arith, one, l) in
       let split = one_split fs n lt in
-      let given : with_number p n (slice_get fs n) ≡ p n split.0 = ap (with_number p n) split.1 in
+      let given : option_and_then (p n) (slice_get fs n) ≡ p n split.0 = ap (option_and_then (p n)) split.1 in
       ap (refused_from p n) split.2
       ∙ ap (λ k. option_to_list (p n split.0) ++ refused_from p k (drop k fs)) (ap (λ k. n + k) (sym one))
       ∙ ap (λ r. option_to_list (p n split.0) ++ r) h
       ∙ ap (λ o. option_to_list o ++ rest) (sym given)
-      ∙ ap (λ k. option_to_list (with_number p k (slice_get fs k)) ++ rest) e
+      ∙ ap (λ k. option_to_list (option_and_then (p k) (slice_get fs k)) ++ rest) e
   one_declared before d (part.Function y ps) n more later rest e none l h = none_more n more none ∙ h
   one_declared before d (part.Import y ps) n more later rest e none l h = none_more n more none ∙ h
   one_declared before d (part.Global y) n more later rest e none l h = none_more n more none ∙ h

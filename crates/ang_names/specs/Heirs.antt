@@ -24,8 +24,7 @@ abbrev pub refused_at : ErrorKind → Place → List ℕ → Refused
 refused_at why place name = plain_refusal (record { kind = why; place = place; name = name })
 
 abbrev pub at_name : ErrorKind → Bool → Family → Option Refused
-at_name why false f = None
-at_name why true f = Some (refused_at why f.place f.name)
+at_name why holds f = if holds then Some (refused_at why f.place f.name) else None
 
 -- ---- one's own ancestor
 
@@ -37,8 +36,7 @@ ancestor_refusal ds c f = at_name kind.BadBase (stands_above ds c c) f
 
 abbrev pub is_public : Access → Bool
 is_public access.Public = true
-is_public access.Protected = false
-is_public access.Private = false
+is_public _ = false
 
 -- a public method of the same result type stands in the slot, if one does
 abbrev pub is_met_by : ScriptMethod → Option FoundMethod → Bool

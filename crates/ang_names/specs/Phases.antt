@@ -1,6 +1,6 @@
 -- The phases of a build over the declarations (docs/LANGUAGE.md, "Names of a build"; they are this profile's own): each is a
 -- property of the list of all declarations, and the first that refuses one decides.
-use Rattle.std.specs.Prelude.{◌≡◌, ◌≢◌, ℕ, length, List, [], ◌∷◌, map, Option, Some, None, slice_get}
+use Rattle.std.specs.Prelude.{◌≡◌, ◌≢◌, ℕ, length, List, [], ◌∷◌, map, Option, None, slice_get, option_and_then}
 use Rattle.ang_kinds.specs.declared.error.Error.{Error}
 use Rattle.ang_kinds.specs.declared.error.Unbuilt.{Unbuilt}
 use Rattle.ang_kinds.specs.declared.error.Unbuilt.TheVariants.{Errors, Memory}
@@ -33,16 +33,10 @@ pub data Phase : Type 0 where
 
 -- ---- of one family, by its number
 
-abbrev pub with_number : (ℕ → Family → Option Refused) → ℕ → Option Family → Option Refused
-with_number p c None = None
-with_number p c (Some f) = p c f
-
 -- what a phase says of a class or an interface; of any other declaration it says nothing
 abbrev pub of_family : (ℕ → Family → Option Refused) → List Family → List ListedDeclaration → Part → Option Refused
-of_family p fs before (part.Family s) = let c = length (families_of before) in with_number p c (slice_get fs c)
-of_family p fs before (part.Function y ps) = None
-of_family p fs before (part.Import y ps) = None
-of_family p fs before (part.Global y) = None
+of_family p fs before (part.Family s) = let c = length (families_of before) in option_and_then (p c) (slice_get fs c)
+of_family p fs before _ = None
 
 -- Among all declarations, over a view:
 module _ (V : RegistrationList) (all : List ListedDeclaration) where

@@ -12,7 +12,6 @@ use Rattle.ang_tree.specs.declared.declaration.Parameter.{Parameter}
 use Rattle.ang_tree.specs.declared.type_name.TypeName.{TypeName}
 use Rattle.ang_types.specs.declared.asks.Asks.TheVariants as asks
 use Rattle.ang_types.specs.declared.asks.Refused.{Refused}
-use Rattle.ang_names_listed.specs.declared.listed.Attributes.{Attributes}
 use Rattle.ang_names_listed.specs.declared.listed.ListedDeclaration.{ListedDeclaration}
 use Rattle.ang_names_listed.specs.declared.listed.ListedMember.{ListedMember}
 use Rattle.ang_names_listed.specs.declared.listed.MemberKind.{MemberKind}
@@ -32,8 +31,7 @@ use Rattle.ang_names_listed.specs.Types.{TypeOrError, type_in, is_unknown_type}
 use Rattle.ang_names_classes.specs.Headings.{parameter_role}
 
 abbrev pub refusal_if : Bool → ErrorKind → List ℕ → Token → Option Refused
-refusal_if true why text t = Some (plain_refusal (error_at why text t))
-refusal_if false why text t = None
+refusal_if holds why text t = if holds then Some (plain_refusal (error_at why text t)) else None
 
 -- ---- types
 
@@ -57,8 +55,7 @@ most_parameters = 32
 
 -- the role of the result of an import, or of any other function
 abbrev pub result_role : Bool → TypePosition
-result_role true = role.ImportResult
-result_role false = role.Result
+result_role imported = if imported then role.ImportResult else role.Result
 
 -- more parameters than a function can have, at its name
 abbrev pub parameter_limit : List ℕ → Token → List Parameter → Option Refused
@@ -85,18 +82,14 @@ module _ (E : Space) (text : List ℕ) where
 
 -- ---- members
 
--- both are `const`, or neither: `final` and `override` tell no methods apart
-abbrev pub same_const : Attributes → Attributes → Bool
-same_const a b = beq a.read_only b.read_only
-
 -- Of members of one family, in a section of these bytes:
 module _ (text : List ℕ) where
-  -- Under one name a field stands beside nothing, methods beside those of other parameters or `const`, and constructors beside those of
-  -- other parameters; a method named as the class is no constructor.
+  -- Under one name a field stands beside nothing, methods beside those of other parameters or `const` (`final` and `override` tell none
+  -- apart), and constructors beside those of other parameters; a method named as the class is no constructor.
   abbrev pub excludes_member : MemberKind → MemberKind → Bool
   excludes_member (member.Field y) other = true
   excludes_member (member.Method y ps a) (member.Field z) = true
-  excludes_member (member.Method y ps a) (member.Method z qs b) = same_spellings text ps text qs && same_const a b
+  excludes_member (member.Method y ps a) (member.Method z qs b) = same_spellings text ps text qs && beq a.read_only b.read_only
   excludes_member (member.Method y ps a) (member.Constructor qs) = false
   excludes_member (member.Constructor ps) (member.Field z) = true
   excludes_member (member.Constructor ps) (member.Method z qs b) = false

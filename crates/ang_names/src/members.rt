@@ -2,6 +2,7 @@
 ghost use Rattle.std.specs.Prelude.{◌≡◌, [], true, false, not, bytes_eq, IfOk};
 ghost use Rattle.std.specs.List.{list_any};
 ghost use Rattle.std.specs.Option.{option_or};
+ghost use Rattle.std.proofs.Math.Bool.{beq};
 ghost use Rattle.ang_lex.specs.Text.{text_of};
 ghost use Rattle.ang_names.specs.Before as earlier;
 ghost use Rattle.ang_names.specs.Refusals as spec;
@@ -25,7 +26,7 @@ use std::alloc::{AllocError, Global};
 const MOST_MEMBERS: usize = 256;
 
 fn same_const(one: Attributes, other: Attributes) -> bool
-    ensures exact { result ≡ spec.same_const one other }
+    ensures exact { result ≡ beq one.read_only other.read_only }
 {
     one.read_only == other.read_only
 }

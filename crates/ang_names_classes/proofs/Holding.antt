@@ -1,5 +1,6 @@
 -- What a class can hold, by what its fields are handles to and what stands above what.
 use Rattle.std.specs.Prelude.{ℕ, zero, suc, ◌+◌, ◌≡◌, ◌==◌, ◌<◌, ◌≤◌, ◌⊎◌, Bool, true, false, ◌&&◌, ◌||◌, nat_lt, List, [], ◌∷◌, ◌++◌, length, Option, Some, None, slice_get}
+use Rattle.std.specs.Option.{option_map_or}
 use Rattle.std.specs.List.{cons_option, filter_map, flat_map, list_any}
 use Rattle.std.proofs.Common.{arith, refl, sym, subst, ap, inl, inr, ◌∙◌}
 use Rattle.std.proofs.lemmas.List.Folds.{list_any-append}
@@ -12,7 +13,7 @@ use Rattle.ang_names_known.specs.declared.names.Written.{Written}
 use Rattle.ang_names_known.specs.Spaces.{Space}
 use Rattle.ang_names_listed.specs.declared.listed.ListedMember.{ListedMember}
 use Rattle.ang_names_listed.specs.Declarations.{Declaring}
-use Rattle.ang_names_classes.specs.Hierarchy.{field_type, field_types_at, field_types_in, held_by, holds, is_base, is_parent, is_under_or}
+use Rattle.ang_names_classes.specs.Hierarchy.{field_type, field_types_at, field_types, held_by, holds, is_base, is_parent, is_under_or}
 use Rattle.ang_names_classes.specs.Tables.{carries, held_in, held_of, holds_itself}
 use Rattle.ang_names_classes.proofs.Marked.{any_agree}
 
@@ -120,7 +121,7 @@ module _ (ds : List Declaring) (j : ℕ) (there : j < length ds) where
     of_members d (m ∷ ms) = of_field (field_type E d m.kind) _ _ (of_members d ms)
 
     of_family : (o : Option Declaring)
-        → list_any (λ m. some_below (λ x. (m == x) && under x) n) (held_of E o) ≡ list_any (λ (w : Written). is_under_or ds j (held_by w.ty)) (field_types_in E o)
+        → list_any (λ m. some_below (λ x. (m == x) && under x) n) (held_of E o) ≡ list_any (λ (w : Written). is_under_or ds j (held_by w.ty)) (option_map_or (field_types E) o [])
     of_family None = refl
     of_family (Some d) = of_members d d.shape.members
 
@@ -129,9 +130,9 @@ module _ (ds : List Declaring) (j : ℕ) (there : j < length ds) where
         ≡ list_any (λ (w : Written). is_under_or ds j (held_by w.ty)) (field_types_at E ds ns)
     of_families ns =
         some_of (holds_itself E ds) under n ns
-        ∙ any_agree (λ k. some_below (λ d. holds_itself E ds k d && under d) n) (λ k. list_any (λ (w : Written). is_under_or ds j (held_by w.ty)) (field_types_in E (slice_get ds k))) ns
+        ∙ any_agree (λ k. some_below (λ d. holds_itself E ds k d && under d) n) (λ k. list_any (λ (w : Written). is_under_or ds j (held_by w.ty)) (option_map_or (field_types E) (slice_get ds k) [])) ns
         (λ k. some_of (λ m d. m == d) under n (held_of E (slice_get ds k)) ∙ of_family (slice_get ds k))
-        ∙ sym (any_flat (λ (w : Written). is_under_or ds j (held_by w.ty)) (λ k. field_types_in E (slice_get ds k)) ns)
+        ∙ sym (any_flat (λ (w : Written). is_under_or ds j (held_by w.ty)) (λ k. option_map_or (field_types E) (slice_get ds k) []) ns)
 
 both_below : (a b c : Bool) → a ≡ true → b ≡ true → (a && b && c) ≡ c
 both_below true true c e f = refl

@@ -1,6 +1,6 @@
 -- Headings as they are written, with what their types mean, and methods by them (docs/LANGUAGE.md, "Names of a build"; the AngelScript
 -- manual, "Functions" and "Inheritance").
-use Rattle.std.specs.Prelude.{ℕ, Bool, true, false, ◌&&◌, if◌then◌else◌, List, map, length, unwrap_or, Option, Some, None, bytes_eq}
+use Rattle.std.specs.Prelude.{ℕ, Bool, false, ◌&&◌, if◌then◌else◌, List, map, length, unwrap_or, Option, Some, None, bytes_eq}
 use Rattle.std.specs.List.{filter_map, flat_map, position}
 use Rattle.std.proofs.Math.Bool.{beq}
 use Rattle.ang_lex.specs.declared.token.Token.{Token}
@@ -19,17 +19,12 @@ use Rattle.ang_names_listed.specs.declared.listed.MemberKind.TheVariants as memb
 use Rattle.ang_names_listed.specs.Declarations.{Declaring}
 use Rattle.ang_names_listed.specs.declared.role.TypePosition.{TypePosition}
 use Rattle.ang_names_listed.specs.declared.role.TypePosition.TheVariants as role
-use Rattle.ang_lex.specs.Text.{text_of}
-use Rattle.ang_names_listed.specs.Sources.{name_of}
-use Rattle.ang_names_listed.specs.Types.{written_in, pass_of, own_role, imported_role}
+use Rattle.ang_lex.specs.Text.{text_of, name_of}
+use Rattle.ang_names_listed.specs.Types.{written_in, pass_of}
 
 -- the role of a parameter of an import, or of any other function
 abbrev pub parameter_role : Bool → Parameter → TypePosition
-parameter_role imported p = if imported then imported_role p else own_role p
-
--- a constructor gives nothing
-abbrev pub no_result : Written
-no_result = record { ty = type.Void; constant = false; const_handle = false }
+parameter_role imported p = if imported then role.ImportParameter (pass_of p.reference) else role.Parameter (pass_of p.reference)
 
 abbrev pub function_with : Origin → List ℕ → Token → Written → List ScriptParameter → ScriptFunction
 function_with o text x result ps = record { name = text_of text x; place = x.place; result = result; params = ps; origin = o }
@@ -51,17 +46,16 @@ module _ (E : Space) where
   abbrev pub heading_of : Origin → List ℕ → Token → TypeName → List Parameter → ScriptFunction
   heading_of o text x y ps = function_as o text x (written_in E role.Result text y) false ps
 
-  -- a constructor
+  -- a constructor, which gives nothing
   abbrev pub maker_of : Origin → List ℕ → Token → List Parameter → ScriptFunction
-  maker_of o text x ps = function_as o text x no_result false ps
+  maker_of o text x ps = function_as o text x (record { ty = type.Void; constant = false; const_handle = false }) false ps
 
   -- ---- methods
 
   -- a method's heading, and whether it is `const`
   abbrev pub signature_by : Declaring → ListedMember → MemberKind → Option (ScriptFunction × Bool)
-  signature_by d m (member.Field y) = None
   signature_by d m (member.Method y ps a) = Some (heading_of d.origin d.text m.name y ps, a.read_only)
-  signature_by d m (member.Constructor ps) = None
+  signature_by d m _ = None
 
   -- those of one family
   abbrev pub signatures_in : Declaring → List (ScriptFunction × Bool)

@@ -1,7 +1,8 @@
 -- What stands above a class or an interface, and what its fields reach, by the numbers of classes and interfaces (docs/LANGUAGE.md,
 -- "Names of a build"; the AngelScript manual, "Script classes", "Inheritance" and "Memory management").
-use Rattle.std.specs.Prelude.{ℕ, ◌==◌, nat_lt, Bool, true, false, ◌&&◌, ◌||◌, List, [], length, Option, Some, None, bytes_eq, slice_get}
+use Rattle.std.specs.Prelude.{ℕ, ◌==◌, nat_lt, Bool, false, ◌&&◌, ◌||◌, List, [], length, Option, Some, None, bytes_eq, slice_get}
 use Rattle.std.specs.List.{list_any, filter_map, flat_map, position}
+use Rattle.std.specs.Option.{option_map_or}
 use Rattle.ang_types.specs.declared.arg_type.ArgType.{ArgType}
 use Rattle.ang_types.specs.declared.arg_type.ArgType.TheVariants as type
 use Rattle.ang_names_graph.specs.Graphs.{above, leads, order_of}
@@ -32,12 +33,8 @@ names_place ds j (Some d) = list_any (λ b. is_place j (place_of ds (text_of d.t
 abbrev pub is_parent : List Declaring → ℕ → ℕ → Bool
 is_parent ds i j = names_place ds j (slice_get ds i)
 
-abbrev pub is_class_in : Option Declaring → Bool
-is_class_in None = false
-is_class_in (Some d) = d.shape.is_class
-
 abbrev pub is_class_at : List Declaring → ℕ → Bool
-is_class_at ds j = is_class_in (slice_get ds j)
+is_class_at ds j = option_map_or (λ (d : Declaring). d.shape.is_class) (slice_get ds j) false
 
 -- family d stands above family c
 abbrev pub stands_above : List Declaring → ℕ → ℕ → Bool
@@ -53,28 +50,19 @@ is_base ds i j = is_parent ds i j && is_class_at ds j
 module _ (E : Space) where
   abbrev pub field_type : Declaring → MemberKind → Option Written
   field_type d (member.Field y) = Some (written_in E role.Field d.text y)
-  field_type d (member.Method y ps a) = None
-  field_type d (member.Constructor ps) = None
+  field_type d _ = None
 
   -- the types of a family's own fields
   abbrev pub field_types : Declaring → List Written
   field_types d = filter_map (λ (m : ListedMember). field_type d m.kind) d.shape.members
 
-abbrev pub field_types_in : Space → Option Declaring → List Written
-field_types_in E None = []
-field_types_in E (Some d) = field_types E d
-
 -- the types of all fields of the families of these numbers
 abbrev pub field_types_at : Space → List Declaring → List ℕ → List Written
-field_types_at E ds ns = flat_map (λ n. field_types_in E (slice_get ds n)) ns
+field_types_at E ds ns = flat_map (λ n. option_map_or (field_types E) (slice_get ds n) []) ns
 
 abbrev pub held_by : ArgType → Option ℕ
-held_by type.Void = None
-held_by type.Null = None
-held_by (type.Plain p) = None
-held_by (type.Enumeration n) = None
-held_by (type.Object n c) = None
 held_by (type.Handle n c) = family_of_type n
+held_by _ = None
 
 -- family j is family d, or stands under it
 abbrev pub is_under_or : List Declaring → ℕ → Option ℕ → Bool
@@ -88,9 +76,6 @@ holds E ds i j =
     nat_lt i (length ds) && nat_lt j (length ds)
     && list_any (λ (w : Written). is_under_or ds j (held_by w.ty)) (field_types_at E ds (order_of (is_base ds) (length ds) i))
 
--- objects of family c can lead to one of family d through their fields
-abbrev pub reaches : Space → List Declaring → ℕ → ℕ → Bool
-reaches E ds c d = leads (holds E ds) (length ds) c d
-
+-- objects of class c can lead to one of c through their fields
 abbrev pub is_cyclic : Space → List Declaring → ℕ → Bool
-is_cyclic E ds c = reaches E ds c c
+is_cyclic E ds c = leads (holds E ds) (length ds) c c

@@ -1,7 +1,7 @@
 -- The names of declarations, with what their types mean (docs/LANGUAGE.md, "Names of a build"; the AngelScript manual, "Functions",
 -- "Global variables", "Script classes" and "Inheritance"). All of it is said of any declarations, refused ones too: these are
 -- families like the others, a name means the first of its name, and a type that is refused stands as `void`.
-use Rattle.std.specs.Prelude.{ℕ, ◌+◌, Bool, true, false, List, [], ◌∷◌, map, length, drop, filter, find, Option, Some, None}
+use Rattle.std.specs.Prelude.{ℕ, ◌+◌, Bool, true, false, List, [], ◌∷◌, map, length, drop, filter, find, Option, Some, None, if◌then◌else◌}
 use Rattle.std.specs.List.{filter_map, flat_map, range_with_len}
 use Rattle.ang_view.specs.Registration.{RegistrationList}
 use Rattle.ang_tree.specs.declared.declaration.Parameter.{Parameter}
@@ -33,13 +33,9 @@ use Rattle.ang_names_classes.specs.Hierarchy.{field_type, field_types_at, holds,
 
 -- ---- the space of a build
 
--- a view, and these families
-abbrev pub space_over : RegistrationList → List Declaring → Space
-space_over V families = record { view = V; families = map family_name families }
-
 -- the view, and the families of all declarations, whether before or after
 abbrev pub space_of_declared : RegistrationList → List ListedDeclaration → Space
-space_of_declared V all = space_over V (families_of all)
+space_of_declared V all = record { view = V; families = map family_name (families_of all) }
 
 -- ---- functions, imports and globals
 
@@ -57,22 +53,16 @@ module _ (E : Space) where
   }
 
   abbrev pub function_by : ListedDeclaration → Part → Option ScriptFunction
-  function_by d (part.Family s) = None
   function_by d (part.Function y ps) = Some (heading_of E d.origin d.text d.name y ps)
-  function_by d (part.Import y ps) = None
-  function_by d (part.Global y) = None
+  function_by d _ = None
 
   abbrev pub import_by : ListedDeclaration → Part → Option ScriptFunction
-  import_by d (part.Family s) = None
-  import_by d (part.Function y ps) = None
   import_by d (part.Import y ps) = Some (import_of d y ps)
-  import_by d (part.Global y) = None
+  import_by d _ = None
 
   abbrev pub global_by : ListedDeclaration → Part → Option ScriptGlobal
-  global_by d (part.Family s) = None
-  global_by d (part.Function y ps) = None
-  global_by d (part.Import y ps) = None
   global_by d (part.Global y) = Some (global_with d y)
+  global_by d _ = None
 
   -- the function that a declaration declares, if it declares one
   unfoldable pub function_of : ListedDeclaration → Option ScriptFunction
@@ -113,10 +103,6 @@ with_bodies is_class ms = filter (λ (m : ListedMember). has_body is_class m.kin
 abbrev pub body_members : Declaring → List ListedMember
 body_members d = with_bodies d.shape.is_class d.shape.members
 
-abbrev pub body_number : Bool → ℕ → Option ℕ
-body_number true n = Some n
-body_number false n = None
-
 -- a method with this heading, where all methods are these
 abbrev pub method_with : List (ScriptFunction × Bool) → Declaring → ListedMember → ℕ → ScriptFunction → Attributes → ScriptMethod
 method_with all d m body f a = record {
@@ -126,15 +112,14 @@ method_with all d m body f a = record {
   is_final = a.is_final;
   is_override = a.is_override;
   slot = slot_of all (f, a.read_only);
-  body = body_number d.shape.is_class body;
+  body = if d.shape.is_class then Some body else None;
 }
 
 -- In the space of a build, whose methods are these:
 module _ (E : Space) (all : List (ScriptFunction × Bool)) where
   abbrev pub methods_by : Declaring → ListedMember → ℕ → MemberKind → List ScriptMethod
-  methods_by d m body (member.Field y) = []
   methods_by d m body (member.Method y ps a) = method_with all d m body (heading_of E d.origin d.text m.name y ps) a ∷ []
-  methods_by d m body (member.Constructor ps) = []
+  methods_by d m body _ = []
 
   -- A body's number is how many stand before it: `first` before the family, and those of the members before it.
   abbrev pub methods_after : Declaring → ℕ → List ListedMember → ListedMember → List ScriptMethod
@@ -143,9 +128,8 @@ module _ (E : Space) (all : List (ScriptFunction × Bool)) where
 -- In the space of a build:
 module _ (E : Space) where
   abbrev pub constructors_by : Declaring → ListedMember → ℕ → MemberKind → List ScriptConstructor
-  constructors_by d m body (member.Field y) = []
-  constructors_by d m body (member.Method y ps a) = []
   constructors_by d m body (member.Constructor ps) = record { function = maker_of E d.origin d.text m.name ps; body = body } ∷ []
+  constructors_by d m body _ = []
 
   -- Constructors are numbered as methods are, among the same bodies.
   abbrev pub constructors_after : Declaring → ℕ → List ListedMember → ListedMember → List ScriptConstructor

@@ -1,5 +1,6 @@
 //! The classes and interfaces of a build, with what stands above each.
 ghost use Rattle.std.specs.Prelude.{◌≡◌, ◌≤◌, ◌<◌, [], length, slice_get, IfOk};
+ghost use Rattle.std.specs.Option.{option_map_or};
 ghost use Rattle.ang_names_graph.specs.Graphs as graphs;
 ghost use Rattle.ang_names_graph.specs.Graphs.{leads};
 ghost use Rattle.ang_names_graph.specs.Tables.{Shows};
@@ -101,6 +102,15 @@ fn order_in(
     }
 }
 
+/// The same places, with room for no more: each family of a chain keeps a list of all those above it.
+fn without_room(places: Vec<usize>) -> List<usize>
+    ensures same { result ≡ places.items }
+{
+    let mut places = places;
+    places.shrink_to_fit();
+    List::from_vec(places)
+}
+
 /// To how many it leads through what its fields can hold, by the table of what each one reaches.
 fn rank_of(
     space: &Space<'_>,
@@ -121,7 +131,8 @@ fn rank_of(
 /// How many fields the class or interface of this number declares itself.
 fn field_count_at(families: &[Declaring<'_, '_>], number: usize) -> usize
     ensures exact { (E : spaces.Space) →
-        result ≡ length (hierarchy.field_types_in E (slice_get families.now number)) }
+        result
+        ≡ length (option_map_or (hierarchy.field_types E) (slice_get families.now number) []) }
 {
     match families.get(number) {
         None => 0,
@@ -209,8 +220,8 @@ fn family_with(
         place: family.name().place,
         is_class,
         base: base_of(families, &known.bases, number),
-        above: List::from_vec(above),
-        order: List::from_vec(order),
+        above: without_room(above),
+        order: without_room(order),
         rank: rank_of(space, families, &known.reach, number),
         fields,
         methods,

@@ -54,7 +54,7 @@ pub fn parameters_of(
     ensures exact { IfOk result
         (λ ps. ps ≡ list_map (spec.parameter_of space.now text.now imported) params.now) }
 {
-    let mut found = Vec::new(alloc);
+    let mut found = Vec::with_capacity(alloc, params.len())?;
     for param in params {
         let one = parameter_of(alloc, space, text, imported, param)?;
         found.push(one)?;

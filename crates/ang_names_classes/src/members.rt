@@ -1,5 +1,5 @@
 //! Fields, methods and constructors, each with its number.
-ghost use Rattle.std.specs.Prelude.{◌≡◌, ◌+◌, ◌++◌, [], length, if◌then◌else◌, IfOk, OnOk};
+ghost use Rattle.std.specs.Prelude.{◌≡◌, ◌+◌, ◌++◌, [], length, if◌then◌else◌, IfOk, OnOk, Some, None};
 ghost use Rattle.ang_names_known.specs.Items.{each_after};
 ghost use Rattle.ang_names_classes.specs.Hierarchy as hierarchy;
 ghost use Rattle.ang_names_classes.specs.Resolved as spec;
@@ -113,7 +113,7 @@ pub fn add_bodies(family: &Declaring<'_, '_>, bodies: &mut Vec<u8>) -> Result<()
 }
 
 fn body_number(is_class: bool, body: usize) -> Option<usize>
-    ensures exact { result ≡ spec.body_number is_class body }
+    ensures exact { result ≡ (if is_class then Some body else None) }
 {
     if is_class { Some(body) } else { None }
 }

@@ -14,7 +14,8 @@ use crate::{Tables, function_with, heading_of, parameters_of, tables_of};
 use ang_kinds::List;
 use ang_names_known::{Family, NameLists, Names, ScriptFunction, ScriptGlobal, Space};
 use ang_names_listed::{
-    ListedDeclaration, Part, TypePosition, copy_at, declares_function, families_of, written_in,
+    Declaring, ListedDeclaration, Part, TypePosition, copy_at, declares_function, families_of,
+    written_in,
 };
 use ang_tree::{Parameter, TypeName};
 use ang_view::View;
@@ -193,10 +194,28 @@ fn function_count(all: &[ListedDeclaration<'_>]) -> usize
     all.iter().filter(|d| declares_function(&d.part)).count()
 }
 
+/// The classes and interfaces of the declarations, by their tables.
+#[tactic(auto, unfolding(crate::specs::Resolved::families_in))]
+fn families_by(
+    alloc: Global,
+    space: &Space<'_>,
+    all: &[ListedDeclaration<'_>],
+    declaring: &[Declaring<'_, '_>],
+    known: &Tables,
+) -> Result<List<Family>, AllocError>
+    requires few { length (listed.families_of all.now) ≤ 256 }
+    requires declaring { declaring.now ≡ listed.families_of all.now }
+    requires known { tables.AreTables space.now (listed.families_of all.now) known.now }
+    ensures exact { IfOk result (λ families. families ≡ spec.families_in space.now all.now) }
+{
+    let mut bodies = Vec::new(alloc);
+    add_bytes(function_count(all), &mut bodies)?;
+    families_in(alloc, space, declaring, known, &mut bodies)
+}
+
 /// The classes and interfaces of the declarations, with what stands above each; and the tables of that.
 ///
 /// The only error is want of memory.
-#[tactic(auto, unfolding(crate::specs::Resolved::families_in))]
 pub fn families_among(
     alloc: Global,
     space: &Space<'_>,
@@ -209,10 +228,60 @@ pub fn families_among(
 {
     let declaring = families_of(alloc, all)?;
     let tables = tables_of(alloc, space, declaring.as_slice())?;
-    let mut bodies = Vec::new(alloc);
-    add_bytes(function_count(all), &mut bodies)?;
-    let families = families_in(alloc, space, declaring.as_slice(), &tables, &mut bodies)?;
-    Ok((families, tables))
+    match families_by(alloc, space, all, declaring.as_slice(), &tables) {
+        Ok(families) => Ok((families, tables)),
+        Err(error) => {
+            drop(tables);
+            Err(error)
+        }
+    }
+}
+
+/// The same without the tables.
+///
+/// The only error is want of memory.
+fn families_alone(
+    alloc: Global,
+    space: &Space<'_>,
+    all: &[ListedDeclaration<'_>],
+) -> Result<List<Family>, AllocError>
+    requires few { length (listed.families_of all.now) ≤ 256 }
+    ensures exact { IfOk result (λ families. families ≡ spec.families_in space.now all.now) }
+{
+    let (families, tables) = families_among(alloc, space, all)?;
+    drop(tables);
+    Ok(families)
+}
+
+/// The lists of all names.
+///
+/// The only error is want of memory.
+fn lists_of(
+    alloc: Global,
+    space: &Space<'_>,
+    all: &[ListedDeclaration<'_>],
+) -> Result<NameLists, AllocError>
+    requires few { length (listed.families_of all.now) ≤ 256 }
+    ensures declared { IfOk result (λ n. n.declared ≡ list_map declared_name all.now) }
+    ensures families { IfOk result (λ n. n.families ≡ spec.families_in space.now all.now) }
+    ensures functions { IfOk result (λ n. n.functions ≡ spec.functions_in space.now all.now) }
+    ensures imports { IfOk result
+        (λ n. n.imports ≡ filter_map (spec.imported_of space.now) all.now) }
+    ensures globals { IfOk result
+        (λ n. n.globals ≡ filter_map (spec.global_of space.now) all.now) }
+{
+    let declared = declared_names(alloc, all)?;
+    let families = families_alone(alloc, space, all)?;
+    let functions = functions_in(alloc, space, all)?;
+    let imports = imports_in(alloc, space, all)?;
+    let globals = globals_in(alloc, space, all)?;
+    Ok(NameLists {
+        declared,
+        families,
+        functions,
+        imports,
+        globals,
+    })
 }
 
 /// All names of the declarations, each kind in order.
@@ -228,19 +297,6 @@ pub fn names_of<'a>(
     ensures exact { IfOk result (λ names. names ≡ spec.names_of view.now all.now) }
 {
     let space = space_of(alloc, view, all)?;
-    let declared = declared_names(alloc, all)?;
-    let (families, _tables) = families_among(alloc, &space, all)?;
-    let functions = functions_in(alloc, &space, all)?;
-    let imports = imports_in(alloc, &space, all)?;
-    let globals = globals_in(alloc, &space, all)?;
-    Names::new(
-        alloc,
-        NameLists {
-            declared,
-            families,
-            functions,
-            imports,
-            globals,
-        },
-    )
+    let lists = lists_of(alloc, &space, all)?;
+    Names::new(alloc, lists)
 }

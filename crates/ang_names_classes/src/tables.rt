@@ -236,6 +236,22 @@ fn above_of(
     closed(alloc, parents, families.len())
 }
 
+/// The table of all bases, and that of base classes.
+fn tables_of_bases(
+    alloc: Global,
+    families: &[Declaring<'_, '_>],
+) -> Result<(Vec<bool>, Vec<bool>), AllocError>
+    ensures parents { IfOk result (λ t.
+        Shows t.0.items (length families.now) (spec.is_parent families.now)) }
+    ensures bases { IfOk result (λ t.
+        Shows t.1.items (length families.now) (spec.is_base families.now)) }
+{
+    let placed = Placed::new(alloc, families)?;
+    let parents = parents_of(alloc, &placed)?;
+    let bases = bases_of(alloc, &placed)?;
+    Ok((parents, bases))
+}
+
 /// The tables of these classes and interfaces.
 ///
 /// The only error is want of memory.
@@ -247,9 +263,7 @@ pub fn tables_of(
     requires few { length families.now ≤ 256 }
     ensures exact { IfOk result (λ t. tables.AreTables space.now families.now t) }
 {
-    let placed = Placed::new(alloc, families)?;
-    let parents = parents_of(alloc, &placed)?;
-    let bases = bases_of(alloc, &placed)?;
+    let (parents, bases) = tables_of_bases(alloc, families)?;
     let above = above_of(alloc, families, &parents)?;
     let reach = reach_of(alloc, space, families, &bases, &above)?;
     let signatures = signatures_of(alloc, space, families)?;

@@ -2,7 +2,7 @@
 -- "Inheritance and polymorphism"). Numbers are places in `Names`.
 use Rattle.std.specs.Prelude.{ℕ, ◌+◌, ◌==◌, Bool, true, false, not, ◌&&◌, ◌||◌, if◌then◌else◌, List, [], ◌∷◌, map, filter, find, Option, Some, None, bytes_eq, is_some, option_map, option_and_then, slice_get}
 use Rattle.std.specs.List.{list_any, position, flat_map}
-use Rattle.std.specs.Option.{option_or}
+use Rattle.std.specs.Option.{option_or, option_map_or}
 use Rattle.std.specs.Cmp.Lexicographic.{pointwise}
 use Rattle.std.proofs.Math.Bool.{beq}
 use Rattle.ang_kinds.specs.declared.types.Pass.{Pass}
@@ -28,11 +28,7 @@ use Rattle.ang_names_known.specs.Items.{is_empty, each_after}
 
 abbrev pub is_read_only_by : ArgType → Bool → Bool → Bool
 is_read_only_by (type.Handle n c) constant const_handle = const_handle
-is_read_only_by type.Void constant const_handle = constant
-is_read_only_by type.Null constant const_handle = constant
-is_read_only_by (type.Plain p) constant const_handle = constant
-is_read_only_by (type.Enumeration n) constant const_handle = constant
-is_read_only_by (type.Object n c) constant const_handle = constant
+is_read_only_by _ constant const_handle = constant
 
 -- a variable of this written type can't be assigned: `const int`, `const T`, `T@ const`
 abbrev pub is_read_only : Written → Bool
@@ -111,21 +107,13 @@ abbrev pub families_at : List Family → List ℕ → List Numbered
 families_at fs [] = []
 families_at fs (n ∷ ns) = with_family n (slice_get fs n) (families_at fs ns)
 
-abbrev pub kin_in : List Family → Option Family → List Numbered
-kin_in fs None = []
-kin_in fs (Some f) = families_at fs f.order
-
 -- a family and those that it has members of, the nearest first
 unfoldable pub kin_of : List Family → ℕ → List Numbered
-kin_of fs c = kin_in fs (slice_get fs c)
-
-abbrev pub above_in : Option Family → List ℕ
-above_in None = []
-above_in (Some f) = f.above
+kin_of fs c = option_map_or (λ (f : Family). families_at fs f.order) (slice_get fs c) []
 
 -- family d is family c, or stands above it
 abbrev pub is_under : List Family → ℕ → ℕ → Bool
-is_under fs c d = c == d || list_any (λ k. k == d) (above_in (slice_get fs c))
+is_under fs c d = c == d || list_any (λ k. k == d) (option_map_or (λ (f : Family). f.above) (slice_get fs c) [])
 
 abbrev pub field_of : ℕ → Field → FoundField
 field_of owner x = record { owner = owner; number = x.number; written = x.written; access = x.access }
@@ -195,15 +183,10 @@ takes_nothing k = is_empty k.function.params
 abbrev pub default_among : List ScriptConstructor → Option ℕ
 default_among ks = option_map (λ (k : ScriptConstructor). k.body) (find takes_nothing ks)
 
--- what a class with constructors is made by
-abbrev pub own_default : Option ℕ → Default
-own_default None = default.Missing
-own_default (Some body) = default.Written body
-
--- what one without constructors is made by: it runs that of its base class, if one is written
-abbrev pub written_default : Option ℕ → Default
-written_default None = default.Unwritten
-written_default (Some body) = default.Written body
+-- the body that is written, or else how an object is made without one
+abbrev pub written_or : Default → Option ℕ → Default
+written_or other None = other
+written_or other (Some body) = default.Written body
 
 abbrev pub has_constructors : Numbered → Bool
 has_constructors f = not (is_empty f.1.constructors)
@@ -216,19 +199,18 @@ abbrev pub constructors_in : Option Family → List ScriptConstructor
 constructors_in None = []
 constructors_in (Some f) = f.constructors
 
--- How an object of a class is made without arguments. A class without a constructor has a default one: where its base class has none
--- without parameters it is refused at its own name, and nowhere else.
+-- How an object of a class is made without arguments. A class without a constructor has a default one, which runs that of its base class:
+-- where that has none without parameters it is refused at its own name, and nowhere else.
 unfoldable pub default_of : List Family → ℕ → Default
 default_of fs c =
     let own = constructors_in (slice_get fs c) in
-    if is_empty own then written_default (nearest_default (kin_of fs c)) else own_default (default_among own)
+    if is_empty own then written_or default.Unwritten (nearest_default (kin_of fs c)) else written_or default.Missing (default_among own)
 
 -- ---- who may use a member
 
 -- the body in which a use stands is that of a method or a constructor of the class c
 abbrev pub may_use : List Family → Option ℕ → ℕ → Access → Bool
 may_use fs within owner access.Public = true
-may_use fs None owner access.Protected = false
+may_use fs None owner _ = false
 may_use fs (Some c) owner access.Protected = is_under fs c owner
-may_use fs None owner access.Private = false
 may_use fs (Some c) owner access.Private = c == owner

@@ -12,8 +12,16 @@ use crate::numbering::method_count;
 use ang_index::Index;
 use std::alloc::{AllocError, Global};
 
-/// How many methods of a name are very many.
-const MANY: usize = 256;
+/// How many methods of a name are many: families have lists of them as long as there is room.
+const MANY: usize = 64;
+/// How many are very many: each family has a list of them.
+const VERY_MANY: usize = 256;
+/// As many places as a list takes the memory of beside its own.
+const PLACES_BESIDE: usize = 54;
+/// For so many places there is room in the lists of many, and for so many more for each method of a build.
+const ROOM: usize = 327_680;
+
+const ROOM_FOR_EACH: usize = 48;
 
 /// For names that very many methods have, the methods that each family has.
 #[derive(Drop)]
@@ -23,20 +31,21 @@ pub(crate) struct CrowdedMethods {
     numbers: Index<usize>,
 }
 
-/// The names that very many of the methods have. Where fewer methods are in all, none is looked at.
+/// The names that so many of the methods have. Where fewer methods are in all, none is looked at.
 ///
 /// The only error is want of memory.
 fn crowded_names<'a>(
     alloc: Global,
     families: &'a [Family],
+    many: usize,
 ) -> Result<Vec<BorrowedText<'a>>, AllocError> {
     let mut names = Vec::new(alloc);
-    if method_count(families) < MANY {
+    if method_count(families) < many {
         return Ok(names);
     }
     let mut counted = Index::new(alloc);
     for family in families {
-        push_crowded(alloc, family, &mut counted, &mut names)?;
+        push_crowded(alloc, family, many, &mut counted, &mut names)?;
     }
     Ok(names)
 }
@@ -45,6 +54,7 @@ fn crowded_names<'a>(
 fn push_crowded<'a>(
     alloc: Global,
     family: &'a Family,
+    many: usize,
     counted: &mut Index<usize>,
     names: &mut Vec<BorrowedText<'a>>,
 ) -> Result<(), AllocError> {
@@ -52,14 +62,14 @@ fn push_crowded<'a>(
     for method in methods {
         let name = method.function.name.as_slice();
         counted.push(alloc, 0, name, 0)?;
-        if counted.find(0, name).len() == MANY {
+        if counted.find(0, name).len() == many {
             names.push(BorrowedText::new(name))?;
         }
     }
     Ok(())
 }
 
-/// Puts the methods of a name in that a family has.
+/// Puts the methods of a name in that a family has. The list has no room for more.
 fn put(
     alloc: Global,
     crowded: &mut CrowdedMethods,
@@ -72,10 +82,41 @@ fn put(
     requires right { spec.AreRight families.now crowded.old }
     ensures right { OnOk result (spec.AreRight families.now crowded.new) }
 {
-    let list = methods_in(alloc, families, index, family, name)?;
+    let found = methods_in(alloc, families, index, family, name)?;
+    let list = Vec::from_slice(alloc, found.as_slice())?;
     let number = crowded.lists.len();
     crowded.lists.push(list)?;
     crowded.numbers.push(alloc, family as u64, name, number)
+}
+
+/// How many places the last list takes the memory of.
+fn last_size(crowded: &CrowdedMethods) -> usize {
+    match crowded.lists.last() {
+        None => 0,
+        Some(list) => list.len().saturating_add(PLACES_BESIDE),
+    }
+}
+
+/// The same while there is room for places. What is not listed is looked for at each call.
+fn put_where_room(
+    alloc: Global,
+    crowded: &mut CrowdedMethods,
+    families: &[Family],
+    index: &Index<usize>,
+    family: usize,
+    name: &[u8],
+    room: &mut usize,
+) -> Result<(), AllocError>
+    requires indexed { IndexesMethods families.now index.now }
+    requires right { spec.AreRight families.now crowded.old }
+    ensures right { OnOk result (spec.AreRight families.now crowded.new) }
+{
+    if *room == 0 {
+        return Ok(());
+    }
+    put(alloc, crowded, families, index, family, name)?;
+    *room = room.saturating_sub(last_size(crowded));
+    Ok(())
 }
 
 /// Puts the methods of a name in that each family has.
@@ -85,18 +126,65 @@ fn put_name(
     families: &[Family],
     index: &Index<usize>,
     name: &[u8],
+    room: &mut usize,
 ) -> Result<(), AllocError>
     requires indexed { IndexesMethods families.now index.now }
     requires right { spec.AreRight families.now crowded.old }
     ensures right { OnOk result (spec.AreRight families.now crowded.new) }
 {
     for family in 0..families.len() {
-        put(alloc, crowded, families, index, family, name)?;
+        put_where_room(alloc, crowded, families, index, family, name, room)?;
     }
     Ok(())
 }
 
-/// The methods of names that very many have.
+/// Puts the methods of a name in that each family has, where those of the first are not there yet.
+fn put_new_name(
+    alloc: Global,
+    crowded: &mut CrowdedMethods,
+    families: &[Family],
+    index: &Index<usize>,
+    name: &[u8],
+    room: &mut usize,
+) -> Result<(), AllocError>
+    requires indexed { IndexesMethods families.now index.now }
+    requires right { spec.AreRight families.now crowded.old }
+    ensures right { OnOk result (spec.AreRight families.now crowded.new) }
+{
+    if listed(crowded, 0, name).is_some() {
+        return Ok(());
+    }
+    put_name(alloc, crowded, families, index, name, room)
+}
+
+/// Puts the methods of names in that so many have.
+fn put_names(
+    alloc: Global,
+    crowded: &mut CrowdedMethods,
+    families: &[Family],
+    index: &Index<usize>,
+    many: usize,
+    room: &mut usize,
+) -> Result<(), AllocError>
+    requires indexed { IndexesMethods families.now index.now }
+    requires right { spec.AreRight families.now crowded.old }
+    ensures right { OnOk result (spec.AreRight families.now crowded.new) }
+{
+    let names = crowded_names(alloc, families, many)?;
+    for name in names.as_slice() {
+        put_new_name(alloc, crowded, families, index, name.bytes(), room)?;
+    }
+    Ok(())
+}
+
+/// For how many places there is room in the lists of many.
+fn room_for(families: &[Family]) -> usize {
+    method_count(families)
+        .saturating_mul(ROOM_FOR_EACH)
+        .saturating_add(ROOM)
+}
+
+/// The methods of names that very many have, and of those that many have as long as there is room.
 ///
 /// The only error is want of memory.
 pub(crate) fn crowded_methods(
@@ -111,10 +199,11 @@ pub(crate) fn crowded_methods(
         lists: Vec::new(alloc),
         numbers: Index::new(alloc),
     };
-    let names = crowded_names(alloc, families)?;
-    for name in names.as_slice() {
-        put_name(alloc, &mut crowded, families, index, name.bytes())?;
-    }
+    let mut all = usize::MAX;
+    put_names(alloc, &mut crowded, families, index, VERY_MANY, &mut all)?;
+    let used = usize::MAX.saturating_sub(all);
+    let mut room = room_for(families).saturating_sub(used);
+    put_names(alloc, &mut crowded, families, index, MANY, &mut room)?;
     Ok(crowded)
 }
 

@@ -2,18 +2,16 @@
 ghost use Rattle.std.specs.Prelude.{◌≡◌, IfOk};
 ghost use Rattle.ang_names_known.specs.Lookup as spec;
 
-use crate::crowded::{CrowdedMethods, crowded_methods, listed};
+use crate::beside::{Beside, MemberPlaces};
+use crate::crowded::{CrowdedMethods, listed};
 use crate::found::{FoundMethods, MethodPlaces};
 use crate::known::KnownFunctions;
 use crate::lookup::heading_among;
 use crate::members::{field_in, has_method_in};
 use crate::methods::methods_in;
 use crate::names::{Family, FoundField, Names, ScriptFunction, ScriptGlobal};
-use crate::numbering::{ParameterKinds, parameter_kinds};
-use crate::places::{
-    DECLARED, FAMILIES, FUNCTIONS, GLOBALS, IMPORTS, first_of, places_by_kind, places_of_fields,
-    places_of_methods,
-};
+use crate::numbering::ParameterKinds;
+use crate::places::{DECLARED, FAMILIES, FUNCTIONS, GLOBALS, IMPORTS, first_of};
 use ang_index::Index;
 use std::alloc::{AllocError, Global};
 use std::marker::Model;
@@ -46,6 +44,7 @@ impl Model for IndexedNames {
 impl IndexedNames {
     ghost use Rattle.std.specs.Prelude.{◌≡◌, ◌<◌, IfOk, IfSome, bytes_eq, length, map};
     ghost use Rattle.std.specs.List.{position};
+    ghost use Rattle.ang_names_known.specs.Indexes.{Indexes};
     ghost use Rattle.ang_names_known.specs.Known.{places_in};
     ghost use Rattle.ang_names_known.specs.MethodPlaces.{AreFound, found_in};
     ghost use Rattle.ang_names_known.specs.NameIndex.{places_of};
@@ -56,19 +55,39 @@ impl IndexedNames {
     pub fn new(alloc: Global, lists: Names) -> Result<IndexedNames, AllocError>
         ensures same { IfOk result (λ names. names ≡ lists) }
     {
-        let kinds = places_by_kind(alloc, &lists)?;
-        let fields = places_of_fields(alloc, lists.families.as_slice())?;
-        let methods = places_of_methods(alloc, lists.families.as_slice())?;
-        let crowded = crowded_methods(alloc, lists.families.as_slice(), &methods)?;
-        let numbering = parameter_kinds(alloc, &lists)?;
-        Ok(IndexedNames {
+        match Beside::new(alloc, &lists) {
+            Ok(beside) => Ok(IndexedNames::of(lists, beside)),
+            Err(error) => {
+                drop(lists);
+                Err(error)
+            }
+        }
+    }
+
+    /// These names, with what stands beside them.
+    fn of(lists: Names, beside: Beside) -> IndexedNames
+        requires right { Indexes lists beside.kinds beside.members.fields beside.members.methods
+            beside.members.crowded beside.numbering }
+        ensures same { result ≡ lists }
+    {
+        let Beside {
+            kinds,
+            members,
+            numbering,
+        } = beside;
+        let MemberPlaces {
+            fields,
+            methods,
+            crowded,
+        } = members;
+        IndexedNames {
             lists,
             kinds,
             fields,
             methods,
             crowded,
             numbering,
-        })
+        }
     }
 
     /// The classes and interfaces.

@@ -5,6 +5,7 @@
 //! build"). Those in what a module sees of the host stand in `ang_check_contest`.
 #![tactic(auto)]
 
+mod beside;
 mod borrowed;
 mod crowded;
 mod family_types;

@@ -41,7 +41,7 @@ fn types_of(alloc: Global, families: &[usize]) -> Result<Vec<u32>, AllocError>
     requires within { All (λ k. k < 256) families.now }
     ensures exact { IfOk result (λ types. types.items ≡ map spaces.family_type families.now) }
 {
-    let mut types = Vec::new(alloc);
+    let mut types = Vec::with_capacity(alloc, families.len())?;
     for family in families {
         types.push(family_type(*family))?;
     }

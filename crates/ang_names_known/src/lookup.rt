@@ -1,5 +1,7 @@
 //! What the scripts declare, by name, as far as it takes no memory.
-ghost use Rattle.std.specs.Prelude.{◌≡◌, slice_get};
+ghost use Rattle.std.specs.Prelude.{◌≡◌, [], slice_get};
+ghost use Rattle.std.specs.Option.{option_map_or};
+ghost use Rattle.ang_names_known.specs.declared.names.Default.TheVariants as default;
 ghost use Rattle.ang_names_known.specs.Headings as headings;
 ghost use Rattle.ang_names_known.specs.Lookup as spec;
 
@@ -119,7 +121,8 @@ pub(crate) fn heading_among(
 
 /// The families above a family, by number.
 fn above_of(families: &[Family], family: usize) -> &[usize]
-    ensures exact { result.now ≡ spec.above_in (slice_get families.now family) }
+    ensures exact { result.now
+        ≡ option_map_or (λ f. f.above) (slice_get families.now family) [] }
 {
     match families.get(family) {
         None => &[],
@@ -208,7 +211,7 @@ fn nearest_default(families: &[Family], family: usize) -> Option<usize>
 }
 
 fn own_default(body: Option<usize>) -> Default
-    ensures exact { result ≡ spec.own_default body }
+    ensures exact { result ≡ spec.written_or default.Missing body }
 {
     match body {
         None => Default::Missing,
@@ -217,7 +220,7 @@ fn own_default(body: Option<usize>) -> Default
 }
 
 fn written_default(body: Option<usize>) -> Default
-    ensures exact { result ≡ spec.written_default body }
+    ensures exact { result ≡ spec.written_or default.Unwritten body }
 {
     match body {
         None => Default::Unwritten,

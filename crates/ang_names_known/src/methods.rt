@@ -46,11 +46,12 @@ impl<'a> FoundMethod<'a> {
     }
 }
 
-/// Where a method stands: the number of the family that declares it, and its place among the methods of that.
+/// Where a method stands: the number of the family that declares it, and its place among the methods of that. There are
+/// lists of very many, and a section has room for far fewer methods than 16 bits number.
 #[derive(Clone, Copy)]
 pub(crate) struct MethodPlace {
-    pub(crate) owner: u32,
-    pub(crate) place: u32,
+    pub(crate) owner: u16,
+    pub(crate) place: u16,
 }
 
 /// The method at a place.
@@ -159,10 +160,10 @@ fn place_of(owner: usize, place: usize) -> Result<MethodPlace, AllocError>
     ensures owner { IfOk result (λ at. at.owner ≡ owner) }
     ensures place { IfOk result (λ at. at.place ≡ place) }
 {
-    let Ok(owner) = u32::try_from(owner) else {
+    let Ok(owner) = u16::try_from(owner) else {
         return Err(AllocError);
     };
-    let Ok(place) = u32::try_from(place) else {
+    let Ok(place) = u16::try_from(place) else {
         return Err(AllocError);
     };
     Ok(MethodPlace { owner, place })

@@ -121,9 +121,7 @@ pub record Declaring : Type 0 where
 
 abbrev pub declaring_by : ListedDeclaration → Part → Option Declaring
 declaring_by d (part.Family s) = Some (record { origin = d.origin; text = d.text; name = d.name; shape = s })
-declaring_by d (part.Function y ps) = None
-declaring_by d (part.Import y ps) = None
-declaring_by d (part.Global y) = None
+declaring_by d _ = None
 
 abbrev pub declaring_of : ListedDeclaration → Option Declaring
 declaring_of d = declaring_by d d.part

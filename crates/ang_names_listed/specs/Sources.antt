@@ -1,5 +1,5 @@
 -- Sections as they were read, and the errors at their tokens (docs/LANGUAGE.md, "Tokens": places; errors are this profile's own).
-use Rattle.std.specs.Prelude.{ℕ, List, [], Option, Some, None}
+use Rattle.std.specs.Prelude.{ℕ, List, []}
 use Rattle.ang_kinds.specs.declared.error.Error.{Error}
 use Rattle.ang_kinds.specs.declared.error.ErrorKind.{ErrorKind}
 use Rattle.ang_kinds.specs.declared.place.Place.{Place}
@@ -17,11 +17,6 @@ pub record Source : Type 0 where
 -- what contracts see of a script's tree
 abbrev pub source_of : Script → Source
 source_of s = record { text = s.source.items; declarations = view_script s }
-
--- a token's text where the token is written, or else nothing
-abbrev pub name_of : List ℕ → Option Token → List ℕ
-name_of text None = []
-name_of text (Some t) = text_of text t
 
 -- an error at a token, with its text
 abbrev pub error_at : ErrorKind → List ℕ → Token → Error

@@ -1,7 +1,7 @@
 -- How parameters are spelled, for functions that overload one name (docs/LANGUAGE.md, "Names of a build"; the AngelScript manual,
 -- "Function overloading"; what is the same is this profile's own): two parameters are the same
 -- where their types are spelled the same (`int32` is `int`, `T@+` is `T@`), both are `const` or neither, and they are passed alike.
-use Rattle.std.specs.Prelude.{ℕ, Bool, true, false, ◌+◌, ◌==◌, ◌&&◌, is_some, List, [], ◌∷◌, ◌++◌, Option, Some, None, bytes_eq}
+use Rattle.std.specs.Prelude.{ℕ, Bool, true, false, ◌+◌, ◌==◌, ◌&&◌, is_some, List, [], ◌∷◌, ◌++◌, Option, Some, None, bytes_eq, if◌then◌else◌}
 use Rattle.std.specs.List.{flat_map}
 use Rattle.std.specs.Cmp.Lexicographic.{pointwise}
 use Rattle.std.proofs.Math.Bool.{beq}
@@ -32,8 +32,7 @@ base_by text y k.Void = base.Void
 base_by text y _ = base.Named (text_of text y.name)
 
 abbrev pub sign_by : Bool → Sign
-sign_by true = sign.ConstHandle
-sign_by false = sign.Handle
+sign_by constant = if constant then sign.ConstHandle else sign.Handle
 
 abbrev pub sign_of : Option Handle → Sign
 sign_of None = sign.Absent
@@ -58,20 +57,15 @@ host_base (ref.Object name s o h) = base.Named name
 
 abbrev pub shape_sign : Shape → Bool → Sign
 shape_sign shape.ByValue h = sign.Absent
-shape_sign shape.Handle h = sign_by h
-shape_sign shape.AutoHandle h = sign_by h
+shape_sign _ h = sign_by h
 
 abbrev pub host_sign : TypeRef → Sign
-host_sign ref.Void = sign.Absent
-host_sign (ref.Plain p) = sign.Absent
-host_sign (ref.Enumeration name) = sign.Absent
 host_sign (ref.Object name s o h) = shape_sign s h
+host_sign _ = sign.Absent
 
 abbrev pub is_host_const : TypeRef → Bool
-is_host_const ref.Void = false
-is_host_const (ref.Plain p) = false
-is_host_const (ref.Enumeration name) = false
 is_host_const (ref.Object name s o h) = o
+is_host_const _ = false
 
 -- how a host function's parameter is spelled
 unfoldable pub host_spelling_of : Param → Spelling
@@ -81,14 +75,9 @@ host_spelling_of p = record { base = host_base p.ty; sign = host_sign p.ty; is_c
 
 abbrev pub same_base : Base → Base → Bool
 same_base base.Void base.Void = true
-same_base base.Void (base.Primitive q) = false
-same_base base.Void (base.Named m) = false
-same_base (base.Primitive p) base.Void = false
 same_base (base.Primitive p) (base.Primitive q) = primitive_number p == primitive_number q
-same_base (base.Primitive p) (base.Named m) = false
-same_base (base.Named n) base.Void = false
-same_base (base.Named n) (base.Primitive q) = false
 same_base (base.Named n) (base.Named m) = bytes_eq n m
+same_base _ _ = false
 
 abbrev pub sign_number : Sign → ℕ
 sign_number sign.Absent = 0

@@ -82,27 +82,19 @@ most_globals = 4096
 
 abbrev pub declares_family : Part → Bool
 declares_family (part.Family s) = true
-declares_family (part.Function y ps) = false
-declares_family (part.Import y ps) = false
-declares_family (part.Global y) = false
+declares_family _ = false
 
 abbrev pub declares_function : Part → Bool
-declares_function (part.Family s) = false
 declares_function (part.Function y ps) = true
-declares_function (part.Import y ps) = false
-declares_function (part.Global y) = false
+declares_function _ = false
 
 abbrev pub declares_import : Part → Bool
-declares_import (part.Family s) = false
-declares_import (part.Function y ps) = false
 declares_import (part.Import y ps) = true
-declares_import (part.Global y) = false
+declares_import _ = false
 
 abbrev pub declares_global : Part → Bool
-declares_global (part.Family s) = false
-declares_global (part.Function y ps) = false
-declares_global (part.Import y ps) = false
 declares_global (part.Global y) = true
+declares_global _ = false
 
 -- as many of its kind stand before it as a module can have, so it is the first above
 abbrev pub is_first_above : List ListedDeclaration → Part → Bool

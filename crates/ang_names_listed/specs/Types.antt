@@ -1,6 +1,7 @@
 -- What written types mean, and where they can stand (docs/LANGUAGE.md, "Names of a build"; the AngelScript manual, "Data types", "Object
 -- handles" and "Parameter references"; what can stand where is this profile's own). Object types and enumerations go by number.
 use Rattle.std.specs.Prelude.{ℕ, Bool, true, false, if◌then◌else◌, is_some, List, Option, Some, None, Result, Ok, Err}
+use Rattle.std.specs.Option.{option_map_or}
 use Rattle.ang_kinds.specs.declared.error.ErrorKind.{ErrorKind}
 use Rattle.ang_kinds.specs.declared.error.ErrorKind.TheVariants.{UnknownType, BadType, ByValue, BadImport}
 use Rattle.ang_kinds.specs.declared.types.Pass.{Pass}
@@ -50,38 +51,22 @@ written_type E text y _ = object_type (type_of_name E (text_of text y.name)) (is
 -- any type but `void`
 abbrev pub no_void : ArgType → TypeOrError
 no_void type.Void = Err BadType
-no_void type.Null = Ok type.Null
-no_void (type.Plain p) = Ok (type.Plain p)
-no_void (type.Enumeration n) = Ok (type.Enumeration n)
-no_void (type.Object n c) = Ok (type.Object n c)
-no_void (type.Handle n c) = Ok (type.Handle n c)
+no_void t = Ok t
 
 -- no object by value
 abbrev pub no_object : ArgType → TypeOrError
-no_object type.Void = Ok type.Void
-no_object type.Null = Ok type.Null
-no_object (type.Plain p) = Ok (type.Plain p)
-no_object (type.Enumeration n) = Ok (type.Enumeration n)
 no_object (type.Object n c) = Err ByValue
-no_object (type.Handle n c) = Ok (type.Handle n c)
+no_object t = Ok t
 
 -- what `&in` takes: no object but a `const` one
 abbrev pub taken_in : ArgType → TypeOrError
-taken_in type.Void = Ok type.Void
-taken_in type.Null = Ok type.Null
-taken_in (type.Plain p) = Ok (type.Plain p)
-taken_in (type.Enumeration n) = Ok (type.Enumeration n)
 taken_in (type.Object n c) = if c then Ok (type.Object n c) else Err ByValue
-taken_in (type.Handle n c) = Ok (type.Handle n c)
+taken_in t = Ok t
 
 -- what `&inout` takes: objects alone
 abbrev pub changed : ArgType → TypeOrError
-changed type.Void = Err BadType
-changed type.Null = Err BadType
-changed (type.Plain p) = Err BadType
-changed (type.Enumeration n) = Err BadType
 changed (type.Object n c) = Ok (type.Object n c)
-changed (type.Handle n c) = Err BadType
+changed _ = Err BadType
 
 abbrev pub passed : Pass → ArgType → TypeOrError
 passed pass.Value t = no_object t
@@ -92,26 +77,20 @@ passed pass.RefInOut t = changed t
 -- what passes between modules: a handle to a host type, and a primitive or an enumeration by value
 abbrev pub crossing : Bool → ArgType → TypeOrError
 crossing by_value type.Void = Ok type.Void
-crossing by_value type.Null = Err BadImport
 crossing by_value (type.Plain p) = if by_value then Ok (type.Plain p) else Err BadImport
 crossing by_value (type.Enumeration n) = if by_value then Ok (type.Enumeration n) else Err BadImport
-crossing by_value (type.Object n c) = Err BadImport
 crossing by_value (type.Handle n c) = if is_family_type n then Err BadImport else Ok (type.Handle n c)
+crossing by_value _ = Err BadImport
 
 abbrev pub is_by_value : Pass → Bool
 is_by_value pass.Value = true
-is_by_value pass.RefIn = false
-is_by_value pass.RefOut = false
-is_by_value pass.RefInOut = false
+is_by_value _ = false
 
 -- a cast gives a handle, whether `@` is written or not
 abbrev pub cast_to : ArgType → TypeOrError
-cast_to type.Void = Err BadType
-cast_to type.Null = Err BadType
-cast_to (type.Plain p) = Err BadType
-cast_to (type.Enumeration n) = Err BadType
 cast_to (type.Object n c) = Ok (type.Handle n c)
 cast_to (type.Handle n c) = Ok (type.Handle n c)
+cast_to _ = Err BadType
 
 infixl 10 ◌and_then◌
 abbrev pub ◌and_then◌ : TypeOrError → (ArgType → TypeOrError) → TypeOrError
@@ -145,20 +124,10 @@ pass_by k.In = pass.RefIn
 pass_by k.Out = pass.RefOut
 pass_by _ = pass.RefInOut
 
-abbrev pub pass_in : Option Token → Pass
-pass_in None = pass.RefInOut
-pass_in (Some t) = pass_by t.kind
-
 -- how an argument is passed; `&` alone is `&inout`
 abbrev pub pass_of : Option Reference → Pass
 pass_of None = pass.Value
-pass_of (Some r) = pass_in r.direction
-
-abbrev pub own_role : Parameter → TypePosition
-own_role p = role.Parameter (pass_of p.reference)
-
-abbrev pub imported_role : Parameter → TypePosition
-imported_role p = role.ImportParameter (pass_of p.reference)
+pass_of (Some r) = option_map_or (λ (t : Token). pass_by t.kind) r.direction pass.RefInOut
 
 -- ---- a type with its `const`
 

@@ -1,6 +1,6 @@
 //! Copies of tokens' texts, and errors at tokens.
 ghost use Rattle.std.specs.Prelude.{◌≡◌, IfOk};
-ghost use Rattle.ang_lex.specs.Text.{text_of};
+ghost use Rattle.ang_lex.specs.Text.{name_of, text_of};
 ghost use Rattle.ang_names_listed.specs.Sources as spec;
 
 use ang_kinds::{Error, ErrorKind, List, Place};
@@ -11,7 +11,7 @@ use std::alloc::{AllocError, Global};
 ///
 /// The only error is want of memory.
 pub fn name_at(alloc: Global, text: &[u8], token: &Option<Token>) -> Result<List<u8>, AllocError>
-    ensures exact { IfOk result (λ name. name ≡ spec.name_of text.now token.now) }
+    ensures exact { IfOk result (λ name. name ≡ name_of text.now token.now) }
 {
     match token {
         None => Ok(List::from_vec(Vec::new(alloc))),

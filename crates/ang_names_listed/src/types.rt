@@ -1,5 +1,7 @@
 //! What written types mean, and where they can stand.
 ghost use Rattle.std.specs.Prelude.{◌≡◌};
+ghost use Rattle.std.specs.Option.{option_map_or};
+ghost use Rattle.ang_kinds.specs.declared.types.Pass.TheVariants as passing;
 ghost use Rattle.ang_names_listed.specs.Types as spec;
 
 use crate::role::TypePosition;
@@ -195,7 +197,8 @@ pub fn type_in(
 }
 
 fn pass_in(direction: &Option<Token>) -> Pass
-    ensures exact { result ≡ spec.pass_in direction.now }
+    ensures exact { result
+        ≡ option_map_or (λ word. spec.pass_by word.kind) direction.now passing.RefInOut }
 {
     match direction {
         None => Pass::RefInOut,

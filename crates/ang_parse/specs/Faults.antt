@@ -1,5 +1,6 @@
 -- Where a section's tokens cannot be read. (docs/LANGUAGE.md, "Grammar": `TooDeep` and `Syntax`.)
-use Rattle.std.specs.Prelude.{◌≡◌, ℕ, ◌+◌, ◌-◌, ◌^◌, ◌<◌, ◌≤◌, List, [], ◌∷◌, length, Option, Some, None, Ok, slice_get}
+use Rattle.std.specs.Prelude.{◌≡◌, ℕ, ◌+◌, ◌-◌, ◌^◌, ◌<◌, ◌≤◌, List, [], ◌∷◌, length, Ok, slice_get}
+use Rattle.std.specs.Option.{option_map_or}
 use Rattle.ang_kinds.specs.declared.place.Place.{Place}
 use Rattle.ang_lex.specs.declared.token.Token.{Token}
 use Rattle.ang_lex.specs.Text.{text_of}
@@ -18,13 +19,9 @@ HasColumns t = (t.span.start ≤ t.span.end) × (t.place.column + (t.span.end - 
 abbrev pub place_behind : Token → Place
 place_behind t = record t.place { column = t.place.column + (t.span.end - t.span.start) }
 
-abbrev pub behind_or_start : Option Token → Place
-behind_or_start None = start_of 0
-behind_or_start (Some t) = place_behind t
-
 -- One column past the last of the tokens. (Where there is none nothing is refused, since no tokens are a script.)
 abbrev pub place_past : List Token → Place
-place_past tokens = behind_or_start (slice_get tokens (length tokens - 1))
+place_past tokens = option_map_or place_behind (slice_get tokens (length tokens - 1)) (start_of 0)
 
 -- Where the rest of the tokens begins: at its first token, or past the last one of all.
 abbrev pub place_at : List Token → List Token → Place

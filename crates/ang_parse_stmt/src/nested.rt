@@ -53,7 +53,7 @@ fn guard<'a>(
 
 /// Reads `"while" "(" assign ")" ";"`, the end of a `do`. The word `do` is read already, and the ending
 /// keeps it.
-#[tactic(auto, unfolding(crate::specs::ReadStmt::ending, crate::specs::ReadStmt::condition))]
+#[tactic(auto, unfolding(crate::specs::ReadStmt::ending))]
 #[inline(never)]
 fn ending<'a>(
     alloc: Global,
@@ -66,10 +66,14 @@ fn ending<'a>(
     ensures same { IfOk result (λ x. x.0.value.word ≡ word.now) }
 {
     let (while_word, rest) = a_while(tokens)?;
-    let (open, rest) = a_left_paren(rest)?;
-    let (condition, rest) = expression(alloc, rest, limit, 0)?;
-    let (close, rest) = a_right_paren(rest)?;
+    let (guarded, rest) = guard(alloc, &while_word, rest, limit)?;
     let (semicolon, rest) = a_semicolon(rest)?;
+    let Guard {
+        word: _,
+        open,
+        condition,
+        close,
+    } = Box::into_inner(guarded);
     let found = Box::new(
         alloc,
         Ending {

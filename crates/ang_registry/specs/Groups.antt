@@ -1,6 +1,6 @@
 -- When a group can't be begun, ended or removed, and what each call leaves (docs/HOST.md, "Groups"; the AngelScript manual, "Dynamic
 -- configurations").
-use Rattle.std.specs.Prelude.{ℕ, Bool, true, false, not, nat_le, List, [], ◌∷◌, ◌++◌, length, Option, Some, None, if◌then◌else◌}
+use Rattle.std.specs.Prelude.{ℕ, true, false, not, nat_le, List, [], ◌∷◌, ◌++◌, length, Option, Some, None, if◌then◌else◌}
 use Rattle.std.specs.List.{list_any, remove}
 use Rattle.ang_lex.specs.Spelling.{is_identifier}
 use Rattle.ang_view.specs.declared.group.Group.{Group}
@@ -9,16 +9,12 @@ use Rattle.ang_view.specs.Only.{only}
 use Rattle.ang_registry.specs.declared.error.GroupError.{GroupError}
 use Rattle.ang_registry.specs.declared.error.GroupError.TheVariants.{GroupOpen, BadName, Duplicate, Limit, NoGroup, InUse}
 use Rattle.ang_registry.specs.Registrations.{Registrations, grouped}
-
--- the error of the first row that applies
-abbrev pub first_group_row : List (Bool × GroupError) → Option GroupError
-first_group_row [] = None
-first_group_row (x ∷ rest) = if x.0 then Some x.1 else first_group_row rest
+use Rattle.ang_registry.specs.Refusals.{first_row}
 
 -- ---- to begin one
 
 unfoldable pub refusal_of_begin : Registrations → List ℕ → Option GroupError
-refusal_of_begin r name = first_group_row (
+refusal_of_begin r name = first_row (
     (r.is_open, GroupOpen) ∷
     (not (is_identifier name), BadName) ∷
     (list_any (is_called name) r.groups, Duplicate) ∷

@@ -6,7 +6,7 @@ use Rattle.std.specs.Str.{bytes_eq}
 use Rattle.std.proofs.Math.Bool.{beq}
 use Rattle.ang_kinds.specs.declared.mask.EntityNo.{EntityNo}
 use Rattle.ang_kinds.specs.declared.types.Shape.{Shape}
-use Rattle.ang_kinds.specs.declared.types.Shape.TheVariants.{ByValue, Handle, AutoHandle}
+use Rattle.ang_kinds.specs.declared.types.Shape.TheVariants.{ByValue}
 use Rattle.ang_kinds.specs.declared.types.Param.{Param}
 use Rattle.ang_kinds.specs.declared.types.Signature.{Signature}
 use Rattle.ang_kinds.specs.declared.types.TypeRef.{TypeRef}
@@ -21,27 +21,15 @@ use Rattle.ang_view.specs.Registration.{RegistrationList}
 -- a handle, which an auto handle is too
 abbrev pub is_handle : Shape → Bool
 is_handle ByValue = false
-is_handle Handle = true
-is_handle AutoHandle = true
+is_handle _ = true
 
 -- Whether two types are spelled the same, where `T@+` is as `T@`.
 abbrev pub same_type : TypeRef → TypeRef → Bool
 same_type ref.Void ref.Void = true
-same_type ref.Void (ref.Plain q) = false
-same_type ref.Void (ref.Enumeration n) = false
-same_type ref.Void (ref.Object n s o h) = false
-same_type (ref.Plain p) ref.Void = false
 same_type (ref.Plain p) (ref.Plain q) = primitive_number p == primitive_number q
-same_type (ref.Plain p) (ref.Enumeration n) = false
-same_type (ref.Plain p) (ref.Object n s o h) = false
-same_type (ref.Enumeration m) ref.Void = false
-same_type (ref.Enumeration m) (ref.Plain q) = false
 same_type (ref.Enumeration m) (ref.Enumeration n) = bytes_eq m n
-same_type (ref.Enumeration m) (ref.Object n s o h) = false
-same_type (ref.Object m r i g) ref.Void = false
-same_type (ref.Object m r i g) (ref.Plain q) = false
-same_type (ref.Object m r i g) (ref.Enumeration n) = false
 same_type (ref.Object m r i g) (ref.Object n s o h) = bytes_eq m n && beq (is_handle r) (is_handle s) && beq i o && beq g h
+same_type _ _ = false
 
 -- names of parameters don't count
 abbrev pub same_parameter : Param → Param → Bool
@@ -55,24 +43,17 @@ same_parameters = pointwise same_parameter
 
 -- a type's methods and properties share its names
 abbrev pub is_member_name : EntryKind → Bool
-is_member_name HostType = false
-is_member_name Factory = false
 is_member_name Method = true
 is_member_name Property = true
-is_member_name Function = false
-is_member_name Global = false
-is_member_name Enumeration = false
-is_member_name (EnumValue v) = false
+is_member_name _ = false
 
 abbrev pub same_name : Signature → Signature → Bool
 same_name x y = bytes_eq x.name y.name
 
 -- both belong to one type, or to one enumeration
 abbrev pub same_owner : Option EntityNo → Option EntityNo → Bool
-same_owner None None = false
-same_owner None (Some b) = false
-same_owner (Some a) None = false
 same_owner (Some a) (Some b) = a.0 == b.0
+same_owner _ _ = false
 
 -- what a function of the same name can't stand beside: functions of one name differ in their parameters
 abbrev pub excludes_function : EntryKind → Signature → Signature → Bool
@@ -87,14 +68,9 @@ excludes_function (EnumValue v) x s = false
 
 -- what a method of the same type and name can't stand beside: methods of one name differ in their parameters or in `const`
 abbrev pub excludes_method : EntryKind → Signature → Signature → Bool
-excludes_method HostType x s = false
-excludes_method Factory x s = false
 excludes_method Method x s = same_parameters x.params s.params && beq x.read_only s.read_only
 excludes_method Property x s = true
-excludes_method Function x s = false
-excludes_method Global x s = false
-excludes_method Enumeration x s = false
-excludes_method (EnumValue v) x s = false
+excludes_method _ x s = false
 
 -- Whether something of this kind, owner and signature can't stand beside the entry. Factories of one type differ in their
 -- parameters, whatever their names.

@@ -15,7 +15,7 @@ use Rattle.ang_registry.specs.Types.{settled, is_misused, names_unknown, is_wron
 use Rattle.ang_view.specs.Types.{type_named, enumeration_named, number_at, driver_at}
 
 -- the error of the first row that applies
-abbrev pub first_row : List (Bool × RegError) → Option RegError
+abbrev pub first_row : {E : Type 0} → List (Bool × E) → Option E
 first_row [] = None
 first_row (x ∷ rest) = if x.0 then Some x.1 else first_row rest
 

@@ -5,7 +5,7 @@ use Rattle.ang_kinds.specs.declared.mask.Mask.{Mask}
 use Rattle.ang_kinds.specs.declared.types.Param.{Param}
 use Rattle.ang_kinds.specs.declared.types.Signature.{Signature}
 use Rattle.ang_kinds.specs.declared.types.TypeRef.{TypeRef}
-use Rattle.ang_kinds.specs.declared.types.TypeRef.TheVariants.{Void, Plain, Enumeration, Object}
+use Rattle.ang_kinds.specs.declared.types.TypeRef.TheVariants.{Enumeration, Object}
 use Rattle.ang_view.specs.declared.entry.Entry.{Entry}
 use Rattle.ang_view.specs.declared.entry.EntryKind.{EntryKind}
 use Rattle.ang_view.specs.Registration.{RegistrationList, entry_at, is_host_type, mentions}
@@ -19,11 +19,9 @@ has_enumeration list name = is_some (enumeration_named list name)
 
 -- The type that is written, over the whole list: a bare name that an enumeration has means the enumeration.
 abbrev pub settled_type : RegistrationList → TypeRef → TypeRef
-settled_type list Void = Void
-settled_type list (Plain p) = Plain p
-settled_type list (Enumeration name) = Enumeration name
 settled_type list (Object name shape const_object const_handle) =
     if not (is_handle shape) && has_enumeration list name then Enumeration name else Object name shape const_object const_handle
+settled_type list ty = ty
 
 abbrev pub settled_param : RegistrationList → Param → Param
 settled_param list p = record { ty = settled_type list p.ty; pass = p.pass; read_only = p.read_only; name = p.name }
@@ -43,11 +41,9 @@ settled list (Some s) = Some (settled_signature list s)
 
 -- an object type without `@`, or an enumeration with one
 abbrev pub is_misused_type : RegistrationList → TypeRef → Bool
-is_misused_type list Void = false
-is_misused_type list (Plain p) = false
-is_misused_type list (Enumeration name) = false
 is_misused_type list (Object name shape const_object const_handle) =
     if is_handle shape then has_enumeration list name else is_some (type_named list name)
+is_misused_type list _ = false
 
 unfoldable pub is_misused : RegistrationList → Signature → Bool
 is_misused list s = is_misused_type list s.result || list_any (λ p. is_misused_type list p.ty) s.params
@@ -65,10 +61,9 @@ mask_at list (Some n) = mask_by (entry_at list n)
 
 -- a type that a declaration may name: a primitive one, `void`, or a registered one
 abbrev pub is_known : RegistrationList → TypeRef → Bool
-is_known list Void = true
-is_known list (Plain p) = true
 is_known list (Enumeration name) = has_enumeration list name
 is_known list (Object name shape const_object const_handle) = is_some (type_named list name)
+is_known list _ = true
 
 -- Some type that the signature names isn't registered, in the whole list, whatever the masks.
 unfoldable pub names_unknown : RegistrationList → Signature → Bool

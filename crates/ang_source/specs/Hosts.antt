@@ -23,25 +23,16 @@ host_type_of (Object name shape const_object const_handle) = Handle
 
 -- a method or a type's property is asked of an object
 abbrev pub is_member : EntryKind → Bool
-is_member TypeKind = false
-is_member Factory = false
 is_member Method = true
 is_member Property = true
-is_member Function = false
-is_member Global = false
-is_member EnumerationKind = false
-is_member (EnumValue v) = false
+is_member _ = false
 
 -- whether it can be asked at all: a type, an enumeration and a value of one are asked by nobody
 abbrev pub is_asked : EntryKind → Bool
 is_asked TypeKind = false
-is_asked Factory = true
-is_asked Method = true
-is_asked Property = true
-is_asked Function = true
-is_asked Global = true
 is_asked EnumerationKind = false
 is_asked (EnumValue v) = false
+is_asked _ = true
 
 -- Which method of its driver answers. Of what is asked by nobody it says nothing.
 abbrev pub role_in : EntryKind → ℕ → Role

@@ -1,3 +1,4 @@
 pub mod Meaning
 pub mod Sound
 pub mod Hosts
+pub mod Unplaced

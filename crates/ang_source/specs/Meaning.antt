@@ -6,12 +6,13 @@ use Rattle.std.specs.Option.{option_or}
 use Rattle.ang_kinds.specs.declared.operator.Operator.{Operator}
 use Rattle.ang_kinds.specs.declared.operator.Operator.TheVariants as operator
 use Rattle.ang_kinds.specs.declared.primitive.Primitive.{Primitive}
-use Rattle.ang_kinds.specs.declared.primitive.Primitive.TheVariants.{I8, I16, I32, I64, U8, U16, U32, U64, Bool as Truth}
+use Rattle.ang_kinds.specs.declared.primitive.Primitive.TheVariants.{I32, Bool as Truth}
 use Rattle.ang_kinds.specs.declared.fault.Fault.TheVariants.{Null, Budget}
 use Rattle.ang_kinds.specs.declared.types.Pass.{Pass}
 use Rattle.ang_kinds.specs.declared.types.Pass.TheVariants as pass
 use Rattle.ang_types.specs.declared.arg_type.ArgType.{ArgType}
 use Rattle.ang_types.specs.declared.arg_type.ArgType.TheVariants as type
+use Rattle.ang_types.specs.ArgTypes.{primitive_of}
 use Rattle.ang_typed.specs.declared.expression.TypedVariable.{TypedVariable}
 use Rattle.ang_typed.specs.declared.expression.TypedVariable.TheVariants as variable
 use Rattle.ang_typed.specs.declared.expression.TypedMember.{TypedMember}
@@ -39,7 +40,8 @@ use Rattle.ang_meaning.specs.declared.routine.Passing.TheVariants.{In, Out, Obje
 use Rattle.ang_meaning.specs.declared.routine.Spot.{Spot}
 use Rattle.ang_meaning.specs.declared.routine.Spot.TheVariants as spot
 use Rattle.ang_meaning.specs.declared.routine.Target.{Target}
-use Rattle.ang_meaning.specs.Numbers.{truth, is_signed}
+use Rattle.ang_meaning.specs.Numbers.{truth}
+use Rattle.ang_kinds.specs.Primitives.{is_signed}
 use Rattle.ang_meaning.specs.World.{World, give}
 use Rattle.ang_meaning.specs.Environment.{Environment, default_of}
 use Rattle.ang_meaning.specs.Perform.{perform}
@@ -62,43 +64,22 @@ step_of ty kind.DecrementAfter = record { operator = operator.Subtract; at = ty;
 
 -- the integer type that a value is brought to, as it moves into a variable of this type
 abbrev pub integer_of : Primitive → Option Primitive
-integer_of I8 = Some I8
-integer_of I16 = Some I16
-integer_of I32 = Some I32
-integer_of I64 = Some I64
-integer_of U8 = Some U8
-integer_of U16 = Some U16
-integer_of U32 = Some U32
-integer_of U64 = Some U64
 integer_of Truth = None
+integer_of p = Some p
 
 abbrev pub brought_to : ArgType → Option Primitive
-brought_to type.Void = None
-brought_to type.Null = None
 brought_to (type.Plain p) = integer_of p
 brought_to (type.Enumeration n) = Some I32
-brought_to (type.Object n c) = None
-brought_to (type.Handle n c) = None
-
--- the primitive type that it is, if it is one; a value of an enumeration is an `int`
-abbrev pub primitive_of : ArgType → Option Primitive
-primitive_of type.Void = None
-primitive_of type.Null = None
-primitive_of (type.Plain p) = Some p
-primitive_of (type.Enumeration n) = Some I32
-primitive_of (type.Object n c) = None
-primitive_of (type.Handle n c) = None
+brought_to _ = None
 
 -- ---- values that nothing was stored for
 
 -- what a variable, a field or a parameter of this type holds: an object or a handle, or a number or truth value
 abbrev pub kind_of : ArgType → ValueKind
-kind_of type.Void = holds_a.Number
 kind_of type.Null = holds_a.Handle
-kind_of (type.Plain p) = holds_a.Number
-kind_of (type.Enumeration n) = holds_a.Number
 kind_of (type.Object n c) = holds_a.Handle
 kind_of (type.Handle n c) = holds_a.Handle
+kind_of _ = holds_a.Number
 
 -- what it holds while nothing was stored in it: 0, false or null
 abbrev pub default_in : ArgType → Slot
@@ -346,18 +327,13 @@ initialized_all = bodies_of.initialized_all run_code pass_of
 
 -- by reference an object itself passes, which is not null
 abbrev pub referred : ArgType → Passing
-referred type.Void = In
-referred type.Null = In
-referred (type.Plain p) = In
-referred (type.Enumeration n) = In
 referred (type.Object n c) = Object
-referred (type.Handle n c) = In
+referred _ = In
 
 abbrev pub passing_by : Pass → ArgType → Passing
 passing_by pass.Value ty = In
-passing_by pass.RefIn ty = referred ty
 passing_by pass.RefOut ty = Out
-passing_by pass.RefInOut ty = referred ty
+passing_by _ ty = referred ty
 
 -- how a parameter takes its argument
 abbrev pub passing_of : TypedParameter → Passing

@@ -16,7 +16,8 @@ use Rattle.ang_meaning.specs.declared.routine.Routine.{Routine}
 use Rattle.ang_meaning.specs.declared.routine.Callee.{Callee}
 use Rattle.ang_meaning.specs.declared.routine.Callee.TheVariants.{Own}
 use Rattle.ang_meaning.specs.declared.routine.Target.{Target}
-use Rattle.ang_meaning.specs.Numbers.{truth, is_signed}
+use Rattle.ang_meaning.specs.Numbers.{truth}
+use Rattle.ang_kinds.specs.Primitives.{is_signed}
 use Rattle.ang_meaning.specs.World.{World, give_all, memory_step, or_else}
 use Rattle.ang_meaning.specs.Environment.{Environment, params_of, target}
 use Rattle.ang_meaning.specs.Perform.{perform}

@@ -20,7 +20,8 @@ use Rattle.ang_meaning.specs.declared.routine.Routine.{Routine}
 use Rattle.ang_meaning.specs.declared.routine.Callee.{Callee}
 use Rattle.ang_meaning.specs.declared.routine.Callee.TheVariants.{Own, Import, Virtual}
 use Rattle.ang_meaning.specs.declared.routine.Target.{Target}
-use Rattle.ang_meaning.specs.Numbers.{Changed, Into, Never, truth, is_signed}
+use Rattle.ang_meaning.specs.Numbers.{Changed, Into, Never, truth}
+use Rattle.ang_kinds.specs.Primitives.{is_signed}
 use Rattle.ang_meaning.specs.World.{World, ScriptRecord, Tried, Yes, No, or_else, memory_step, hold, give, give_all}
 use Rattle.ang_meaning.specs.Environment.{Environment, params_in, params_of, receiver_in, bound, virtual_of, method_of, target, is_null, has_objects, is_fit}
 use Rattle.ang_meaning.specs.Hosts.{Done, Fine, Fails}

@@ -24,7 +24,8 @@ use Rattle.ang_meaning.specs.declared.routine.Callee.TheVariants.{Own, Import, V
 use Rattle.ang_meaning.specs.declared.routine.Spot.{Spot}
 use Rattle.ang_meaning.specs.declared.routine.Spot.TheVariants as spot
 use Rattle.ang_meaning.specs.declared.routine.Target.{Target}
-use Rattle.ang_meaning.specs.Numbers.{truth, is_signed}
+use Rattle.ang_meaning.specs.Numbers.{truth}
+use Rattle.ang_kinds.specs.Primitives.{is_signed}
 use Rattle.ang_meaning.specs.World.{World, ScriptRecord, give, give_all, memory_step, or_else}
 use Rattle.ang_meaning.specs.Environment.{Environment, Found, Enters, Misses, params_in, params_of, receiver_in, target, use_at, is_null, has_objects, is_fit}
 use Rattle.ang_meaning.specs.Hosts.{Done, Fails}

@@ -18,12 +18,10 @@ use Rattle.ang_typed.specs.Typed as t
 -- ---- types that are named
 
 abbrev pub type_uses : ArgType → List ℕ
-type_uses type.Void = []
-type_uses type.Null = []
-type_uses (type.Plain p) = []
 type_uses (type.Enumeration n) = n ∷ []
 type_uses (type.Object n c) = n ∷ []
 type_uses (type.Handle n c) = n ∷ []
+type_uses _ = []
 
 abbrev pub parameter_uses : TypedParameter → List ℕ
 parameter_uses p = type_uses p.ty
@@ -34,10 +32,8 @@ abbrev pub host_uses : HostEntity → List ℕ
 host_uses h = h.entity.0 ∷ []
 
 abbrev pub variable_uses : TypedVariable → List ℕ
-variable_uses (variable.Local i) = []
-variable_uses (variable.Global g) = []
 variable_uses (variable.Property h) = host_uses h
-variable_uses (variable.Field i) = []
+variable_uses _ = []
 
 abbrev pub member_uses : TypedMember → List ℕ
 member_uses (member.Field i) = []

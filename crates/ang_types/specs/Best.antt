@@ -23,9 +23,8 @@ one_below p zero = None
 one_below p (suc n) = if p n then Some n else one_below p n
 
 abbrev pub is_less : Option ℕ → Option ℕ → Bool
-is_less None r = false
-is_less (Some q) None = false
 is_less (Some q) (Some r) = nat_lt q r
+is_less _ _ = false
 
 abbrev pub is_viable : Ancestors → Params → List ArgType → Bool
 is_viable ancestors params args =

@@ -3,63 +3,30 @@
 use Rattle.std.specs.Prelude.{ℕ, Bool, true, false, ◌==◌, nat_lt, if◌then◌else◌, IsTrue, Option, Some, None}
 use Rattle.std.proofs.Math.Bool.{beq}
 use Rattle.ang_kinds.specs.declared.primitive.Primitive.{Primitive}
-use Rattle.ang_kinds.specs.declared.primitive.Primitive.TheVariants.{I8, I16, I32, I64, U8, U16, U32, U64, Bool as Truth}
+use Rattle.ang_kinds.specs.declared.primitive.Primitive.TheVariants.{I8, I16, I32, U8, U16, U32, Bool as Truth}
+use Rattle.ang_kinds.specs.Primitives.{is_signed, width_of}
 
 -- Every primitive type but `bool` is an integer type.
 abbrev pub is_integer : Primitive → Bool
-is_integer I8 = true
-is_integer I16 = true
-is_integer I32 = true
-is_integer I64 = true
-is_integer U8 = true
-is_integer U16 = true
-is_integer U32 = true
-is_integer U64 = true
 is_integer Truth = false
+is_integer _ = true
 
 abbrev pub IsInteger : Primitive → Type 0
 IsInteger p = IsTrue (is_integer p)
-
--- how many bits an integer type has; `bool` is no integer and has none
-abbrev pub width : Primitive → ℕ
-width I8 = 8
-width I16 = 16
-width I32 = 32
-width I64 = 64
-width U8 = 8
-width U16 = 16
-width U32 = 32
-width U64 = 64
-width Truth = 0
-
-abbrev pub is_signed : Primitive → Bool
-is_signed I8 = true
-is_signed I16 = true
-is_signed I32 = true
-is_signed I64 = true
-is_signed U8 = false
-is_signed U16 = false
-is_signed U32 = false
-is_signed U64 = false
-is_signed Truth = false
 
 -- An integer is raised to at least 32 bits and keeps its signedness.
 abbrev pub raised : Primitive → Primitive
 raised I8 = I32
 raised I16 = I32
-raised I32 = I32
-raised I64 = I64
 raised U8 = U32
 raised U16 = U32
-raised U32 = U32
-raised U64 = U64
-raised Truth = Truth
+raised p = p
 
 -- the wider of two integer types; of two equally wide ones the unsigned, if either is
 abbrev pub wider : Primitive → Primitive → Primitive
 wider a b =
-    if nat_lt (width a) (width b) then b
-    else (if nat_lt (width b) (width a) then a
+    if nat_lt (width_of a) (width_of b) then b
+    else (if nat_lt (width_of b) (width_of a) then a
     else (if is_signed a then b else a))
 
 -- The common type of two integers: the wider of both, each raised.
@@ -70,7 +37,7 @@ common_type a b = wider (raised a) (raised b)
 abbrev pub integer_rank : Primitive → Primitive → ℕ
 integer_rank from to =
     if beq (is_signed from) (is_signed to)
-    then (if width from == width to then 0 else (if nat_lt (width from) (width to) then 2 else 3))
+    then (if width_of from == width_of to then 0 else (if nat_lt (width_of from) (width_of to) then 2 else 3))
     else 3
 
 -- `bool` stands apart: it converts to itself alone.

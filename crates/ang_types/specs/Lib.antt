@@ -1,3 +1,4 @@
+pub mod ArgTypes
 pub mod Integers
 pub mod Marks
 pub mod Ranks
@@ -5,3 +6,4 @@ pub mod Overloads
 pub mod Best
 pub mod Rivals
 pub mod Refusals
+pub mod Rows

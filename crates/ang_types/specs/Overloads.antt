@@ -1,5 +1,6 @@
 -- Which of several candidates a call means (the AngelScript manual, "Function overloading"; what is better is this profile's own).
 use Rattle.std.specs.Prelude.{ℕ, ◌≡◌, ◌≢◌, ◌<◌, List, [], length, Option, Some, None, IsSome, IfSome, IfNone, slice_get}
+use Rattle.std.specs.Option.{option_map_or}
 use Rattle.ang_kinds.specs.declared.types.Pass.{Pass}
 use Rattle.ang_types.specs.declared.arg_type.ArgType.{ArgType}
 use Rattle.ang_types.specs.declared.candidate.Candidate.{Candidate}
@@ -24,9 +25,8 @@ pub record IsViable (ancestors : Ancestors) (params : Params) (args : List ArgTy
   pub ranked : (k : ℕ) → k < length args → IsSome (rank_at ancestors params args k)
 
 abbrev pub IsLess : Option ℕ → Option ℕ → Type 0
-IsLess None r = ⊥
-IsLess (Some q) None = ⊥
 IsLess (Some q) (Some r) = q < r
+IsLess _ _ = ⊥
 
 -- Some argument's rank is less for the one candidate than for the other.
 abbrev pub HasLess : Ancestors → Params → Params → List ArgType → Type 0
@@ -37,13 +37,9 @@ pub record IsBetter (ancestors : Ancestors) (ps qs : Params) (args : List ArgTyp
   pub none_greater : ¬ HasLess ancestors qs ps args
   pub one_less : HasLess ancestors ps qs args
 
-abbrev pub params_in : Option Candidate → Params
-params_in None = []
-params_in (Some c) = c.params
-
 -- the parameters of candidate i, from 0
 abbrev pub params_at : List Candidate → ℕ → Params
-params_at candidates i = params_in (slice_get candidates i)
+params_at candidates i = option_map_or (λ (c : Candidate). c.params) (slice_get candidates i) []
 
 -- There is a candidate i, and it is viable.
 pub record IsViableAt (ancestors : Ancestors) (candidates : List Candidate) (args : List ArgType) (i : ℕ) : Type 0 where

@@ -3,9 +3,9 @@
 use Rattle.std.specs.Prelude.{ℕ, Bool, true, false, ◌==◌, if◌then◌else◌, max, List, [], Option, Some, None, slice_index_or}
 use Rattle.std.specs.List.{list_any}
 use Rattle.ang_kinds.specs.declared.primitive.Primitive.{Primitive}
-use Rattle.ang_kinds.specs.declared.primitive.Primitive.TheVariants.{I8, I16, I32, I64, U8, U16, U32, U64, Bool as Truth}
+use Rattle.ang_kinds.specs.declared.primitive.Primitive.TheVariants.{I32, Bool as Truth}
 use Rattle.ang_kinds.specs.declared.types.Pass.{Pass}
-use Rattle.ang_kinds.specs.declared.types.Pass.TheVariants.{Value, RefIn, RefOut, RefInOut}
+use Rattle.ang_kinds.specs.declared.types.Pass.TheVariants.{RefOut}
 use Rattle.ang_types.specs.declared.arg_type.ArgType.{ArgType}
 use Rattle.ang_types.specs.declared.arg_type.ArgType.TheVariants.{Void, Null, Plain, Enumeration, Object, Handle}
 use Rattle.ang_types.specs.Integers.{primitive_rank}
@@ -28,32 +28,20 @@ class_rank ancestors from to =
 
 -- `const` may be added, which is 1, and is never lost.
 abbrev pub const_rank : Bool → Bool → Option ℕ
-const_rank false false = Some 0
 const_rank false true = Some 1
 const_rank true false = None
-const_rank true true = Some 0
+const_rank _ _ = Some 0
 
 -- The greatest rank that applies counts; where one part has none the whole has none.
 abbrev pub greatest : ℕ → Option ℕ → Option ℕ → Option ℕ
-greatest form None class = None
-greatest form (Some constness) None = None
 greatest form (Some constness) (Some class) = Some (max form (max constness class))
+greatest form _ _ = None
 
 -- From an enumeration's value, which is a number of 32 bits with a sign: 2 to `int`, 3 to any other integer type.
 abbrev pub number_rank : Primitive → Option ℕ
-number_rank I8 = Some 3
-number_rank I16 = Some 3
 number_rank I32 = Some 2
-number_rank I64 = Some 3
-number_rank U8 = Some 3
-number_rank U16 = Some 3
-number_rank U32 = Some 3
-number_rank U64 = Some 3
 number_rank Truth = None
-
--- An enumeration converts to no other one.
-abbrev pub enumeration_rank : ℕ → ℕ → Option ℕ
-enumeration_rank from to = if from == to then Some 0 else None
+number_rank _ = Some 3
 
 -- The rank of the implicit conversion from one type to another, or none: 0 the same type; 1 an object to a handle,
 -- a handle to an object, `const` added, null to a handle; 2 and 3 between integers, and from an enumeration to an
@@ -64,7 +52,7 @@ rank_of ancestors Null Null = Some 0
 rank_of ancestors Null (Handle m s) = Some 1
 rank_of ancestors (Plain p) (Plain q) = primitive_rank p q
 rank_of ancestors (Enumeration n) (Plain q) = number_rank q
-rank_of ancestors (Enumeration n) (Enumeration m) = enumeration_rank n m
+rank_of ancestors (Enumeration n) (Enumeration m) = if n == m then Some 0 else None
 rank_of ancestors (Object n r) (Object m s) = greatest 0 (const_rank r s) (class_rank ancestors n m)
 rank_of ancestors (Object n r) (Handle m s) = greatest 1 (const_rank r s) (class_rank ancestors n m)
 rank_of ancestors (Handle n r) (Object m s) = greatest 1 (const_rank r s) (class_rank ancestors n m)
@@ -74,7 +62,5 @@ rank_of ancestors from to = None
 -- The rank of an argument for a parameter of this type and passing. What goes in converts from the argument to the
 -- parameter; what comes out by `&out` converts from the parameter to the variable.
 abbrev pub argument_rank : Ancestors → ArgType → Pass → ArgType → Option ℕ
-argument_rank ancestors param Value argument = rank_of ancestors argument param
-argument_rank ancestors param RefIn argument = rank_of ancestors argument param
 argument_rank ancestors param RefOut argument = rank_of ancestors param argument
-argument_rank ancestors param RefInOut argument = rank_of ancestors argument param
+argument_rank ancestors param _ argument = rank_of ancestors argument param

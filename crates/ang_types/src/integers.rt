@@ -1,15 +1,14 @@
 //! The integer types, and the type in which two of them meet.
 ghost use Rattle.std.specs.Prelude.{◌≡◌, max, ◌||◌, ◌&&◌, nat_lt};
+ghost use Rattle.ang_kinds.specs.Primitives.{is_signed, width_of};
 ghost use Rattle.ang_types.specs.Integers.{
   IsInteger,
   common_type,
   integer_rank,
   is_integer,
-  is_signed,
   primitive_rank,
   raised,
   wider,
-  width,
 };
 
 use ang_kinds::Prim;
@@ -24,10 +23,10 @@ pub fn common(a: Prim, b: Prim) -> Prim
     ensures exact { result ≡ common_type a b }
 
     // An operand counts as signed where it is, or where it is narrower than the result.
-    ensures wide { width result ≡ max 32 (max (width a) (width b)) }
+    ensures wide { width_of result ≡ max 32 (max (width_of a) (width_of b)) }
     ensures signed { is_signed result ≡
-        ((is_signed a || nat_lt (width (raised a)) (width result)) &&
-        (is_signed b || nat_lt (width (raised b)) (width result))) }
+        ((is_signed a || nat_lt (width_of (raised a)) (width_of result)) &&
+        (is_signed b || nat_lt (width_of (raised b)) (width_of result))) }
 {
     wider_of(raise(a), raise(b))
 }
@@ -54,14 +53,14 @@ fn raise(p: Prim) -> Prim
 }
 
 fn bits(p: Prim) -> u32
-    ensures exact { result ≡ width p }
+    ensures exact { result ≡ width_of p }
 {
     match p {
         Prim::I8 | Prim::U8 => 8,
         Prim::I16 | Prim::U16 => 16,
         Prim::I32 | Prim::U32 => 32,
         Prim::I64 | Prim::U64 => 64,
-        Prim::Bool => 0,
+        Prim::Bool => 1,
     }
 }
 

@@ -2,7 +2,7 @@
 //!
 //! `common` is the type in which two integers meet in an operation, `rank` says whether one type
 //! converts to another by itself and what that costs, and `resolve` picks the best of the candidates
-//! of a name. None of them takes memory. `Rivals` keeps of the candidates of a use what tells whether one more would
+//! of a name. None of them takes memory. `push_ranks` finds the ranks of one argument for many parameters out. `Rivals` keeps of the candidates of a use what tells whether one more would
 //! be the best, and `Asks` is what a use asks of its name.
 #![tactic(auto)]
 
@@ -16,6 +16,7 @@ mod marks;
 mod overloads;
 mod ranks;
 mod rivals;
+mod rows;
 
 pub use arg_type::ArgType;
 pub use asks::{Asks, Refused};
@@ -25,3 +26,4 @@ pub use lineage::Lineage;
 pub use overloads::resolve;
 pub use ranks::{rank, rank_of_argument};
 pub use rivals::Rivals;
+pub use rows::push_ranks;

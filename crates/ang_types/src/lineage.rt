@@ -50,7 +50,7 @@ impl Lineage {
     }
 
     /// The types above this one; none for a number without a list.
-    fn types_above(&self, number: u32) -> &[u32]
+    pub(crate) fn types_above(&self, number: u32) -> &[u32]
         ensures exact { result.now ≡ types_above self.now number }
     {
         match self.above.get(number as usize) {
@@ -60,7 +60,7 @@ impl Lineage {
     }
 
     /// The marks of the types above this one, where there are any.
-    fn marks(&self, number: u32) -> Option<&Marks>
+    pub(crate) fn marks(&self, number: u32) -> Option<&Marks>
         ensures exact { IfSome result
             (λ m. (n : ℕ) → is_marked m.now n ≡ is_above self.now number n) }
     {

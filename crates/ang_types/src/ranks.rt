@@ -1,9 +1,8 @@
 //! Whether one type converts to another by itself, and what that costs.
-ghost use Rattle.std.specs.Prelude.{◌≡◌};
+ghost use Rattle.std.specs.Prelude.{◌≡◌, ◌==◌, if◌then◌else◌, Some, None};
 ghost use Rattle.ang_types.specs.Ranks.{
   argument_rank,
   const_rank,
-  enumeration_rank,
   greatest,
   number_rank,
   rank_of,
@@ -87,7 +86,7 @@ fn rank_of_number(to: Prim) -> Option<u8>
 }
 
 fn rank_of_enumeration(from: u32, to: u32) -> Option<u8>
-    ensures exact { result ≡ enumeration_rank from to }
+    ensures exact { result ≡ (if from == to then Some 0 else None) }
 {
     if from == to {
         return Some(0);
@@ -95,7 +94,7 @@ fn rank_of_enumeration(from: u32, to: u32) -> Option<u8>
     None
 }
 
-fn rank_of_const(from: bool, to: bool) -> Option<u8>
+pub(crate) fn rank_of_const(from: bool, to: bool) -> Option<u8>
     ensures exact { result ≡ const_rank from to }
 {
     match (from, to) {
@@ -105,7 +104,7 @@ fn rank_of_const(from: bool, to: bool) -> Option<u8>
     }
 }
 
-fn greatest_of(form: u8, constness: Option<u8>, class: Option<u8>) -> Option<u8>
+pub(crate) fn greatest_of(form: u8, constness: Option<u8>, class: Option<u8>) -> Option<u8>
     ensures exact { result ≡ greatest form constness class }
 {
     Some(form.max(constness?.max(class?)))

@@ -2,6 +2,7 @@
 -- "Access masks and exposing different interfaces").
 use Rattle.std.specs.Prelude.{ℕ, ◌+◌, ◌==◌, Bool, false, not, ◌||◌, if◌then◌else◌, is_some, List, [], ◌∷◌, map, length, Option, Some, None}
 use Rattle.std.specs.List.{range_with_len}
+use Rattle.std.specs.Option.{option_map_or}
 use Rattle.ang_kinds.specs.Masks.{meets}
 use Rattle.ang_view.specs.declared.entry.Entry.{Entry}
 use Rattle.ang_view.specs.Registration.{RegistrationList, entry_at, is_named_by, is_seen, seen_entry}
@@ -24,13 +25,9 @@ hidden R m = map (hidden_entry R m) R
 abbrev pub is_hidden : RegistrationList → ℕ → ℕ → Bool
 is_hidden R m x = is_some (entry_at (hidden R m) x)
 
-abbrev pub is_unmet_entry : ℕ → Option Entry → Bool
-is_unmet_entry m None = false
-is_unmet_entry m (Some y) = not (meets y.mask.0 m)
-
 -- the own mask of entry y does not meet m
 abbrev pub is_unmet : RegistrationList → ℕ → ℕ → Bool
-is_unmet R m y = is_unmet_entry m (entry_at R y)
+is_unmet R m y = option_map_or (λ (e : Entry). not (meets e.mask.0 m)) (entry_at R y) false
 
 -- ---- the view with an entry added
 

@@ -15,44 +15,25 @@ use Rattle.ang_view.specs.Registration.{RegistrationList, entry_at, is_number, i
 -- types, enumerations, functions and global properties, which are used by their names alone
 abbrev pub is_bare : EntryKind → Bool
 is_bare HostType = true
-is_bare Factory = false
-is_bare Method = false
-is_bare Property = false
 is_bare Function = true
 is_bare Global = true
 is_bare Enumeration = true
-is_bare (EnumValue v) = false
+is_bare _ = false
 
 -- methods and properties of objects, and values of enumerations
 abbrev pub is_member_kind : EntryKind → Bool
-is_member_kind HostType = false
-is_member_kind Factory = false
 is_member_kind Method = true
 is_member_kind Property = true
-is_member_kind Function = false
-is_member_kind Global = false
-is_member_kind Enumeration = false
 is_member_kind (EnumValue v) = true
+is_member_kind _ = false
 
 abbrev pub is_factory : EntryKind → Bool
-is_factory HostType = false
 is_factory Factory = true
-is_factory Method = false
-is_factory Property = false
-is_factory Function = false
-is_factory Global = false
-is_factory Enumeration = false
-is_factory (EnumValue v) = false
+is_factory _ = false
 
 abbrev pub is_value : EntryKind → Bool
-is_value HostType = false
-is_value Factory = false
-is_value Method = false
-is_value Property = false
-is_value Function = false
-is_value Global = false
-is_value Enumeration = false
 is_value (EnumValue v) = true
+is_value _ = false
 
 -- a type, enumeration, function or global property of this name
 abbrev pub has_name : List ℕ → Option Entry → Bool

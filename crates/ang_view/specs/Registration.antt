@@ -10,7 +10,7 @@ use Rattle.ang_kinds.specs.declared.types.TypeRef.{TypeRef}
 use Rattle.ang_kinds.specs.declared.types.TypeRef.TheVariants as ref
 use Rattle.ang_view.specs.declared.entry.Entry.{Entry}
 use Rattle.ang_view.specs.declared.entry.EntryKind.{EntryKind}
-use Rattle.ang_view.specs.declared.entry.EntryKind.TheVariants.{HostType, Factory, Method, Property, Function, Global, Enumeration, EnumValue}
+use Rattle.ang_view.specs.declared.entry.EntryKind.TheVariants.{HostType, Function, Enumeration}
 
 -- The registration list: the entries in the order of registration, numbered from 0. `None` is a blank.
 abbrev pub RegistrationList : Type 0
@@ -25,31 +25,19 @@ entry_at list n = slice_index_or list n None
 -- the types that declarations can name: types of host objects, and enumerations
 abbrev pub is_type : EntryKind → Bool
 is_type HostType = true
-is_type Factory = false
-is_type Method = false
-is_type Property = false
-is_type Function = false
-is_type Global = false
 is_type Enumeration = true
-is_type (EnumValue v) = false
+is_type _ = false
 
 -- the types of host objects
 abbrev pub is_host_type : EntryKind → Bool
 is_host_type HostType = true
-is_host_type Factory = false
-is_host_type Method = false
-is_host_type Property = false
-is_host_type Function = false
-is_host_type Global = false
-is_host_type Enumeration = false
-is_host_type (EnumValue v) = false
+is_host_type _ = false
 
 -- whether a type is spelled with this name
 abbrev pub is_spelled_with : List ℕ → TypeRef → Bool
-is_spelled_with name ref.Void = false
-is_spelled_with name (ref.Plain p) = false
 is_spelled_with name (ref.Enumeration own) = bytes_eq own name
 is_spelled_with name (ref.Object own shape const_object const_handle) = bytes_eq own name
+is_spelled_with name _ = false
 
 -- whether a signature names the type of this name, in its result or in a parameter
 abbrev pub mentions : Signature → List ℕ → Bool
@@ -91,14 +79,8 @@ seen list m = map (seen_entry list m) list
 -- ---- functions by name
 
 abbrev pub is_function : EntryKind → Bool
-is_function HostType = false
-is_function Factory = false
-is_function Method = false
-is_function Property = false
 is_function Function = true
-is_function Global = false
-is_function Enumeration = false
-is_function (EnumValue v) = false
+is_function _ = false
 
 abbrev pub is_function_named : List ℕ → Option Entry → Bool
 is_function_named name None = false

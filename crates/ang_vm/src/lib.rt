@@ -8,7 +8,7 @@
 //! A step is done at once where `ang_vm_fused` can do so on the stack alone, or `ang_vm_fields` with the
 //! store, and else its first instruction is done alone, by `ang_vm_steps`. The last operands of a host
 //! call, which the instructions before it would hold once more and the call give up again, are not held; a
-//! function or method with few of them is called without even pushing them.
+//! function, method or factory with few of them is asked without even pushing them.
 #![tactic(auto)]
 
 mod bodies;

@@ -160,11 +160,14 @@ not_property (MakingRole f) other h = let x : ⊥ = cc in x
 not_property (CallingRole f) other h = let x : ⊥ = cc in x
 not_property (PropertyRole f) other h = other f refl
 
-made_alone : (f : ℕ) (role : Role) (member : Bool) → role ≡ MakingRole f → is_called_by role member ≡ true → member ≡ false
+pub not_called : (f : ℕ) (role : Role) (member : Bool) → role ≡ PropertyRole f → is_called_by role member ≡ true → ⊥
+not_called f role member e h = let x : false ≡ true = sym (ap (λ r. is_called_by r member) e) ∙ h in let y : ⊥ = cc in y
+
+pub made_alone : (f : ℕ) (role : Role) (member : Bool) → role ≡ MakingRole f → is_called_by role member ≡ true → member ≡ false
 made_alone f role true e h = absurd (let x : false ≡ true = sym (ap (λ r. is_called_by r true) e) ∙ h in let y : ⊥ = cc in y)
 made_alone f role false e h = refl
 
-no_receiver : (b : Bool) (d : ℕ) (ops : List Slot) (object : Option ℕ) → b ≡ false → object_in (cond b (key_at d ops) NoReceiver) ≡ Ok object → object ≡ None
+pub no_receiver : (b : Bool) (d : ℕ) (ops : List Slot) (object : Option ℕ) → b ≡ false → object_in (cond b (key_at d ops) NoReceiver) ≡ Ok object → object ≡ None
 no_receiver true d ops object e h = absurd (let x : ⊥ = cc in x)
 no_receiver false d ops object e h = let o : None ≡ object = cc in sym o
 

@@ -226,6 +226,52 @@ fn take_made(store: &mut Store, driver: u32, answer: Made) -> Result<Slot, Fault
     }
 }
 
+/// Asks for a new object by the factory of that number of its driver, with the values that it is handed. The event is
+/// listed, whatever the answer.
+#[inline(always)]
+pub(crate) fn make_with(
+    store: &mut Store,
+    caller: &[u8],
+    entity: EntityNo,
+    host: &HostUse,
+    number: u32,
+    args: &[Value],
+) -> Result<Slot, Fault>
+    requires role { host.now.role ≡ MakingRole number }
+    requires in_list { host.now.driver < length (members store.old.drivers) }
+    requires ready { IsReady ⟦<dyn Driver as Driver>⟧ store.old }
+    requires args_live { AreLive (driver_state ⟦<dyn Driver as Driver>⟧ store.old host.now.driver)
+        args.now }
+    ensures told { (z : Environment) (m : ℕ) → Sees z m caller.now entity host.now
+        → StoreTold ⟦<dyn Driver as Driver>⟧
+        (asked z m entity None args.now host.now.result) store.old (done result) store.new }
+    ensures enough { (vs : List Slot) → CanGive vs (world_of ⟦<dyn Driver as Driver>⟧ store.old)
+        → CanGive (with_result result vs) (world_of ⟦<dyn Driver as Driver>⟧ store.new) }
+    ensures asked { StoreAsked ⟦<dyn Driver as Driver>⟧ entity host.now.role store.old store.new }
+{
+    if store.live >= store.limits.objects {
+        return Err(Fault::Memory);
+    }
+    let most = store.limits.events;
+    let ends = store.live + 1;
+    let Ok(()) = room_for_call(&mut store.events, most, ends, caller, args.len()) else {
+        return Err(Fault::Memory);
+    };
+    let Ok(()) = room_for_ends(&mut store.ends, ends) else {
+        return Err(Fault::Memory);
+    };
+    let answer = make_listed(
+        &mut store.drivers,
+        &mut store.events,
+        caller,
+        entity,
+        host.driver,
+        number,
+        args,
+    );
+    take_made(store, host.driver, answer)
+}
+
 /// Asks for a new object by the factory of that number of its driver. The event is listed, whatever the
 /// answer.
 pub(crate) fn make(
@@ -250,29 +296,8 @@ pub(crate) fn make(
         → CanGive (with_result result vs) (world_of ⟦<dyn Driver as Driver>⟧ store.new) }
     ensures asked { StoreAsked ⟦<dyn Driver as Driver>⟧ entity host.now.role store.old store.new }
 {
-    if store.live >= store.limits.objects {
-        return Err(Fault::Memory);
-    }
     let Ok(values) = arguments_for(alloc, host, args) else {
         return Err(Fault::Memory);
     };
-    let args = values.as_slice();
-    let most = store.limits.events;
-    let ends = store.live + 1;
-    let Ok(()) = room_for_call(&mut store.events, most, ends, caller, args.len()) else {
-        return Err(Fault::Memory);
-    };
-    let Ok(()) = room_for_ends(&mut store.ends, ends) else {
-        return Err(Fault::Memory);
-    };
-    let answer = make_listed(
-        &mut store.drivers,
-        &mut store.events,
-        caller,
-        entity,
-        host.driver,
-        number,
-        args,
-    );
-    take_made(store, host.driver, answer)
+    make_with(store, caller, entity, host, number, values.as_slice())
 }

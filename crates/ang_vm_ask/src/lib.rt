@@ -18,5 +18,5 @@ mod replies;
 mod rooms;
 
 pub use arguments::FEW;
-pub use fitting::{entry_of, given_count, operands, operands_of};
-pub use operation::{ask, ask_entry, call_entry};
+pub use fitting::{entry_of, given_count, is_called, operands, operands_of};
+pub use operation::{ask, ask_called, ask_entry, call_entry};

@@ -1,8 +1,8 @@
 //! One operation of a script on the host.
-ghost use Rattle.std.specs.Prelude.{◌≡◌, ℕ, ◌<◌, ◌≤◌, ◌∷◌, true, List, [], Some, Ok, length, reverse};
+ghost use Rattle.std.specs.Prelude.{◌≡◌, ℕ, ◌<◌, ◌≤◌, ◌∷◌, true, List, [], Some, None, Ok, length, reverse};
 ghost use Rattle.ang_kinds.specs.declared.mask.EntityNo.{EntityNo};
 ghost use Rattle.ang_host.specs.declared.event.Role.{Role};
-ghost use Rattle.ang_host.specs.declared.event.Role.TheVariants.{Calling as CallingRole, Property as PropertyRole};
+ghost use Rattle.ang_host.specs.declared.event.Role.TheVariants.{Making as MakingRole, Calling as CallingRole, Property as PropertyRole};
 ghost use Rattle.ang_host.specs.Boxes.{members};
 ghost use Rattle.ang_host.specs.Laws.{IsLiveOption, IsLiveValue, AreLive};
 ghost use Rattle.ang_code.specs.Machine.{take_some};
@@ -12,7 +12,7 @@ ghost use Rattle.ang_meaning.specs.Counting.{CanGive, CanGiveEach};
 ghost use Rattle.ang_meaning.specs.Hosts.{value_of, values_of, asked};
 ghost use Rattle.ang_meaning.specs.Numbers.{Changed};
 ghost use Rattle.ang_meaning.specs.Perform.{Receiver, receiver_of, arguments_of as arguments_in, in_place_of, altered_to, operands as operand_count};
-ghost use Rattle.ang_meaning.specs.Environment.{Environment, is_fit};
+ghost use Rattle.ang_meaning.specs.Environment.{Environment, is_called_by, is_fit};
 ghost use Rattle.ang_heap.specs.Stores.{world_of, IsReady, StoreTold};
 ghost use Rattle.ang_vm_numbers.specs.Answers.{altered_of};
 ghost use Rattle.ang_vm_stack.specs.Arms.{done};
@@ -23,7 +23,7 @@ ghost use Rattle.ang_vm_ask.specs.Askings.{Sees, Performed, StoreAsked, StillGiv
 ghost use Rattle.ang_vm_ask.specs.Entities.{DriversThere, AsksEntry};
 ghost use Rattle.ang_vm_ask.specs.Handing.{object_in};
 
-use crate::asking::{call, call_with, make, read, write};
+use crate::asking::{call, call_with, make, make_with, read, write};
 use crate::fitting::entry_of;
 use crate::handing::{arguments_of, behind_first, first_of, object_of, operands_at};
 use ang_heap::{Store, give};
@@ -425,4 +425,108 @@ pub fn call_entry(
 {
     let name = name_at(table, home);
     call_with(store, name, entity, host, number, object, args)
+}
+
+/// Asks for a new object by a factory for a module, with the values that its driver is handed, and answers its handle.
+/// It stays apart, so that `ask_called` stays small.
+#[inline(never)]
+fn make_entry_apart(
+    table: &Table,
+    home: u32,
+    host: &HostUse,
+    number: u32,
+    args: &[Value],
+    store: &mut Store,
+    entity: EntityNo,
+) -> Result<Slot, Fault>
+    requires entry { AsksEntry table.now home (Ask entity) host.now }
+    requires role { host.now.role ≡ MakingRole number }
+    requires drivers { DriversThere table.now (length (members store.old.drivers)) }
+    requires ready { IsReady ⟦<dyn Driver as Driver>⟧ store.old }
+    requires args_live { AreLive (driver_state ⟦<dyn Driver as Driver>⟧ store.old host.now.driver)
+        args.now }
+    ensures made { (ops : List Slot) → object_in (receiver_of host.now ops) ≡ Ok None
+        → values_of host.now.driver host.now.params (arguments_in host.now ops) ≡ args.now
+        → (nesting : ℕ) → StoreTold ⟦<dyn Driver as Driver>⟧ (asks (setting_of table.now nesting) home (Ask entity)
+        (reverse ops)) store.old (done result) store.new }
+    ensures enough { StillGives ⟦<dyn Driver as Driver>⟧ store.old store.new }
+    ensures ready { IsReady ⟦<dyn Driver as Driver>⟧ store.new }
+    ensures same { length (members store.new.drivers) ≡ length (members store.old.drivers) }
+    ensures moves { HasMovedOver ⟦<dyn Driver as Driver>⟧ table.now store.old store.new }
+{
+    let asking = name_at(table, home);
+    make_with(store, asking, entity, host, number, args)
+}
+
+/// The same, with a copy of what it answers, so that the value of a call doesn't stand in memory.
+#[inline(always)]
+fn make_entry(
+    table: &Table,
+    home: u32,
+    host: &HostUse,
+    number: u32,
+    args: &[Value],
+    store: &mut Store,
+    entity: EntityNo,
+) -> Result<Slot, Fault>
+    requires entry { AsksEntry table.now home (Ask entity) host.now }
+    requires role { host.now.role ≡ MakingRole number }
+    requires drivers { DriversThere table.now (length (members store.old.drivers)) }
+    requires ready { IsReady ⟦<dyn Driver as Driver>⟧ store.old }
+    requires args_live { AreLive (driver_state ⟦<dyn Driver as Driver>⟧ store.old host.now.driver)
+        args.now }
+    ensures made { (ops : List Slot) → object_in (receiver_of host.now ops) ≡ Ok None
+        → values_of host.now.driver host.now.params (arguments_in host.now ops) ≡ args.now
+        → (nesting : ℕ) → StoreTold ⟦<dyn Driver as Driver>⟧ (asks (setting_of table.now nesting) home (Ask entity)
+        (reverse ops)) store.old (done result) store.new }
+    ensures enough { StillGives ⟦<dyn Driver as Driver>⟧ store.old store.new }
+    ensures ready { IsReady ⟦<dyn Driver as Driver>⟧ store.new }
+    ensures same { length (members store.new.drivers) ≡ length (members store.old.drivers) }
+    ensures moves { HasMovedOver ⟦<dyn Driver as Driver>⟧ table.now store.old store.new }
+{
+    match make_entry_apart(table, home, host, number, args, store, entity) {
+        Ok(value) => Ok(value),
+        Err(fault) => Err(fault),
+    }
+}
+
+/// Asks an entry that is called, a function, a method or a factory, for a module, of an object or of none, with the
+/// values that its driver is handed, and answers its value. The operands from which they come needn't stand on a stack,
+/// and are all still there then.
+///
+/// What is listed, when the driver isn't asked, and the errors are as `ask` says.
+#[inline(always)]
+pub fn ask_called(
+    table: &Table,
+    home: u32,
+    host: &HostUse,
+    object: Option<u64>,
+    args: &[Value],
+    store: &mut Store,
+    entity: EntityNo,
+) -> Result<Slot, Fault>
+    requires entry { AsksEntry table.now home (Ask entity) host.now }
+    requires called { is_called_by host.now.role host.now.member ≡ true }
+    requires drivers { DriversThere table.now (length (members store.old.drivers)) }
+    requires ready { IsReady ⟦<dyn Driver as Driver>⟧ store.old }
+    requires object_live { IsLiveOption
+        (driver_state ⟦<dyn Driver as Driver>⟧ store.old host.now.driver) object }
+    requires args_live { AreLive (driver_state ⟦<dyn Driver as Driver>⟧ store.old host.now.driver)
+        args.now }
+    ensures called { (ops : List Slot) → object_in (receiver_of host.now ops) ≡ Ok object
+        → values_of host.now.driver host.now.params (arguments_in host.now ops) ≡ args.now
+        → (nesting : ℕ) → StoreTold ⟦<dyn Driver as Driver>⟧ (asks (setting_of table.now nesting) home (Ask entity)
+        (reverse ops)) store.old (done result) store.new }
+    ensures enough { StillGives ⟦<dyn Driver as Driver>⟧ store.old store.new }
+    ensures ready { IsReady ⟦<dyn Driver as Driver>⟧ store.new }
+    ensures same { length (members store.new.drivers) ≡ length (members store.old.drivers) }
+    ensures moves { HasMovedOver ⟦<dyn Driver as Driver>⟧ table.now store.old store.new }
+{
+    match host.role {
+        Role::Calling(number) => {
+            call_entry(table, home, host, number, object, args, store, entity)
+        }
+        Role::Making(number) => make_entry(table, home, host, number, args, store, entity),
+        Role::Property(_) => unreachable!(),
+    }
 }

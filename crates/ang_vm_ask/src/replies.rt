@@ -106,6 +106,28 @@ fn take_value_apart(
     accept(store, slot_from(driver, of, &value))
 }
 
+/// The same, with copies of what goes in and out, so that neither stands in memory where a number is taken.
+#[inline(always)]
+fn take_value_with_copies(
+    store: &mut Store,
+    driver: u32,
+    of: HostValueType,
+    value: Value,
+) -> Result<Slot, Fault>
+    requires live { IsLiveValue (driver_state ⟦<dyn Driver as Driver>⟧ store.old driver) value }
+    requires sound { IsSound (driver_state ⟦<dyn Driver as Driver>⟧ store.old driver) }
+    ensures told { StoreTold ⟦<dyn Driver as Driver>⟧ (accepted (slot_of driver of value)) store.old
+        (done result) store.new }
+    ensures enough { (vs : List Slot) → CanGive vs (world_of ⟦<dyn Driver as Driver>⟧ store.old)
+        → CanGive (with_result result vs) (world_of ⟦<dyn Driver as Driver>⟧ store.new) }
+    ensures moves { HasMoved ⟦<dyn Driver as Driver>⟧ store.old store.new }
+{
+    match take_value_apart(store, driver, of, value) {
+        Ok(slot) => Ok(slot),
+        Err(fault) => Err(fault),
+    }
+}
+
 /// The same, with a number of the type `i64` told from all others first: it needs no test and nothing holds it.
 #[inline(always)]
 fn take_value(
@@ -127,10 +149,10 @@ fn take_value(
             if is_int64(of) {
                 Ok(Slot::Bits(int64_bits(number)))
             } else {
-                take_value_apart(store, driver, of, Value::Int(number))
+                take_value_with_copies(store, driver, of, Value::Int(number))
             }
         }
-        other => take_value_apart(store, driver, of, other),
+        other => take_value_with_copies(store, driver, of, other),
     }
 }
 

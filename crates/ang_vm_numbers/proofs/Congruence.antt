@@ -8,7 +8,8 @@ use lib.IntN.{*ℤ_comm, +ℤ_idl}
 use Rattle.std.proofs.lemmas.Int.{ints, int_rem_euclid_is, of_z-to_z}
 use Rattle.ang_kinds.specs.declared.primitive.Primitive.{Primitive}
 use Rattle.ang_kinds.specs.declared.primitive.Primitive.TheVariants.{I8, I16, I32, I64, U8, U16, U32, U64, Bool as Truth}
-use Rattle.ang_meaning.specs.Numbers.{is_signed, number, number_of, bits_of}
+use Rattle.ang_meaning.specs.Numbers.{number, number_of, bits_of}
+use Rattle.ang_kinds.specs.Primitives.{is_signed}
 
 -- a and b differ by a multiple of m
 pub record Same (m : ℕ) (a b : ℤ) : Type 0 where

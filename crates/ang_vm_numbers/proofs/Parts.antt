@@ -7,7 +7,8 @@ use Rattle.std.proofs.Math.Nat.{mod-le}
 use Rattle.ang_kinds.specs.declared.primitive.Primitive.{Primitive}
 use Rattle.ang_kinds.specs.declared.primitive.Primitive.TheVariants.{I8, I16, I32, I64, U64}
 use Rattle.ang_kinds.specs.declared.fault.Fault.{Fault}
-use Rattle.ang_meaning.specs.Numbers.{is_signed, number, number_of, bits_of, converted, divided}
+use Rattle.ang_meaning.specs.Numbers.{number, number_of, bits_of, converted, divided}
+use Rattle.ang_kinds.specs.Primitives.{is_signed}
 use Rattle.ang_vm_numbers.specs.Answers.{answer_of, unless}
 use Rattle.ang_vm_numbers.proofs.Congruence.{same_left, same_written, bits_same}
 

@@ -6,7 +6,8 @@ use Rattle.ang_kinds.specs.declared.primitive.Primitive.{Primitive}
 use Rattle.ang_kinds.specs.declared.value.Value.TheVariants.{Int}
 use Rattle.ang_meaning.specs.declared.slot.Slot.TheVariants.{Bits}
 use Rattle.ang_meaning.specs.declared.host.HostValueType.TheVariants.{Plain}
-use Rattle.ang_meaning.specs.Numbers.{is_signed, bits_of, converted}
+use Rattle.ang_meaning.specs.Numbers.{bits_of, converted}
+use Rattle.ang_kinds.specs.Primitives.{is_signed}
 use Rattle.ang_meaning.specs.Hosts.{is_within, if_within, slot_of}
 use Rattle.ang_vm_numbers.proofs.Congruence.{bits_same, same_written}
 

@@ -1,6 +1,7 @@
 //! Numbers brought into a type.
 ghost use Rattle.std.specs.Prelude.{◌≡◌, ◌≢◌, ◌<◌};
-ghost use Rattle.ang_meaning.specs.Numbers.{converted, negated, complemented, is_signed, width_of, least};
+ghost use Rattle.ang_meaning.specs.Numbers.{converted, negated, complemented, least};
+ghost use Rattle.ang_kinds.specs.Primitives.{is_signed, width_of};
 
 use ang_kinds::Prim;
 

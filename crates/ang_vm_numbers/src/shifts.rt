@@ -1,7 +1,8 @@
 //! Shifts, whose count is taken modulo the type's width.
 ghost use Rattle.std.specs.Prelude.{◌≡◌, ◌<◌, ◌*◌, ◌/◌, ◌%◌, ◌^◌, pos};
 ghost use Rattle.std.specs.Int.{int_div_euclid};
-ghost use Rattle.ang_meaning.specs.Numbers.{bits_of, number_of, width_of};
+ghost use Rattle.ang_meaning.specs.Numbers.{bits_of, number_of};
+ghost use Rattle.ang_kinds.specs.Primitives.{width_of};
 
 use crate::conversions::{convert, is_signed, width};
 use ang_kinds::Prim;

@@ -1,6 +1,7 @@
 //! Values between a script and its drivers.
 ghost use Rattle.std.specs.Prelude.{◌≡◌, ◌&&◌, nat_lt, ◌^◌, pos, Some};
-ghost use Rattle.ang_meaning.specs.Numbers.{is_signed, width_of, bits_of};
+ghost use Rattle.ang_meaning.specs.Numbers.{bits_of};
+ghost use Rattle.ang_kinds.specs.Primitives.{is_signed, width_of};
 ghost use Rattle.ang_meaning.specs.Hosts.{plain_value, value_of, is_within, is_unsigned, if_within, slot_of};
 ghost use Rattle.ang_meaning.specs.declared.host.HostValueType.TheVariants.{Plain, Handle};
 ghost use Rattle.ang_kinds.specs.declared.value.Value.TheVariants.{Int, Uint, Bool as Truth, Key};

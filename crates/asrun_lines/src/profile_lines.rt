@@ -1,6 +1,8 @@
 //! The lines of a profile.
 ghost use Rattle.std.specs.Prelude.{◌≡◌, option_map};
-ghost use Rattle.asrun_lines.specs.ProfileLines.{entry, type_of, member_of, own_of, enumeration_of, enum_value_of, group_of, entry_behind, entry_of};
+ghost use Rattle.asrun_lines.specs.Fields.{mask_of};
+ghost use Rattle.asrun_lines.specs.Limits.{limit_of};
+ghost use Rattle.asrun_lines.specs.ProfileLines.{DefaultMask, Limit, Factory, Method, Property, Function, Posted, Global, entry, type_of, member_of, own_of, enumeration_of, enum_value_of, group_of, entry_behind, entry_of};
 
 use crate::fields::{field, last_field, mask, number, rest, signed};
 use crate::limits::{LimitLine, limit};
@@ -163,45 +165,107 @@ fn group_line(text: &[u8]) -> Option<ProfileLine<'_>>
     Some(ProfileLine::Group { name })
 }
 
+/// `M`, after the word `mask`
+fn mask_line(text: &[u8]) -> Option<ProfileLine<'_>>
+    ensures exact { option_map entry result ≡ option_map DefaultMask (mask_of text.now) }
+{
+    let mask = mask(text)?;
+    Some(ProfileLine::Mask(mask))
+}
+
+/// `KIND N`, after the word `limit`
+fn limit_line(text: &[u8]) -> Option<ProfileLine<'_>>
+    ensures exact { option_map entry result ≡ option_map Limit (limit_of text.now) }
+{
+    let limit = limit(text)?;
+    Some(ProfileLine::Limit(limit))
+}
+
+/// `TYPE F DECL`, after the word `factory`
+fn factory_line(text: &[u8]) -> Option<ProfileLine<'_>>
+    ensures exact { option_map entry result
+        ≡ option_map (λ m. Factory m.0 m.1 m.2) (member_of text.now) }
+{
+    let (type_name, f, decl) = member(text)?;
+    Some(ProfileLine::Factory { type_name, f, decl })
+}
+
+/// `TYPE F DECL`, after the word `method`
+fn method_line(text: &[u8]) -> Option<ProfileLine<'_>>
+    ensures exact { option_map entry result
+        ≡ option_map (λ m. Method m.0 m.1 m.2) (member_of text.now) }
+{
+    let (type_name, f, decl) = member(text)?;
+    Some(ProfileLine::Method { type_name, f, decl })
+}
+
+/// `TYPE F DECL`, after the word `property`
+fn property_line(text: &[u8]) -> Option<ProfileLine<'_>>
+    ensures exact { option_map entry result
+        ≡ option_map (λ m. Property m.0 m.1 m.2) (member_of text.now) }
+{
+    let (type_name, f, decl) = member(text)?;
+    Some(ProfileLine::Property { type_name, f, decl })
+}
+
+/// `DRIVER F DECL`, after the word `function`
+fn function_line(text: &[u8]) -> Option<ProfileLine<'_>>
+    ensures exact { option_map entry result
+        ≡ option_map (λ o. Function o.0 o.1 o.2) (own_of text.now) }
+{
+    let (driver, f, decl) = own(text)?;
+    Some(ProfileLine::Function { driver, f, decl })
+}
+
+/// `DRIVER F DECL`, after the word `posted`
+fn posted_line(text: &[u8]) -> Option<ProfileLine<'_>>
+    ensures exact { option_map entry result
+        ≡ option_map (λ o. Posted o.0 o.1 o.2) (own_of text.now) }
+{
+    let (driver, f, decl) = own(text)?;
+    Some(ProfileLine::Posted { driver, f, decl })
+}
+
+/// `DRIVER F DECL`, after the word `global`
+fn global_line(text: &[u8]) -> Option<ProfileLine<'_>>
+    ensures exact { option_map entry result
+        ≡ option_map (λ o. Global o.0 o.1 o.2) (own_of text.now) }
+{
+    let (driver, f, decl) = own(text)?;
+    Some(ProfileLine::Global { driver, f, decl })
+}
+
 /// What a line spells after its first word.
 #[tactic(auto, unfolding(crate::specs::ProfileLines::entry_behind))]
 fn line_behind<'a>(word: &[u8], text: &'a [u8]) -> Option<ProfileLine<'a>>
     ensures exact { option_map entry result ≡ entry_behind word.now text.now }
 {
     if word == b"mask".as_slice() {
-        let mask = mask(text)?;
-        return Some(ProfileLine::Mask(mask));
+        return mask_line(text);
     }
     if word == b"limit".as_slice() {
-        let limit = limit(text)?;
-        return Some(ProfileLine::Limit(limit));
+        return limit_line(text);
     }
     if word == b"type".as_slice() {
         return type_line(text);
     }
     if word == b"factory".as_slice() {
-        let (type_name, f, decl) = member(text)?;
-        return Some(ProfileLine::Factory { type_name, f, decl });
+        return factory_line(text);
     }
     if word == b"method".as_slice() {
-        let (type_name, f, decl) = member(text)?;
-        return Some(ProfileLine::Method { type_name, f, decl });
+        return method_line(text);
     }
     if word == b"property".as_slice() {
-        let (type_name, f, decl) = member(text)?;
-        return Some(ProfileLine::Property { type_name, f, decl });
+        return property_line(text);
     }
     if word == b"function".as_slice() {
-        let (driver, f, decl) = own(text)?;
-        return Some(ProfileLine::Function { driver, f, decl });
+        return function_line(text);
     }
     if word == b"posted".as_slice() {
-        let (driver, f, decl) = own(text)?;
-        return Some(ProfileLine::Posted { driver, f, decl });
+        return posted_line(text);
     }
     if word == b"global".as_slice() {
-        let (driver, f, decl) = own(text)?;
-        return Some(ProfileLine::Global { driver, f, decl });
+        return global_line(text);
     }
     if word == b"enum".as_slice() {
         return enumeration_line(text);

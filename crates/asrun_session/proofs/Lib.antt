@@ -1,5 +1,6 @@
 pub mod Added
 pub mod Appending
+pub mod Starts
 pub mod Doing
 pub mod Held
 pub mod LastEnds

@@ -1,4 +1,5 @@
 pub mod Acts
+pub mod Starts
 pub mod Deeds
 pub mod Drivers
 pub mod Engines

@@ -1,9 +1,9 @@
 -- The limits that a profile sets (docs/FORMATS.md, "Profile").
-use Rattle.std.specs.Prelude.{ℕ, List, [], ◌∷◌, Option, Some, None, if◌then◌else◌}
+use Rattle.std.specs.Prelude.{ℕ, List, [], ◌∷◌, Option, Some, if◌then◌else◌}
 use Rattle.ang_meaning.specs.World.{Bounds}
 use Rattle.ang_heap.specs.declared.limits.Limits.{Limits}
 use Rattle.asrun_lines.specs.Lines.{shown_of, is_skipped}
-use Rattle.asrun_lines.specs.ProfileLines.{Entry, DefaultMask, Limit, HostType, Factory, Method, Property, Function, Posted, Global, Enumeration, EnumValue, Group, EndGroup, Blank, entry_of}
+use Rattle.asrun_lines.specs.ProfileLines.{Entry, Limit, entry_of}
 use Rattle.asrun_lines.specs.declared.limits.LimitKind.{LimitKind}
 use Rattle.asrun_lines.specs.declared.limits.LimitKind.TheVariants.{Events, Slots, Objects}
 use Rattle.asrun_lines.specs.declared.limits.LimitLine.{LimitLine}
@@ -28,21 +28,8 @@ with_bound b limit = bound_put b limit.most limit.kind
 
 -- the limits after a line
 abbrev pub entry_limits : Limits → Option Entry → Limits
-entry_limits l None = l
-entry_limits l (Some (DefaultMask m)) = l
 entry_limits l (Some (Limit limit)) = with_limit l limit
-entry_limits l (Some (HostType name driver)) = l
-entry_limits l (Some (Factory t f decl)) = l
-entry_limits l (Some (Method t f decl)) = l
-entry_limits l (Some (Property t f decl)) = l
-entry_limits l (Some (Function driver f decl)) = l
-entry_limits l (Some (Posted driver f decl)) = l
-entry_limits l (Some (Global driver f decl)) = l
-entry_limits l (Some (Enumeration name)) = l
-entry_limits l (Some (EnumValue enumeration name value)) = l
-entry_limits l (Some (Group name)) = l
-entry_limits l (Some EndGroup) = l
-entry_limits l (Some Blank) = l
+entry_limits l _ = l
 
 abbrev pub line_limits : Limits → List ℕ → Limits
 line_limits l line = if is_skipped line then l else entry_limits l (entry_of line)

@@ -36,9 +36,7 @@ grouped n (Some why) after = Err (GroupRefused n why)
 
 abbrev pub is_void : TypeRef → Bool
 is_void ref.Void = true
-is_void (ref.Plain p) = false
-is_void (ref.Enumeration name) = false
-is_void (ref.Object name shape const_object const_handle) = false
+is_void _ = false
 
 -- whether an entry is there, and has no result
 abbrev pub gives_none : Option view.Entry → Bool

@@ -27,7 +27,7 @@ use Rattle.asrun_session.specs.Writing.{HasFront}
 use Rattle.asrun_session.specs.declared.ending.IoFault.{IoFault}
 use Rattle.asrun_session.specs.declared.ending.IoFault.TheVariants as io
 use Rattle.asrun_session.specs.declared.ending.Status.{Status}
-use Rattle.asrun_session.specs.declared.ending.Status.TheVariants.{AllOk, SomeRefused, BadInput, Memory}
+use Rattle.asrun_session.specs.declared.ending.Status.TheVariants.{BadInput, Memory}
 use Rattle.asrun_session.specs.declared.ending.SessionError.{SessionError}
 use Rattle.asrun_session.specs.declared.ending.SessionError.TheVariants as stop
 use Rattle.asrun_session.specs.declared.profile.ProfileFault.{ProfileFault}
@@ -177,12 +177,10 @@ module _ {V : Type 0} {P : V → Type 0} (m : Meanings P) (xs ys : List (DynBox 
 
   -- What a run over these texts prints and asks, by its outcome.
   abbrev pub Tells : Result Start (List ℕ) → List ℕ → ℕ → Result Status IoFault → Type 0
-  Tells start session budget (Ok AllOk) = Ends start session budget AllOk
-  Tells start session budget (Ok SomeRefused) = Ends start session budget SomeRefused
-  Tells start session budget (Ok BadInput) = Ends start session budget BadInput
   Tells start session budget (Ok Memory) = Stops start session budget
   Tells start session budget (Err io.Write) = Stops start session budget
   Tells start session budget (Err io.Read) = Unread start
+  Tells start session budget (Ok status) = Ends start session budget status
 
 -- a profile that was loaded printed nothing, and one that wasn't said why
 abbrev pub Starts : Result Start (List ℕ) → Start → Option (List ℕ) → Option (List ℕ) → Bool → Type 0

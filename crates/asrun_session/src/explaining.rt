@@ -22,7 +22,9 @@ fn profile_fault(alloc: Global, text: &[u8]) -> Option<ProfileFault>
         return None;
     }
     let mut profile = LoadedProfile::new(alloc);
-    match load(&mut profile, text) {
+    let ended = load(&mut profile, text);
+    drop(profile);
+    match ended {
         Err(ProfileStop::Fault(fault)) => Some(fault),
         Err(ProfileStop::Memory) => None,
         Ok(()) => None,
@@ -54,7 +56,9 @@ fn passed<'a>(alloc: Global, line: &[u8], after: &'a [u8]) -> Result<(u64, &'a [
         return Ok((1, after));
     }
     let act = read_act(alloc, 1, line, after)?;
-    Ok((act.lines.saturating_add(1), act.rest))
+    let (lines, rest) = (act.lines, act.rest);
+    drop(act);
+    Ok((lines.saturating_add(1), rest))
 }
 
 /// The number of the first line of a session that is of another form. None also where the session is too long, which

@@ -16,6 +16,47 @@ const PROFILE_WORDS: &str = "a line that begins with mask, limit, type, factory,
 const SESSION_WORDS: &str = "a line that begins with module, mask, section, build, bind, unbind, \
                              call, discard, remove or budget";
 
+/// The forms of the lines of a profile, by their first words.
+const PROFILE_FORMS: &[(&str, &str)] = &[
+    ("mask", "mask MASK, of eight hexadecimal digits"),
+    (
+        "limit",
+        "limit KIND MOST, of events, slots or objects, and a number below 2^63",
+    ),
+    ("type", "type NAME DRIVER"),
+    ("factory", "factory TYPE F DECL"),
+    ("method", "method TYPE F DECL"),
+    ("property", "property TYPE F DECL"),
+    ("function", "function DRIVER F DECL"),
+    ("posted", "posted DRIVER F DECL"),
+    ("global", "global DRIVER F DECL"),
+    ("enum", "enum NAME"),
+    (
+        "value",
+        "value ENUM NAME NUMBER, of a number from -2147483648 to 2147483647",
+    ),
+    ("group", "group NAME"),
+    ("endgroup", "endgroup alone"),
+    ("blank", "blank alone"),
+];
+
+/// The forms of the lines of a session, by their first words.
+const SESSION_FORMS: &[(&str, &str)] = &[
+    ("module", "module NAME MASK, of eight hexadecimal digits"),
+    ("mask", "mask NAME MASK, of eight hexadecimal digits"),
+    ("section", "section NAME N, with N lines of script after it"),
+    ("build", "build NAME"),
+    ("bind", "bind NAME INDEX EXPORTER DECL"),
+    ("unbind", "unbind NAME INDEX"),
+    (
+        "call",
+        "call NAME (V,V) DECL, with values as 7, 7u or true, and no space between",
+    ),
+    ("discard", "discard NAME"),
+    ("remove", "remove NAME, of a group of the profile"),
+    ("budget", "budget N, of 1 to 10 digits"),
+];
+
 /// The first word of a line.
 fn first_word(line: &[u8]) -> &[u8] {
     match field(line) {
@@ -24,114 +65,24 @@ fn first_word(line: &[u8]) -> &[u8] {
     }
 }
 
-/// The form of an entry that has a declaration, by its word.
-fn declared_form(word: &[u8]) -> Option<&'static str> {
-    if word == b"factory".as_slice() {
-        return Some("factory TYPE F DECL");
-    }
-    if word == b"method".as_slice() {
-        return Some("method TYPE F DECL");
-    }
-    if word == b"property".as_slice() {
-        return Some("property TYPE F DECL");
-    }
-    if word == b"function".as_slice() {
-        return Some("function DRIVER F DECL");
-    }
-    if word == b"posted".as_slice() {
-        return Some("posted DRIVER F DECL");
-    }
-    if word == b"global".as_slice() {
-        return Some("global DRIVER F DECL");
-    }
-    None
-}
-
-/// The form of any other line of a profile, by its word.
-fn plain_form(word: &[u8]) -> Option<&'static str> {
-    if word == b"mask".as_slice() {
-        return Some("mask MASK, of eight hexadecimal digits");
-    }
-    if word == b"limit".as_slice() {
-        return Some("limit KIND MOST, of events, slots or objects, and a number below 2^63");
-    }
-    if word == b"type".as_slice() {
-        return Some("type NAME DRIVER");
-    }
-    if word == b"enum".as_slice() {
-        return Some("enum NAME");
-    }
-    if word == b"value".as_slice() {
-        return Some("value ENUM NAME NUMBER, of a number from -2147483648 to 2147483647");
-    }
-    if word == b"group".as_slice() {
-        return Some("group NAME");
-    }
-    if word == b"endgroup".as_slice() {
-        return Some("endgroup alone");
-    }
-    if word == b"blank".as_slice() {
-        return Some("blank alone");
+/// The form of a line that begins with this word.
+fn form_of(forms: &[(&str, &'static str)], word: &[u8]) -> Option<&'static str> {
+    for form in forms {
+        if form.0.as_bytes() == word {
+            return Some(form.1);
+        }
     }
     None
 }
 
 /// What is wanted in place of a line of a profile.
 pub fn profile_form(line: &[u8]) -> &'static str {
-    let word = first_word(line);
-    match declared_form(word).or(plain_form(word)) {
-        Some(form) => form,
-        None => PROFILE_WORDS,
-    }
-}
-
-/// The form of a line that makes, fills and ends modules, by its word.
-fn module_form(word: &[u8]) -> Option<&'static str> {
-    if word == b"module".as_slice() {
-        return Some("module NAME MASK, of eight hexadecimal digits");
-    }
-    if word == b"mask".as_slice() {
-        return Some("mask NAME MASK, of eight hexadecimal digits");
-    }
-    if word == b"section".as_slice() {
-        return Some("section NAME N, with N lines of script after it");
-    }
-    if word == b"build".as_slice() {
-        return Some("build NAME");
-    }
-    if word == b"discard".as_slice() {
-        return Some("discard NAME");
-    }
-    if word == b"remove".as_slice() {
-        return Some("remove NAME, of a group of the profile");
-    }
-    None
-}
-
-/// The form of any other line of a session, by its word.
-fn calling_form(word: &[u8]) -> Option<&'static str> {
-    if word == b"bind".as_slice() {
-        return Some("bind NAME INDEX EXPORTER DECL");
-    }
-    if word == b"unbind".as_slice() {
-        return Some("unbind NAME INDEX");
-    }
-    if word == b"call".as_slice() {
-        return Some("call NAME (V,V) DECL, with values as 7, 7u or true, and no space between");
-    }
-    if word == b"budget".as_slice() {
-        return Some("budget N, of 1 to 10 digits");
-    }
-    None
+    form_of(PROFILE_FORMS, first_word(line)).unwrap_or(PROFILE_WORDS)
 }
 
 /// What is wanted in place of a line of a session.
 pub fn session_form(line: &[u8]) -> &'static str {
-    let word = first_word(line);
-    match module_form(word).or(calling_form(word)) {
-        Some(form) => form,
-        None => SESSION_WORDS,
-    }
+    form_of(SESSION_FORMS, first_word(line)).unwrap_or(SESSION_WORDS)
 }
 
 /// What is wanted of a registration that was refused.

@@ -13,6 +13,7 @@ mod explaining;
 mod forms;
 mod inquiries;
 mod kept;
+pub mod laws;
 mod limits;
 mod printing;
 mod profile;

@@ -20,8 +20,7 @@ const BODIES: Module = Module {
     ..BLANK
 };
 
-/// The body that is called, its budget, and what it gives; the bodies that ran, each with the place after its own; and the
-/// ticks that are left.
+/// A body, its budget, and what it gives; the bodies that ran, each with the place after its own; and the ticks left.
 type Row = (
     usize,
     u64,

@@ -104,6 +104,14 @@ fn machine_of(alloc: Global, drivers: Drivers, modules: Vec<Box<Vec<Slot>>>) -> 
     }
 }
 
+/// Puts a console, a counter and a cell behind these drivers.
+fn push_drivers(alloc: Global, boxes: &mut Vec<Box<dyn Driver>>) -> Result<(), AllocError> {
+    boxes.push(Box::new(alloc, Console::new(alloc)?)?)?;
+    boxes.push(Box::new(alloc, Counter::new(alloc)?)?)?;
+    boxes.push(Box::new(alloc, Cell::new(alloc)?)?)?;
+    Ok(())
+}
+
 /// The machine with a console, a counter and a cell, and with the globals of all modules.
 pub fn with_drivers(alloc: Global) -> Result<Option<Machine>, AllocError>
     ensures rest { IfOk result (λ made. IfSome made (IsAtRest ⟦<dyn Driver as Driver>⟧)) }
@@ -113,9 +121,7 @@ pub fn with_drivers(alloc: Global) -> Result<Option<Machine>, AllocError>
         return Ok(None);
     }
     let mut boxes: Vec<Box<dyn Driver>> = Vec::new(alloc);
-    boxes.push(Box::new(alloc, Console::new(alloc)?)?)?;
-    boxes.push(Box::new(alloc, Counter::new(alloc)?)?)?;
-    boxes.push(Box::new(alloc, Cell::new(alloc)?)?)?;
+    push_drivers(alloc, &mut boxes)?;
     match Drivers::new(boxes) {
         Ok(drivers) => Ok(Some(machine_of(alloc, drivers, globals))),
         Err(_) => Ok(None),

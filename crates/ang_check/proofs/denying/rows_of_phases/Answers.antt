@@ -19,6 +19,6 @@ returns c =
     c.as_slice-2.ensures.value ∙ c.in_ok-refused.ensures.exact in
     record {
       exact =
-          found_as (λ rows. rows.items) _ _ c.rows_over.result c.rows_over.ensures.exact
+          found_as (λ rows. rows.items) _ _ c.rows_over-rows.result c.rows_over-rows.ensures.exact
           (λ i. flat_map (rows_for list mask (scope_of view (named i))) (refused i));
     }

@@ -1,14 +1,17 @@
 use Rattle.std.proofs.Common.{◌≡◌, ℕ, List, Option, None, Some, Bor, subst, sym, ap, ◌∙◌}
 use Rattle.std.specs.Prelude.{option_copied, option_map, slice_index_or}
-use Rattle.ang_check_denials.specs.Fitting.{table_of}
+use Rattle.ang_check_contest.specs.Told.{table_of}
 use Rattle.ang_check_denials.specs.Made.{made}
 use Rattle.ang_check_denials.proofs.Taking.{made_tells}
 use Rattle.ang_check_denials.proofs.meanings.made_wins.Goals as goal
 
-pub would_win-requires-clause-told : goal.would_win-requires-clause-told
-would_win-requires-clause-told c =
+pub would_win-requires : goal.would_win-requires
+would_win-requires c =
     let R = c.args.masked.now.list in
     let k = c.in-Some.candidate.now in
-    made_tells R c.args.added c.args.lineage.now c.args.masked.now.kinds c.args.types.now (table_of c.args.table.now)
-    (option_map {T = Bor (List ℕ)} {U = List ℕ} (λ row. row.now) c.row.result) k c.as_slice.result.now c.told_by-told.result c.requires.table c.row.ensures.says
-    (sym c.made.ensures.exact ∙ ap option_copied c.in-Some.is) c.as_slice.ensures.same c.told_by-told.ensures.exact
+    record {
+      told =
+          made_tells R c.args.added c.args.lineage.now c.args.masked.now.kinds c.args.types.now (table_of c.args.table.now)
+          (option_map {T = Bor (List ℕ)} {U = List ℕ} (λ row. row.now) c.row.result) k c.as_slice-params.result.now c.requires.table c.row.ensures.says
+          (sym c.made.ensures.exact ∙ ap option_copied c.in-Some.is) c.as_slice-params.ensures.same;
+    }

@@ -1,14 +1,14 @@
-use Rattle.std.proofs.Common.{◌≡◌, ◌∙◌, ap, length, Some, rules}
+use Rattle.std.proofs.Common.{◌≡◌, ◌∷◌, rules}
 use Rattle.ang_vm_stack.specs.Tables.{method_in}
-use Rattle.ang_engine_modules.specs.Trees.{methods_by}
 use Rattle.ang_engine_modules.proofs.classes.class_code.Goals as goal
 
 pub returns : goal.returns
 returns c =
-    let chain : c.add_chain.new.found.items ≡ methods_by c.args.home c.args.classes.now (length c.args.classes.now) (Some c.args.class.now) = search rules in
+    let fields : c.from_vec.result ≡ c.args.parts.fields.items = search rules in
+    let under : c.from_vec-2.result ≡ c.args.number ∷ c.args.class.above = search rules in
     record {
       exact = λ j. record {
-        class = c.in_ok-class.ensures.exact j;
-        method = λ s. (c.in_ok-methods.ensures.same s ∙ ap (λ l. method_in l s) chain) j;
+        class = record { number = c.args.number; rank = c.args.class.rank; fields = fields j; under = under j };
+        method = λ s. method_in c.args.parts.methods s;
       };
     }

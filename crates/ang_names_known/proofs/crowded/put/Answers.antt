@@ -1,4 +1,4 @@
-use Rattle.std.proofs.Common.{◌≡◌, ◌++◌, ◌∷◌, [], ℕ, List, Vec, length, map, sym, ap, rules, ◌∙◌}
+use Rattle.std.proofs.Common.{◌≡◌, ◌++◌, ◌∷◌, [], ℕ, List, Vec, length, map, sym, ap, subst, rules, ◌∙◌}
 use Rattle.std.specs.declared.alloc.Global.{Global}
 use Rattle.std.proofs.lemmas.List.{length-map, map-append}
 use Rattle.std.proofs.lemmas.Result.{on_ok_weaker}
@@ -7,6 +7,7 @@ use Rattle.ang_names_known.specs.declared.crowded.CrowdedMethods.{CrowdedMethods
 use Rattle.ang_names_known.specs.declared.methods.MethodPlace.{MethodPlace}
 use Rattle.ang_names_known.specs.declared.names.Family.{Family}
 use Rattle.ang_names_known.specs.Crowded.{lists_of}
+use Rattle.ang_names_known.specs.MethodPlaces.{AreFound, found_in}
 use Rattle.ang_names_known.proofs.CrowdedLists.{right_more}
 use Rattle.ang_names_known.proofs.crowded.put.Goals as goal
 
@@ -16,6 +17,7 @@ returns c =
     let old : CrowdedMethods = c.args.crowded.now in
     let new : CrowdedMethods = record { lists = c.push.new.self; numbers = c.push-2.new.self } in
     let list : List MethodPlace = c.in_ok-list.list.items in
+    let same : list ≡ c.in_ok-found.found.items = search rules in
     let number : ℕ = c.len-number.result in
     let items : Vec MethodPlace Global → List MethodPlace = λ v. v.items in
     let pushed : lists_of new ≡ lists_of old ++ list ∷ [] = ap (map items) c.in_ok-push.ensures.items ∙ map-append items old.lists.items (c.in_ok-list.list ∷ []) in
@@ -25,6 +27,6 @@ returns c =
       right = on_ok_weaker c.push-2.result
           (λ (puts : Puts old.numbers c.push-2.new.self c.args.family c.args.name.now number).
           right_more fs old new c.args.family number c.args.name.now list c.requires.right
-          (record { there = c.in_ok-list.ensures.there; exact = c.in_ok-list.ensures.exact }) pushed counted puts)
+          (record { there = subst (AreFound fs) (sym same) c.in_ok-found.ensures.there; exact = ap (found_in fs) same ∙ c.in_ok-found.ensures.exact }) pushed counted puts)
           c.push-2.ensures.pushed;
     }

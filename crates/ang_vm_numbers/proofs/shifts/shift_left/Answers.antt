@@ -1,5 +1,5 @@
 use Rattle.std.proofs.Common.{◌%◌, ◌∙◌}
-use Rattle.ang_meaning.specs.Numbers.{width_of}
+use Rattle.ang_kinds.specs.Primitives.{width_of}
 use Rattle.ang_vm_numbers.proofs.Parts.{left_bits}
 use Rattle.ang_vm_numbers.proofs.shifts.shift_left.Goals as goal
 

@@ -1,6 +1,6 @@
 use Rattle.std.proofs.Common.{◌%◌, ◌∙◌, sym, w64}
 use Rattle.std.proofs.lemmas.Int.{to_z-of_z}
-use Rattle.ang_meaning.specs.Numbers.{width_of}
+use Rattle.ang_kinds.specs.Primitives.{width_of}
 use Rattle.ang_vm_numbers.proofs.Parts.{right_bits}
 use Rattle.ang_vm_numbers.proofs.shifts.shift_signed.Goals as goal
 

@@ -1,7 +1,7 @@
 use Rattle.std.proofs.Common.{sym, ap, ◌∙◌, ◌&&◌, w64}
 use Rattle.std.specs.Int.{cast_unsigned}
 use Rattle.std.proofs.lemmas.Int.{to_z-of_z}
-use Rattle.ang_meaning.specs.Numbers.{is_signed}
+use Rattle.ang_kinds.specs.Primitives.{is_signed}
 use Rattle.ang_meaning.specs.Hosts.{is_within}
 use Rattle.ang_vm_numbers.proofs.Signed.{signed_slot_is}
 use Rattle.ang_vm_numbers.proofs.values.signed_slot.Goals as goal

@@ -10,4 +10,5 @@ invariant_of-result c =
       c.in_ok-made.ensures.exact,
       subst (λ cs. (t : ℕ) → kinds_of (numbered t n.kinds.items) n.rows ≡ told_of (params_made cs)) (c.as_slice.ensures.value ∙ c.in_ok-made.ensures.exact)
           c.in_ok-numbered.ensures.rows,
+      c.in_ok-brought.ensures.exact,
     )

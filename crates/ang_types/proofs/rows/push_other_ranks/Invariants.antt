@@ -1,0 +1,8 @@
+use Rattle.std.proofs.Common.{◌≡◌, ◌++◌, drop}
+use Rattle.ang_types.specs.Rows.{ranks_for}
+use Rattle.ang_types.proofs.rows.push_other_ranks.Given as goal
+
+abbrev pub invariant-loop-kind : goal.invariant-loop-kind
+invariant-loop-kind l =
+    l.initial.row.items ++ ranks_for l.lineage l.argument l.kinds
+    ≡ l.row.items ++ ranks_for l.lineage l.argument (drop l.kind-index l.kinds)
