@@ -42,7 +42,7 @@ use Rattle.asremote.specs.declared.commands.Next.TheVariants as next
 use Rattle.asremote.specs.OwnLines.{own_line_of}
 use Rattle.asremote.specs.declared.own_lines.OwnLine.{OwnLine}
 use Rattle.asremote.proofs.OwnLines.{own_is_none}
-use Rattle.asremote.specs.Talk.{Says, Nothing, Does, Owns, Wrong, talk_from, behind_turn, ticks_after, Turned, Passed, Did, Limited, Told, Traced, Checked, Listed, LookedUp, Called, Missed, Unread, says_of, events_of, events_in, is_right, turn_text, turns_text, done_line, status_of}
+use Rattle.asremote.specs.Talk.{Says, Nothing, Does, Owns, Wrong, talk_from, behind_turn, ticks_after, Turned, Passed, Did, Limited, Told, Traced, Checked, Listed, LookedUp, Called, Missed, CalledUnheard, MissedUnheard, Unread, says_of, events_of, events_in, is_right, turn_text, turns_text, done_line, status_of}
 use Rattle.asremote.specs.Standing.{Standing, standing, BuildsNothing, TurnBuilds, list_turned}
 use Rattle.asremote.specs.Turns.{IsSaid, IsEnding, IsTaken, HasSameBuilds, Comes, ComesWith, Goes, Ends, GoesHalf, EndsHalf, TurnsHalf}
 use Rattle.asremote.specs.declared.turns.At.{At}
@@ -149,6 +149,8 @@ turned_within s (Listed name lines o) S e = same_within s.list S e
 turned_within s (LookedUp name decl found) S e = same_within s.list S e
 turned_within s (Called number args p ticks r) S e = same_within s.list S e
 turned_within s (Missed number args) S e = same_within s.list S e
+turned_within s (CalledUnheard number args p ticks r) S e = same_within s.list S e
+turned_within s (MissedUnheard number args) S e = same_within s.list S e
 turned_within s Unread S e = same_within s.list S e
 
 text_more : (ts : List Turned) (t : Turned) → turns_text (ts ++ t ∷ []) ≡ turns_text ts ++ turn_text t
@@ -218,6 +220,8 @@ module _ {V : Type 0} {P : V → Type 0} (m : Meanings P) (e f : Engine V P) whe
     turn_modules (LookedUp name decl found) h = ap (λ g. world_in m g) (sym h)
     turn_modules (Called number args p ticks r) h = h.takes
     turn_modules (Missed number args) h = ap (λ g. world_in m g) (sym h)
+    turn_modules (CalledUnheard number args p ticks r) h = h.takes
+    turn_modules (MissedUnheard number args) h = ap (λ g. world_in m g) (sym h)
     turn_modules Unread h = ap (λ g. world_in m g) (sym h)
 
     same_builds : HasSameBuilds m e f → BuildsNothing (standing m e ps) (standing m f qs)
@@ -237,6 +241,8 @@ module _ {V : Type 0} {P : V → Type 0} (m : Meanings P) (e f : Engine V P) whe
     turn_builds (LookedUp name decl found) h = none_built h
     turn_builds (Called number args p ticks r) h = same_builds h.numbers
     turn_builds (Missed number args) h = none_built h
+    turn_builds (CalledUnheard number args p ticks r) h = same_builds h.numbers
+    turn_builds (MissedUnheard number args) h = none_built h
     turn_builds Unread h = none_built h
 
     turn_list : (t : Turned) → Comes m e f t → list_in f ≡ list_turned (standing m e ps) t
@@ -250,6 +256,8 @@ module _ {V : Type 0} {P : V → Type 0} (m : Meanings P) (e f : Engine V P) whe
     turn_list (LookedUp name decl found) h = ap (λ g. list_in g) h
     turn_list (Called number args p ticks r) h = h.list
     turn_list (Missed number args) h = ap (λ g. list_in g) h
+    turn_list (CalledUnheard number args p ticks r) h = h.list
+    turn_list (MissedUnheard number args) h = ap (λ g. list_in g) h
     turn_list Unread h = ap (λ g. list_in g) h
 
     turn_does : (t : Turned) → ComesWith m e f ps qs t → TurnLeads (standing m e ps) t (standing m f qs)
@@ -277,6 +285,8 @@ module _ {V : Type 0} {P : V → Type 0} (m : Meanings P) (e f : Engine V P) whe
   turn_follows (LookedUp name decl found) h = none_asked (same_drivers h)
   turn_follows (Called number args p ticks r) h = h.follow
   turn_follows (Missed number args) h = none_asked (same_drivers h)
+  turn_follows (CalledUnheard number args p ticks r) h = h.follow
+  turn_follows (MissedUnheard number args) h = none_asked (same_drivers h)
   turn_follows Unread h = none_asked (same_drivers h)
 
 -- ---- what was done so far with the lines that were read

@@ -6,7 +6,7 @@ use Rattle.ang_engine.specs.declared.prepared.Prepared.{Prepared}
 use Rattle.asrun_session.specs.Deeds.{Ran, Set}
 use Rattle.asremote.specs.Conversation.{TurnsLead}
 use Rattle.asremote.specs.Standing.{Standing, BuildsNothing, KeepsFunctions, TurnBuilds}
-use Rattle.asremote.specs.Talk.{Turned, Passed, Did, Limited, Told, Traced, Checked, Listed, LookedUp, Called, Missed, Unread}
+use Rattle.asremote.specs.Talk.{Turned, Passed, Did, Limited, Told, Traced, Checked, Listed, LookedUp, Called, Missed, CalledUnheard, MissedUnheard, Unread}
 
 none_some : {A : Type 0} (x : A) → None ≡ Some x → ⊥
 none_some x e = cc
@@ -34,6 +34,8 @@ module _ (n : ℕ) (p : Prepared) where
   turn_stays s (LookedUp name decl (Err why)) after h = same_at s.functions after h.1
   turn_stays s (Called number args q ticks r) after h = same_at s.functions after h.1
   turn_stays s (Missed number args) after h = same_at s.functions after h.1
+  turn_stays s (CalledUnheard number args q ticks r) after h = same_at s.functions after h.1
+  turn_stays s (MissedUnheard number args) after h = same_at s.functions after h.1
   turn_stays s Unread after h = same_at s.functions after h
 
   pub turns_stay : (s after : Standing) (turns : List Turned) → TurnsLead s turns after → slice_get s.functions n ≡ Some p → slice_get after.functions n ≡ Some p
@@ -72,6 +74,8 @@ module _ (p : Prepared) where
   turn_gone s (LookedUp name decl found) after h = same_gone s after h
   turn_gone s (Called number args q ticks r) after h = same_gone s after h
   turn_gone s (Missed number args) after h = same_gone s after h
+  turn_gone s (CalledUnheard number args q ticks r) after h = same_gone s after h
+  turn_gone s (MissedUnheard number args) after h = same_gone s after h
   turn_gone s Unread after h = same_gone s after h
 
   pub turns_gone : (s after : Standing) (turns : List Turned) → TurnsLead s turns after → Gone s → Gone after

@@ -41,6 +41,10 @@ limit_none : (shown : List ℕ) (x : List ℕ × List ℕ) → field_of shown �
 unfolding session_line_of
 limit_none shown x is word = rw (is, word) refl
 
+unheard_none : (shown : List ℕ) (x : List ℕ × List ℕ) → field_of shown ≡ Some x → x.0 ≡ codes "unheard" → session_line_of shown ≡ None
+unfolding session_line_of
+unheard_none shown x is word = rw (is, word) refl
+
 -- what follows where this was chosen, and where the other was
 either : (b : Bool) (this other : Option OwnLine) (o : OwnLine) (G : Type 0) → (b ≡ true → G) → (other ≡ Some o → G) → (if b then this else other) ≡ Some o → G
 either true this other o G h more e = h refl
@@ -54,7 +58,8 @@ word_none shown x o is e =
     (either (bytes_eq x.0 (codes "check")) _ _ o (session_line_of shown ≡ None) (λ t. check_none shown x is ((bytes_eq-Decides x.0 (codes "check")).0 t))
     (either (bytes_eq x.0 (codes "list")) _ _ o (session_line_of shown ≡ None) (λ t. list_none shown x is ((bytes_eq-Decides x.0 (codes "list")).0 t))
     (either (bytes_eq x.0 (codes "limit")) _ _ o (session_line_of shown ≡ None) (λ t. limit_none shown x is ((bytes_eq-Decides x.0 (codes "limit")).0 t))
-    (λ n. absurd (none_some o n)))))) e
+    (either (bytes_eq x.0 (codes "unheard")) _ _ o (session_line_of shown ≡ None) (λ t. unheard_none shown x is ((bytes_eq-Decides x.0 (codes "unheard")).0 t))
+    (λ n. absurd (none_some o n))))))) e
 
 field_none : (shown : List ℕ) (o : OwnLine) (f : Option (List ℕ × List ℕ)) → field_of shown ≡ f → option_and_then (λ word. after_word word.0 word.1) f ≡ Some o
     → session_line_of shown ≡ None

@@ -240,3 +240,7 @@ err_turn (Err e) S T f h = f h
 pub ok_both : {A E : Type 0} (r : Result A E) (S : A → Type 0) (T : Type 0) (U : A → Type 0) → ((a : A) → S a → T → U a) → IfOk r S → OnOk r T → IfOk r U
 ok_both (Ok a) S T U f h k = f a h k
 ok_both (Err e) S T U f h k = tt
+
+-- as many are counted as are listed
+pub few_listed : (counted listed most : ℕ) → counted ≤ most → counted ≡ listed → listed ≤ most
+few_listed counted listed most h e = omega (arith, h, e)

@@ -27,7 +27,7 @@ use Rattle.asremote.specs.declared.commands.Next.TheVariants as next
 use Rattle.asremote.specs.declared.conversation.Step.{Step}
 use Rattle.asremote.specs.declared.conversation.Step.TheVariants as step
 use Rattle.asremote.specs.declared.turns.At.{At}
-use Rattle.asremote.specs.Talk.{Talk, talk_from, Turned, Passed, Did, Limited, Told, Traced, Checked, Listed, LookedUp, Called, Missed, Unread, says_of, events_in, turns_text, done_line, status_of}
+use Rattle.asremote.specs.Talk.{Talk, talk_from, Turned, Passed, Did, Limited, Told, Traced, Checked, Listed, LookedUp, Called, Missed, CalledUnheard, MissedUnheard, Unread, says_of, events_in, turns_text, done_line, status_of}
 use Rattle.asremote.specs.Standing.{Standing, KeepsFunctions, TurnBuilds, list_turned}
 use Rattle.asremote.specs.Turns.{TakesPrepared, TakesOne, TakesHalf, Stays}
 
@@ -102,6 +102,9 @@ ModulesLead s (LookedUp name decl found) after = s.world ≡ after
 ModulesLead s (Called number args p ticks r) after =
     TakesPrepared s.list s.world s.builds p args ticks r after
 ModulesLead s (Missed number args) after = s.world ≡ after
+ModulesLead s (CalledUnheard number args p ticks r) after =
+    TakesPrepared s.list s.world s.builds p args ticks r after
+ModulesLead s (MissedUnheard number args) after = s.world ≡ after
 ModulesLead s Unread after = s.world ≡ after
 
 -- What a turn does to all that stands. So `run N` calls what the look-up found that was answered N, and is

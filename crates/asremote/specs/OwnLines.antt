@@ -23,6 +23,14 @@ run_of text = do
   args ← arguments_of digits.1
   Some (own.Run number args)
 
+-- `unheard N (V,V)`
+unfoldable pub unheard_of : List ℕ → Option OwnLine
+unheard_of text = do
+  digits ← field_of text
+  number ← number_of digits.0
+  args ← arguments_of digits.1
+  Some (own.RunUnheard number args)
+
 -- a line of this first word, with more after it
 unfoldable pub after_word : List ℕ → List ℕ → Option OwnLine
 after_word word text =
@@ -31,6 +39,7 @@ after_word word text =
     else if bytes_eq word (codes "check") then option_map own.Check (last_field_of text)
     else if bytes_eq word (codes "list") then option_map own.Declarations (last_field_of text)
     else if bytes_eq word (codes "limit") then option_map own.Limit (limit_of text)
+    else if bytes_eq word (codes "unheard") then unheard_of text
     else None
 
 -- `used` or `trace` alone, or a line of one of those words

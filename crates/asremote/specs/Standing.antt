@@ -11,7 +11,7 @@ use Rattle.ang_engine_modules.specs.declared.reply.Refusal.{Refusal}
 use Rattle.ang_engine_modules.specs.declared.reply.Refusal.TheVariants.{Memory}
 use Rattle.asrun_session.specs.Deeds.{MovesBuilds, list_behind}
 use Rattle.ang_view.specs.Groups.{Grouped}
-use Rattle.asremote.specs.Talk.{Turned, Passed, Did, Limited, Told, Traced, Checked, Listed, LookedUp, Called, Missed, Unread}
+use Rattle.asremote.specs.Talk.{Turned, Passed, Did, Limited, Told, Traced, Checked, Listed, LookedUp, Called, Missed, CalledUnheard, MissedUnheard, Unread}
 
 -- The registration list with its groups; the modules; the number of the last build that was begun; for each
 -- module's place the number of its last build; and the functions that were looked up so far, in their order.
@@ -65,6 +65,10 @@ KeepsFunctions s (Called number args p ticks r) after =
     (slice_get s.functions number ≡ Some p) × (after ≡ s.functions)
 KeepsFunctions s (Missed number args) after =
     (slice_get s.functions number ≡ None) × (after ≡ s.functions)
+KeepsFunctions s (CalledUnheard number args p ticks r) after =
+    (slice_get s.functions number ≡ Some p) × (after ≡ s.functions)
+KeepsFunctions s (MissedUnheard number args) after =
+    (slice_get s.functions number ≡ None) × (after ≡ s.functions)
 KeepsFunctions s Unread after = after ≡ s.functions
 
 -- no build was begun
@@ -84,6 +88,8 @@ TurnBuilds s (Listed name lines o) after = BuildsNothing s after
 TurnBuilds s (LookedUp name decl found) after = BuildsNothing s after
 TurnBuilds s (Called number args p ticks r) after = BuildsNothing s after
 TurnBuilds s (Missed number args) after = BuildsNothing s after
+TurnBuilds s (CalledUnheard number args p ticks r) after = BuildsNothing s after
+TurnBuilds s (MissedUnheard number args) after = BuildsNothing s after
 TurnBuilds s Unread after = BuildsNothing s after
 
 -- The list after a turn: a command alone changes it.
@@ -98,4 +104,6 @@ list_turned s (Listed name lines o) = s.list
 list_turned s (LookedUp name decl found) = s.list
 list_turned s (Called number args p ticks r) = s.list
 list_turned s (Missed number args) = s.list
+list_turned s (CalledUnheard number args p ticks r) = s.list
+list_turned s (MissedUnheard number args) = s.list
 list_turned s Unread = s.list

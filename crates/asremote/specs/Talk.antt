@@ -80,7 +80,8 @@ talk_from n budget zero (l ∷ ls) =
 -- a turn that was taken: a line passed over; a command that was done; and of the lines that no session
 -- has a limit that was set, what was told of ticks and of what is held, a trace, a check with its reply, a
 -- list of declarations, a look-up of a function, with its number or why there is none, a call of what was
--- looked up, in a budget, and a call of a number that is none; and a line of another form
+-- looked up, in a budget, and a call of a number that is none, both also with events that are counted
+-- alone; and a line of another form
 pub data Turned : Type 0 where
   Passed : Turned
   Did : Deed → Turned
@@ -92,6 +93,8 @@ pub data Turned : Type 0 where
   LookedUp : List ℕ → List ℕ → Result ℕ Refusal → Turned
   Called : ℕ → List Value → Prepared → ℕ → Reply → Turned
   Missed : ℕ → List Value → Turned
+  CalledUnheard : ℕ → List Value → Prepared → ℕ → Reply → Turned
+  MissedUnheard : ℕ → List Value → Turned
   Unread : Turned
 
 abbrev pub says_of : Turned → Says
@@ -105,6 +108,8 @@ says_of (Listed name lines o) = Owns (own.Declarations name)
 says_of (LookedUp name decl found) = Owns (own.Prepare name decl)
 says_of (Called number args p ticks r) = Owns (own.Run number args)
 says_of (Missed number args) = Owns (own.Run number args)
+says_of (CalledUnheard number args p ticks r) = Owns (own.RunUnheard number args)
+says_of (MissedUnheard number args) = Owns (own.RunUnheard number args)
 says_of Unread = Wrong
 
 -- the events of the turn's reply
@@ -119,6 +124,8 @@ events_of (Listed name lines o) = []
 events_of (LookedUp name decl found) = []
 events_of (Called number args p ticks r) = r.events
 events_of (Missed number args) = []
+events_of (CalledUnheard number args p ticks r) = r.events
+events_of (MissedUnheard number args) = []
 events_of Unread = []
 
 abbrev pub events_in : List Turned → List HostEvent
@@ -139,6 +146,8 @@ is_right (Listed name lines o) = is_done o
 is_right (LookedUp name decl found) = is_found found
 is_right (Called number args p ticks r) = is_done r.outcome
 is_right (Missed number args) = false
+is_right (CalledUnheard number args p ticks r) = is_done r.outcome
+is_right (MissedUnheard number args) = false
 is_right Unread = false
 
 abbrev pub ok_text : List ℕ
@@ -163,6 +172,8 @@ answer_text (Listed name lines o) = listing_text lines o
 answer_text (LookedUp name decl found) = found_text found
 answer_text (Called number args p ticks r) = reply_text r
 answer_text (Missed number args) = outcome_text (Refused NoFunction)
+answer_text (CalledUnheard number args p ticks r) = outcome_text r.outcome
+answer_text (MissedUnheard number args) = outcome_text (Refused NoFunction)
 answer_text Unread = bad_form_text
 
 abbrev pub done_line : List ℕ

@@ -32,7 +32,7 @@ use Rattle.asrun_session.specs.Session.{Act, act_of}
 use Rattle.asrun_session.specs.Writing.{HasFront}
 use Rattle.asremote.specs.OwnLines.{own_line_of}
 use Rattle.asremote.specs.Standing.{KeepsFunctions, standing}
-use Rattle.asremote.specs.Talk.{Says, Nothing, Does, Owns, Wrong, ticks_after, Turned, Passed, Did, Limited, Told, Traced, Checked, Listed, LookedUp, Called, Missed, Unread, says_of, is_right, bad_form_text, answer_text, turn_text}
+use Rattle.asremote.specs.Talk.{Says, Nothing, Does, Owns, Wrong, ticks_after, Turned, Passed, Did, Limited, Told, Traced, Checked, Listed, LookedUp, Called, Missed, CalledUnheard, MissedUnheard, Unread, says_of, is_right, bad_form_text, answer_text, turn_text}
 use Rattle.asremote.specs.declared.own_lines.OwnLine.{OwnLine}
 use Rattle.asremote.specs.declared.turns.At.{At}
 use Rattle.asremote.specs.declared.turns.Turn.{Turn}
@@ -89,6 +89,8 @@ IsBudgeted budget (Listed name lines o) = Unit {0}
 IsBudgeted budget (LookedUp name decl found) = Unit {0}
 IsBudgeted budget (Called number args p ticks r) = ticks ≡ budget
 IsBudgeted budget (Missed number args) = Unit {0}
+IsBudgeted budget (CalledUnheard number args p ticks r) = ticks ≡ budget
+IsBudgeted budget (MissedUnheard number args) = Unit {0}
 IsBudgeted budget Unread = Unit {0}
 
 -- What was looked up is called over the modules w: as by each text that names the function, or, where its
@@ -152,6 +154,8 @@ module _ {V : Type 0} {P : V → Type 0} (m : Meanings P) (e f : Engine V P) whe
   Comes (LookedUp name decl found) = f ≡ e
   Comes (Called number args p ticks r) = HasCalled p args ticks r
   Comes (Missed number args) = f ≡ e
+  Comes (CalledUnheard number args p ticks r) = HasCalled p args ticks r
+  Comes (MissedUnheard number args) = f ≡ e
   Comes Unread = f ≡ e
 
   -- the line ends the conversation

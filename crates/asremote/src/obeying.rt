@@ -9,7 +9,7 @@ ghost use Rattle.asremote.specs.declared.own_lines.OwnLine.TheVariants.{Limit, U
 ghost use Rattle.asremote.specs.Turns.{Obeys, ObeysHalf};
 
 use crate::own_lines::OwnLine;
-use crate::prepared::{prepare, run_prepared};
+use crate::prepared::{prepare, run_prepared, run_unheard};
 use crate::replies::tell_reply;
 use ang_engine::{Engine, Prepared};
 use ang_host::Driver;
@@ -174,6 +174,15 @@ fn obey_lent<W: Write>(
             decl.as_slice(),
         ),
         OwnLine::Run { number, args } => run_prepared(
+            engine,
+            writer,
+            buffer,
+            prepared,
+            *number,
+            args.as_slice(),
+            ticks,
+        ),
+        OwnLine::RunUnheard { number, args } => run_unheard(
             engine,
             writer,
             buffer,

@@ -3,7 +3,7 @@ ghost use Rattle.std.specs.Prelude.{◌≡◌, IfOk, option_map};
 ghost use Rattle.asrun_lines.specs.Fields.{last_field_of};
 ghost use Rattle.asrun_lines.specs.Limits.{limit_of};
 ghost use Rattle.asrun_lines.specs.SessionLines.{Reads};
-ghost use Rattle.asremote.specs.OwnLines.{prepare_of, run_of, after_word, own_line_of};
+ghost use Rattle.asremote.specs.OwnLines.{prepare_of, run_of, unheard_of, after_word, own_line_of};
 
 use ang_kinds::{List, Value};
 use asrun_lines::{LimitLine, LineError, arguments, field, last_field, limit, number, rest};
@@ -31,6 +31,13 @@ pub enum OwnLine {
     },
     /// `run N (V,V)`: calls what was prepared under that number.
     Run {
+        /// Its number.
+        number: u32,
+        /// The arguments.
+        args: List<Value>,
+    },
+    /// `unheard N (V,V)`: the same, with a reply that has no events.
+    RunUnheard {
         /// Its number.
         number: u32,
         /// The arguments.
@@ -78,6 +85,19 @@ fn run_line(alloc: Global, text: &[u8]) -> Result<OwnLine, LineError>
     })
 }
 
+#[tactic(auto, unfolding(crate::specs::OwnLines::unheard_of))]
+fn unheard_line(alloc: Global, text: &[u8]) -> Result<OwnLine, LineError>
+    ensures exact { Reads result (unheard_of text.now) }
+{
+    let (digits, text) = field(text).ok_or(LineError::BadLine)?;
+    let number = number(digits).ok_or(LineError::BadLine)?;
+    let args = arguments(alloc, text)?.ok_or(LineError::BadLine)?;
+    Ok(OwnLine::RunUnheard {
+        number,
+        args: List::from_vec(args),
+    })
+}
+
 fn check_line(alloc: Global, text: &[u8]) -> Result<OwnLine, LineError>
     ensures exact { Reads result (option_map OwnLine.Check (last_field_of text.now)) }
 {
@@ -118,6 +138,9 @@ fn after_word(alloc: Global, word: &[u8], text: &[u8]) -> Result<OwnLine, LineEr
     }
     if word == b"limit".as_slice() {
         return limit_line(text);
+    }
+    if word == b"unheard".as_slice() {
+        return unheard_line(alloc, text);
     }
     Err(LineError::BadLine)
 }

@@ -7,9 +7,9 @@ ghost use Rattle.ang_engine_modules.specs.declared.reply.Refusal.TheVariants.{Me
 ghost use Rattle.asrun_session.specs.Drivers.{kinds_of};
 ghost use Rattle.asremote.specs.Standing.{LooksUp, standing};
 ghost use Rattle.asremote.specs.Turns.{Obeys, ObeysHalf};
-ghost use Rattle.asremote.specs.declared.own_lines.OwnLine.TheVariants.{Prepare, Run};
+ghost use Rattle.asremote.specs.declared.own_lines.OwnLine.TheVariants.{Prepare, Run, RunUnheard};
 
-use crate::replies::tell_reply;
+use crate::replies::{tell_ending, tell_reply};
 use ang_engine::{Engine, Prepared, Refusal};
 use ang_host::Driver;
 use ang_kinds::Value;
@@ -126,4 +126,37 @@ pub fn run_prepared<W: Write>(
     };
     let reply = engine.call_prepared(function, args, ticks);
     tell_reply(writer, buffer, reply)
+}
+
+/// Calls what has this number, with these values, and prints how that ended, and no events. Answers whether it ended in
+/// `ok`.
+///
+/// # Errors
+/// A write fault, and want of memory.
+pub fn run_unheard<W: Write>(
+    engine: &mut Engine,
+    writer: &mut W,
+    buffer: &mut ReplyBuffer,
+    prepared: &Vec<Prepared>,
+    number: u32,
+    args: &[Value],
+    ticks: u64,
+) -> Result<bool, SessionError>
+    requires sound { IsSound ⟦<dyn Driver as Driver>⟧ engine.old }
+    ensures sound { IsSound ⟦<dyn Driver as Driver>⟧ engine.new }
+    ensures within { IsWithin (registrations engine.new) (registrations engine.old) }
+    ensures order { kinds_of (drivers_in engine.new) ≡ kinds_of (drivers_in engine.old) }
+    ensures obeyed { IfOk result (λ ok. Obeys ⟦<dyn Driver as Driver>⟧ engine.old engine.new
+        prepared.now.items prepared.now.items (W.contents writer.old) (W.contents writer.new) ticks
+        (RunUnheard number args.now) ok) }
+    ensures cut { OnErr result (ObeysHalf ⟦<dyn Driver as Driver>⟧ engine.old engine.new
+        prepared.now.items prepared.now.items (W.contents writer.old) (W.contents writer.new) ticks
+        (RunUnheard number args.now)) }
+{
+    let Some(function) = numbered(prepared, number) else {
+        print_refusal(writer, buffer, Refusal::NoFunction)?;
+        return Ok(false);
+    };
+    let unheard = engine.call_prepared_unheard(function, args, ticks);
+    tell_ending(writer, buffer, unheard)
 }

@@ -149,6 +149,28 @@ pub fn print_prepared<W: Write>(
     Ok(())
 }
 
+/// Prints the line of an outcome alone.
+///
+/// # Errors
+/// A write fault, and want of memory.
+pub fn print_ending<W: Write>(
+    writer: &mut W,
+    buffer: &mut ReplyBuffer,
+    outcome: Outcome,
+) -> Result<(), SessionError>
+    ensures whole { OnOk result
+        (Appends (W.contents writer.old) (W.contents writer.new) (outcome_text outcome)) }
+    ensures front { OnErr result
+        (HasFront (W.contents writer.old) (W.contents writer.new) (outcome_text outcome)) }
+    ensures fault { IfErr result (λ e. e ≢ unread) }
+{
+    let text = &mut buffer.text;
+    text.clear();
+    push_outcome(text, outcome)?;
+    write_text(writer, text.as_slice())?;
+    Ok(())
+}
+
 /// Prints the line `refused REFUSAL`.
 ///
 /// # Errors

@@ -27,7 +27,9 @@ pub use action::{Act, Action, read_act};
 pub use ending::{IoFault, SessionError, Status};
 pub use exit::{ProgramExit, exit_status, print_no_memory, print_outcome};
 pub use explaining::{print_profile_line, print_session_line};
-pub use inquiries::{print_declarations, print_prepared, print_refusal, print_trace, print_used};
+pub use inquiries::{
+    print_declarations, print_ending, print_prepared, print_refusal, print_trace, print_used,
+};
 pub use kept::Kept;
 pub use limits::{limited_engine, with_limit};
 pub use printing::{ReplyBuffer, print_bad_line, print_reply, write_text};
