@@ -1,17 +1,12 @@
 -- Texts that are put together piece by piece.
 use Rattle.std.specs.Prelude.{Bool, Option, Result, Ok, Err, IfOk, codes, decimal}
-use Rattle.std.proofs.Common.{◌≡◌, ℕ, ◌<◌, ◌≤◌, ◌^◌, List, ◌++◌, length, ap, ◌∙◌, arith, append_assoc}
-use Rattle.std.proofs.lemmas.Fmt.{length-decimal-le}
+use Rattle.std.proofs.Common.{◌≡◌, ℕ, List, ◌++◌, ap, ◌∙◌, append_assoc}
 use Rattle.ang_kinds.specs.declared.value.Value.{Value}
 use Rattle.asrun_lines.specs.Texts.{object_text}
 use Rattle.ang_remote.specs.Asks.{values_text, kind_text, word_text, line_text}
 use Rattle.ang_remote.specs.declared.asks.AskKind.{AskKind}
 
 pub ruleset texts = append_assoc
-
--- a number of 64 bits has twenty digits at most
-pub long_number : (n : ℕ) → n < 2 ^ 64 → length (decimal n) ≤ 20
-long_number n fits = length-decimal-le 20 n (omega arith) (omega (arith, fits)) fits
 
 -- what has a text, if it is there, has one that is the same
 pub if_ok_same : {A E : Type 0} (r : Result A E) (items : A → List ℕ) (given text : List ℕ)

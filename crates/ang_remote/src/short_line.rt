@@ -1,12 +1,11 @@
 //! The line of an ask or a post with few values, written from its end, so that it is put with one copy.
 ghost use Rattle.std.specs.Prelude.{◌≡◌, ◌+◌, ◌≤◌, ◌++◌, length, drop, codes, decimal};
-ghost use Rattle.std.specs.Fmt.{signed_decimal};
-ghost use Rattle.asrun_lines.specs.Texts.{key_text, object_text};
+ghost use Rattle.asrun_lines.specs.Texts.{object_text};
 ghost use Rattle.ang_remote.specs.Asks.{value_text, values_text, kind_text, word_text, line_text};
 
 use crate::asks::AskKind;
 use ang_kinds::Value;
-use itoa::{Buffer, write_digits};
+use asrun_lines::{write_bytes, write_key, write_number, write_object, write_signed};
 
 /// The most values in a short line.
 pub const FEW: usize = 2;
@@ -14,59 +13,6 @@ pub const FEW: usize = 2;
 /// Room for a short line: 25 bytes up to its driver's number, 51 from there to its values, 43 of these and 2 behind them at
 /// most.
 pub const SHORT: usize = 128;
-
-/// Writes bytes so that they end at `end`, and gives where they start.
-#[inline(always)]
-fn write_bytes(line: &mut [u8], bytes: &[u8], end: usize) -> usize
-    requires room { length bytes.now ≤ end }
-    requires within { end ≤ length line.old }
-    ensures start { result + length bytes.now ≡ end }
-    ensures written { drop result line.new ≡ bytes.now ++ drop end line.old }
-{
-    let start = end - bytes.len();
-    line[start..end].copy_from_slice(bytes);
-    start
-}
-
-/// Writes a number in decimal digits so that they end at `end`, and gives where they start.
-#[inline(always)]
-fn write_number(line: &mut [u8], n: u64, end: usize) -> usize
-    requires room { 20 ≤ end }
-    requires within { end ≤ length line.old }
-    ensures before { result ≤ end }
-    ensures short { end ≤ result + 20 }
-    ensures written { drop result line.new ≡ decimal n ++ drop end line.old }
-{
-    write_digits(n, line, end)
-}
-
-/// The same of a number below 0.
-#[inline(never)]
-fn write_negative(line: &mut [u8], n: i64, end: usize) -> usize
-    requires room { 20 ≤ end }
-    requires within { end ≤ length line.old }
-    ensures before { result ≤ end }
-    ensures short { end ≤ result + 20 }
-    ensures written { drop result line.new ≡ signed_decimal n ++ drop end line.old }
-{
-    let mut digits = Buffer::new();
-    write_bytes(line, digits.format(n).as_bytes(), end)
-}
-
-/// Writes a number in decimal digits, with `-` before it where it is negative.
-#[inline(always)]
-fn write_signed(line: &mut [u8], n: i64, end: usize) -> usize
-    requires room { 20 ≤ end }
-    requires within { end ≤ length line.old }
-    ensures before { result ≤ end }
-    ensures short { end ≤ result + 20 }
-    ensures written { drop result line.new ≡ signed_decimal n ++ drop end line.old }
-{
-    match u64::try_from(n) {
-        Ok(positive) => write_number(line, positive, end),
-        Err(_) => write_negative(line, n, end),
-    }
-}
 
 /// Writes a number in decimal digits, with `u` behind it.
 #[tactic(auto, using(crate::proofs::Texts::texts))]
@@ -80,35 +26,6 @@ fn write_unsigned(line: &mut [u8], n: u64, end: usize) -> usize
 {
     let at = write_bytes(line, b"u", end);
     write_number(line, n, at)
-}
-
-/// Writes `#KEY`.
-#[inline(always)]
-fn write_key(line: &mut [u8], key: u64, end: usize) -> usize
-    requires room { 21 ≤ end }
-    requires within { end ≤ length line.old }
-    ensures before { result ≤ end }
-    ensures short { end ≤ result + 21 }
-    ensures written { drop result line.new ≡ key_text key ++ drop end line.old }
-{
-    let at = write_number(line, key, end);
-    write_bytes(line, b"#", at)
-}
-
-/// Writes `#KEY`, or `-` for no object.
-#[tactic(auto, unfolding(asrun_lines::specs::Texts::object_text))]
-#[inline(always)]
-fn write_object(line: &mut [u8], object: Option<u64>, end: usize) -> usize
-    requires room { 21 ≤ end }
-    requires within { end ≤ length line.old }
-    ensures before { result ≤ end }
-    ensures short { end ≤ result + 21 }
-    ensures written { drop result line.new ≡ object_text object ++ drop end line.old }
-{
-    match object {
-        None => write_bytes(line, b"-", end),
-        Some(key) => write_key(line, key, end),
-    }
 }
 
 /// Writes a value.

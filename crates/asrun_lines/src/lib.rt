@@ -4,6 +4,7 @@
 
 mod budget;
 mod fields;
+mod from_end;
 mod limits;
 mod lines;
 mod profile_lines;
@@ -13,6 +14,7 @@ mod values;
 
 pub use budget::budget_of;
 pub use fields::{decimal, field, last_field, number, rest};
+pub use from_end::{write_bytes, write_key, write_number, write_object, write_signed};
 pub use limits::{LimitKind, LimitLine, limit};
 pub use lines::{first_line, first_lines, is_skipped, shown};
 pub use profile_lines::{ProfileLine, profile_line};

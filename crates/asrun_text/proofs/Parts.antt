@@ -67,10 +67,6 @@ pub parts_are : (d : Denial)
 unfolding denial_text
 parts_are d = simp append_assoc
 
--- a number of 64 bits has twenty digits at most
-pub long_number : (n : ℕ) → n < 2 ^ 64 → length (decimal n) ≤ 20
-long_number n fits = length-decimal-le 20 n (omega arith) (omega (arith, fits)) fits
-
 -- thirteen parts, put together from the last
 parts_joined : (h c s e d o p a q r n : List ℕ)
     → h ++ c ++ (s ++ e ++ s ++ d ++ s ++ o ++ p ++ (a ++ (q ++ r ++ n))) ≡ h ++ c ++ s ++ e ++ s ++ d ++ s ++ o ++ p ++ a ++ q ++ r ++ n

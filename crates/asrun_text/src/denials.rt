@@ -4,6 +4,7 @@ ghost use Rattle.asrun_text.specs.Denied.{front_text, masks_text};
 ghost use Rattle.asrun_text.specs.Text.{mask_text, hex_digit, denial_text};
 
 use ang_kinds::{Denial, Mask, Place};
+use asrun_lines::write_bytes;
 use itoa::write_digits;
 use std::alloc::AllocError;
 use std::marker::Model;
@@ -19,20 +20,6 @@ fn hex_digit(d: u8) -> u8
     ensures exact { result ≡ hex_digit d }
 {
     if d < 10 { b'0' + d } else { b'a' - 10 + d }
-}
-
-/// Writes bytes so that they end at `end`, and gives where they start.
-#[inline(always)]
-pub(crate) fn write_bytes(line: &mut [u8], bytes: &[u8], end: usize) -> usize
-    requires room { length bytes.now ≤ end }
-    requires within { end ≤ length line.old }
-    ensures start { result + length bytes.now ≡ end }
-    ensures written { drop result line.new ≡ bytes.now ++ drop end line.old }
-    ensures before { take result line.new ≡ take result line.old }
-{
-    let start = end - bytes.len();
-    line[start..end].copy_from_slice(bytes);
-    start
 }
 
 /// Writes a mask so that it ends at `end`, and gives where it starts.

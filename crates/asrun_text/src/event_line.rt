@@ -1,15 +1,13 @@
 //! The line of an event, written from its end where it is short, so that it is put with one copy.
 ghost use Rattle.std.specs.Prelude.{◌≡◌, ◌+◌, ◌≤◌, ◌++◌, length, drop, OnOk, IsTrue, codes, decimal};
-ghost use Rattle.std.specs.Fmt.{signed_decimal};
 ghost use Rattle.ang_host.specs.declared.event.HostEvent.TheVariants.{Called, Ended};
-ghost use Rattle.asrun_lines.specs.Texts.{key_text, object_text};
+ghost use Rattle.asrun_lines.specs.Texts.{object_text};
 ghost use Rattle.asrun_text.specs.Text.{newline, value_text, values_text, made_text, answer_text, host_reply_text, event_text};
 
-use crate::denials::write_bytes;
 use crate::reply::push_long;
 use ang_host::{Answer, HostReply, Made};
 use ang_kinds::{EntityNo, Value};
-use itoa::{Buffer, write_digits};
+use asrun_lines::{write_bytes, write_key, write_number, write_object, write_signed};
 use std::alloc::AllocError;
 
 /// The longest name of a caller in a short line.
@@ -24,75 +22,6 @@ const CALL: usize = 176;
 
 /// Room for the line of an end: 4 bytes in front of its driver's number, 20 of that and 23 behind it at most.
 const END: usize = 48;
-
-/// Writes a number in decimal digits so that they end at `end`, and gives where they start.
-#[inline(always)]
-fn write_number(line: &mut [u8], n: u64, end: usize) -> usize
-    requires room { 20 ≤ end }
-    requires within { end ≤ length line.old }
-    ensures before { result ≤ end }
-    ensures short { end ≤ result + 20 }
-    ensures written { drop result line.new ≡ decimal n ++ drop end line.old }
-{
-    write_digits(n, line, end)
-}
-
-/// The same of a number below 0.
-#[inline(never)]
-fn write_negative(line: &mut [u8], n: i64, end: usize) -> usize
-    requires room { 20 ≤ end }
-    requires within { end ≤ length line.old }
-    ensures before { result ≤ end }
-    ensures short { end ≤ result + 20 }
-    ensures written { drop result line.new ≡ signed_decimal n ++ drop end line.old }
-{
-    let mut digits = Buffer::new();
-    write_bytes(line, digits.format(n).as_bytes(), end)
-}
-
-/// Writes a number in decimal digits, with `-` before it where it is negative.
-#[inline(always)]
-fn write_signed(line: &mut [u8], n: i64, end: usize) -> usize
-    requires room { 20 ≤ end }
-    requires within { end ≤ length line.old }
-    ensures before { result ≤ end }
-    ensures short { end ≤ result + 20 }
-    ensures written { drop result line.new ≡ signed_decimal n ++ drop end line.old }
-{
-    match u64::try_from(n) {
-        Ok(positive) => write_number(line, positive, end),
-        Err(_) => write_negative(line, n, end),
-    }
-}
-
-/// Writes `#KEY`.
-#[inline(always)]
-fn write_key(line: &mut [u8], key: u64, end: usize) -> usize
-    requires room { 21 ≤ end }
-    requires within { end ≤ length line.old }
-    ensures before { result ≤ end }
-    ensures short { end ≤ result + 21 }
-    ensures written { drop result line.new ≡ key_text key ++ drop end line.old }
-{
-    let at = write_number(line, key, end);
-    write_bytes(line, b"#", at)
-}
-
-/// Writes `#KEY`, or `-` for no object.
-#[tactic(auto, unfolding(asrun_lines::specs::Texts::object_text))]
-#[inline(always)]
-fn write_object(line: &mut [u8], object: Option<u64>, end: usize) -> usize
-    requires room { 21 ≤ end }
-    requires within { end ≤ length line.old }
-    ensures before { result ≤ end }
-    ensures short { end ≤ result + 21 }
-    ensures written { drop result line.new ≡ object_text object ++ drop end line.old }
-{
-    match object {
-        None => write_bytes(line, b"-", end),
-        Some(key) => write_key(line, key, end),
-    }
-}
 
 /// Writes a value.
 #[tactic(auto, unfolding(crate::specs::Text::value_text))]

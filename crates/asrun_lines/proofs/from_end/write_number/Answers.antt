@@ -1,6 +1,6 @@
 use Rattle.std.proofs.Common.{arith}
-use Rattle.ang_remote.proofs.Texts.{long_number}
-use Rattle.ang_remote.proofs.short_line.write_number.Goals as goal
+use Rattle.asrun_lines.proofs.Joined.{long_number}
+use Rattle.asrun_lines.proofs.from_end.write_number.Goals as goal
 
 pub write_digits-requires : goal.write_digits-requires
 write_digits-requires c = omega (arith, c.requires.room, c.requires.within, long_number c.args.n c.ranges.n.fits)
