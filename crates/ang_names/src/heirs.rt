@@ -1,16 +1,18 @@
 //! Members that don't fit with what a class inherits.
-ghost use Rattle.std.specs.Prelude.{◌≡◌, ◌==◌, ◌&&◌, IfOk, bytes_eq, find, option_map};
+ghost use Rattle.std.specs.Prelude.{◌≡◌, ◌==◌, ◌&&◌, not, IfOk, bytes_eq, drop, find, option_map};
 ghost use Rattle.std.specs.Prelude.{option_copied, slice_get};
 ghost use Rattle.std.specs.List.{list_any};
+ghost use Rattle.ang_names_known.specs.Items.{is_empty};
 ghost use Rattle.ang_names_known.specs.Lookup as lookup;
 ghost use Rattle.ang_names.specs.Heirs as spec;
 ghost use Rattle.ang_names.specs.ByNumber as numbered;
 ghost use Rattle.ang_names.specs.Rows as rows;
 
 use crate::indexed::{Indexed, index_members};
+use crate::kin::kin_by_slot;
 use crate::rings::refused_at;
+use ang_index::Index;
 use ang_kinds::{ErrorKind, Place};
-use ang_names_graph::after_first;
 use ang_names_known::{Access, Family, Field, ScriptMethod, same_type};
 use ang_names_listed::push_refused;
 use ang_types::Refused;
@@ -19,7 +21,7 @@ use std::alloc::{AllocError, Global};
 // ---- methods of interfaces
 
 /// The methods that a class or an interface declares itself.
-fn methods_of(families: &[Family], number: usize) -> &[ScriptMethod]
+pub fn methods_of(families: &[Family], number: usize) -> &[ScriptMethod]
     ensures exact { result.now ≡ numbered.methods_in (slice_get families.now number) }
 {
     match families.get(number) {
@@ -86,14 +88,14 @@ fn in_slot<'f>(families: &'f Indexed<'_>, number: usize, slot: usize) -> Option<
 /// The first method in a slot, of those of these classes and interfaces in their order.
 fn first_in_slot<'f>(
     families: &'f Indexed<'_>,
-    order: &[usize],
+    order: &[u8],
     slot: usize,
 ) -> Option<&'f ScriptMethod>
     ensures exact { option_copied result
         ≡ find (λ m. m.slot == slot) (numbered.methods_at families.now order.now) }
 {
     for number in order {
-        if let Some(method) = in_slot(families, *number, slot) {
+        if let Some(method) = in_slot(families, *number as usize, slot) {
             return Some(method);
         }
     }
@@ -102,7 +104,7 @@ fn first_in_slot<'f>(
 
 /// The numbers of the classes and interfaces of which one has methods, itself first.
 #[tactic(auto, unfolding(ang_names_known::specs::Lookup::kin_of))]
-fn order_of(families: &[Family], number: usize) -> &[usize]
+pub fn order_of(families: &[Family], number: usize) -> &[u8]
     ensures exact { lookup.families_at families.now result.now
         ≡ lookup.kin_of families.now number }
 {
@@ -112,16 +114,18 @@ fn order_of(families: &[Family], number: usize) -> &[usize]
     }
 }
 
-/// The method that a class has in a slot, own or inherited: the nearest one.
+/// The method that a class has in a slot, own or inherited: the nearest one. `kin` has the numbers of those that declare it.
 fn method_in_slot<'f>(
     families: &'f Indexed<'_>,
-    number: usize,
+    kin: &Index<u8>,
+    class: usize,
     slot: usize,
 ) -> Option<&'f ScriptMethod>
+    requires kin { rows.HasKin families.now class kin.now }
     ensures exact { option_copied result
-        ≡ option_map (λ x. x.method) (lookup.method_in_slot families.now number slot) }
+        ≡ option_map (λ x. x.method) (lookup.method_in_slot families.now class slot) }
 {
-    first_in_slot(families, order_of(families.families(), number), slot)
+    first_in_slot(families, kin.find(slot as u64, &[]), slot)
 }
 
 fn is_public(access: Access) -> bool
@@ -135,10 +139,16 @@ fn is_public(access: Access) -> bool
 }
 
 /// Whether a class has a method that an interface asks for, own or inherited.
-fn has_public_method(families: &Indexed<'_>, class: usize, wanted: &ScriptMethod) -> bool
+fn has_public_method(
+    families: &Indexed<'_>,
+    kin: &Index<u8>,
+    class: usize,
+    wanted: &ScriptMethod,
+) -> bool
+    requires kin { rows.HasKin families.now class kin.now }
     ensures exact { result ≡ spec.has_public_method families.now class wanted.now }
 {
-    match method_in_slot(families, class, wanted.slot) {
+    match method_in_slot(families, kin, class, wanted.slot) {
         None => false,
         Some(method) => {
             is_public(method.access)
@@ -150,14 +160,16 @@ fn has_public_method(families: &Indexed<'_>, class: usize, wanted: &ScriptMethod
 /// The first of some methods that a class has not.
 fn missing_among<'m>(
     families: &Indexed<'_>,
+    kin: &Index<u8>,
     class: usize,
     methods: &'m [ScriptMethod],
 ) -> Option<&'m ScriptMethod>
+    requires kin { rows.HasKin families.now class kin.now }
     ensures exact { option_copied result
         ≡ spec.missing_among families.now class methods.now }
 {
     for method in methods {
-        if !has_public_method(families, class, method) {
+        if !has_public_method(families, kin, class, method) {
             return Some(method);
         }
     }
@@ -167,19 +179,29 @@ fn missing_among<'m>(
 /// The first method that a class has not, of the interfaces among these classes and interfaces.
 fn first_missing<'f>(
     families: &'f Indexed<'_>,
+    kin: &Index<u8>,
     class: usize,
-    above: &[usize],
+    above: &[u8],
 ) -> Option<&'f ScriptMethod>
+    requires kin { rows.HasKin families.now class kin.now }
     ensures exact { option_copied result ≡ spec.missing_among
         families.now class (numbered.interface_methods_at families.now above.now) }
 {
     for number in above {
-        let methods = interface_methods(families.families(), *number);
-        if let Some(method) = missing_among(families, class, methods) {
+        let methods = interface_methods(families.families(), *number as usize);
+        if let Some(method) = missing_among(families, kin, class, methods) {
             return Some(method);
         }
     }
     None
+}
+
+/// Whether one of these classes and interfaces asks for methods.
+fn asks_for_methods(families: &[Family], above: &[u8]) -> bool
+    ensures exact { result ≡ list_any
+        (λ n. not (is_empty (numbered.interface_methods (slice_get families.now n)))) above.now }
+{
+    above.iter().any(|number| !interface_methods(families, *number as usize).is_empty())
 }
 
 /// The error of a class that has not all methods of the interfaces above it.
@@ -192,7 +214,12 @@ fn missing_method(
 ) -> Result<Option<Refused>, AllocError>
     ensures exact { IfOk result (λ r. r ≡ spec.missing_method families.now class family.now) }
 {
-    match first_missing(families, class, family.above.as_slice()) {
+    let above = family.above.as_slice();
+    if !asks_for_methods(families.families(), above) {
+        return Ok(None);
+    }
+    let kin = kin_by_slot(alloc, families, class)?;
+    match first_missing(families, &kin, class, above) {
         None => Ok(None),
         Some(method) => {
             let name = method.function.name.as_slice();
@@ -274,11 +301,13 @@ fn declares(families: &Indexed<'_>, number: usize, name: &[u8]) -> bool
 }
 
 /// Whether one of these classes declares a member of this name.
-fn declares_among(families: &Indexed<'_>, order: &[usize], name: &[u8]) -> bool
+fn declares_among(families: &Indexed<'_>, order: &[u8], name: &[u8]) -> bool
     ensures exact { result
         ≡ list_any (λ n. rows.declares name.now (slice_get families.now n)) order.now }
 {
-    order.iter().any(|number| declares(families, *number, name))
+    order
+        .iter()
+        .any(|number| declares(families, *number as usize, name))
 }
 
 /// Whether a class has a member of this name, own or inherited.
@@ -397,33 +426,42 @@ fn is_refused_by(families: &Indexed<'_>, number: usize, method: &ScriptMethod) -
 }
 
 /// Whether one of these classes has a method of this slot.
-fn is_inherited(families: &Indexed<'_>, above: &[usize], slot: usize) -> bool
+fn is_inherited(families: &Indexed<'_>, above: &[u8], slot: usize) -> bool
     ensures exact { result ≡ list_any
         (λ n. list_any (λ x. x.slot == slot)
         (numbered.methods_in (slice_get families.now n))) above.now }
 {
-    above.iter().any(|number| has_slot(families, *number, slot))
+    above
+        .iter()
+        .any(|number| has_slot(families, *number as usize, slot))
 }
 
 /// Whether a method would stand for one of these classes, and can't.
-fn is_refused(families: &Indexed<'_>, above: &[usize], method: &ScriptMethod) -> bool
+fn is_refused(families: &Indexed<'_>, above: &[u8], method: &ScriptMethod) -> bool
     ensures exact { result ≡ list_any
         (λ n. list_any (λ x. x.slot == method.now.slot && spec.cannot_override method.now x)
         (numbered.methods_in (slice_get families.now n))) above.now }
 {
     above
         .iter()
-        .any(|number| is_refused_by(families, *number, method))
+        .any(|number| is_refused_by(families, *number as usize, method))
 }
 
 /// Whether a method can't stand for all that it would of what these classes have.
 #[tactic(auto, using(crate::proofs::Inherited::none_in_slot, crate::proofs::Inherited::refused_in_slot))]
-fn is_bad_override(families: &Indexed<'_>, above: &[usize], method: &ScriptMethod) -> bool
+fn is_bad_override(families: &Indexed<'_>, above: &[u8], method: &ScriptMethod) -> bool
     ensures exact { result ≡ spec.is_bad_override method.now
         (spec.in_slot method.now.slot (numbered.methods_at families.now above.now)) }
 {
     let is_override_of_none = method.is_override && !is_inherited(families, above, method.slot);
     is_override_of_none || is_refused(families, above, method)
+}
+
+/// The families above one, by those from which it has methods.
+fn after_first(order: &[u8]) -> &[u8]
+    ensures exact { result.now ≡ drop 1 order.now }
+{
+    order.get(1..).unwrap_or(&[])
 }
 
 #[tactic(auto, using(crate::proofs::Inherited::methods_known))]

@@ -428,9 +428,8 @@ pub fn call_entry(
 }
 
 /// Asks for a new object by a factory for a module, with the values that its driver is handed, and answers its handle.
-/// It stays apart, so that `ask_called` stays small.
-#[inline(never)]
-fn make_entry_apart(
+#[inline(always)]
+fn make_entry(
     table: &Table,
     home: u32,
     host: &HostUse,
@@ -458,41 +457,9 @@ fn make_entry_apart(
     make_with(store, asking, entity, host, number, args)
 }
 
-/// The same, with a copy of what it answers, so that the value of a call doesn't stand in memory.
-#[inline(always)]
-fn make_entry(
-    table: &Table,
-    home: u32,
-    host: &HostUse,
-    number: u32,
-    args: &[Value],
-    store: &mut Store,
-    entity: EntityNo,
-) -> Result<Slot, Fault>
-    requires entry { AsksEntry table.now home (Ask entity) host.now }
-    requires role { host.now.role ≡ MakingRole number }
-    requires drivers { DriversThere table.now (length (members store.old.drivers)) }
-    requires ready { IsReady ⟦<dyn Driver as Driver>⟧ store.old }
-    requires args_live { AreLive (driver_state ⟦<dyn Driver as Driver>⟧ store.old host.now.driver)
-        args.now }
-    ensures made { (ops : List Slot) → object_in (receiver_of host.now ops) ≡ Ok None
-        → values_of host.now.driver host.now.params (arguments_in host.now ops) ≡ args.now
-        → (nesting : ℕ) → StoreTold ⟦<dyn Driver as Driver>⟧ (asks (setting_of table.now nesting) home (Ask entity)
-        (reverse ops)) store.old (done result) store.new }
-    ensures enough { StillGives ⟦<dyn Driver as Driver>⟧ store.old store.new }
-    ensures ready { IsReady ⟦<dyn Driver as Driver>⟧ store.new }
-    ensures same { length (members store.new.drivers) ≡ length (members store.old.drivers) }
-    ensures moves { HasMovedOver ⟦<dyn Driver as Driver>⟧ table.now store.old store.new }
-{
-    match make_entry_apart(table, home, host, number, args, store, entity) {
-        Ok(value) => Ok(value),
-        Err(fault) => Err(fault),
-    }
-}
-
 /// Asks an entry that is called, a function, a method or a factory, for a module, of an object or of none, with the
 /// values that its driver is handed, and answers its value. The operands from which they come needn't stand on a stack,
-/// and are all still there then.
+/// and are all still there then. The role is the entry's, which a caller may know by then.
 ///
 /// What is listed, when the driver isn't asked, and the errors are as `ask` says.
 #[inline(always)]
@@ -500,6 +467,7 @@ pub fn ask_called(
     table: &Table,
     home: u32,
     host: &HostUse,
+    role: Role,
     object: Option<u64>,
     args: &[Value],
     store: &mut Store,
@@ -507,6 +475,7 @@ pub fn ask_called(
 ) -> Result<Slot, Fault>
     requires entry { AsksEntry table.now home (Ask entity) host.now }
     requires called { is_called_by host.now.role host.now.member ≡ true }
+    requires role { host.now.role ≡ role }
     requires drivers { DriversThere table.now (length (members store.old.drivers)) }
     requires ready { IsReady ⟦<dyn Driver as Driver>⟧ store.old }
     requires object_live { IsLiveOption
@@ -522,7 +491,7 @@ pub fn ask_called(
     ensures same { length (members store.new.drivers) ≡ length (members store.old.drivers) }
     ensures moves { HasMovedOver ⟦<dyn Driver as Driver>⟧ table.now store.old store.new }
 {
-    match host.role {
+    match role {
         Role::Calling(number) => {
             call_entry(table, home, host, number, object, args, store, entity)
         }
