@@ -5,6 +5,7 @@ answered plays no part: to refuse a section takes time too.
 """
 
 import itertools
+import re
 import string
 
 MOST = 65536  # bytes of a section
@@ -481,26 +482,31 @@ def listed(number, places, enumerations):
 
 # ---- errors
 
-WRONG = ["y", "y()", "f(1)", "f(1,true)", "q(1)", "q()", "T()", "t.s(1)", "t.p", "V", "E::V", "1+true", "f(z)", "null", "true", "f(q(1))"]
+WRONG = ["y", "y()", "f(1)", "f(1,true)", "q(1)", "q()", "T()", "t.s(1)", "t.p", "V", "E::V", "1+true", "f(z)", "null", "true", "f(q(1))",
+         "f(a)", "f(b)", "q(a)", "q(b)", "t.s(a)", "t.s(b)", "T(a)", "T(b)"]  # fmt: skip
+OVERLOADS = ["function 0 0 void q", "function 0 0 void f", "method T 0 void s", "factory T 0 T@ g", "factory T 0 T@ g"]
 
 
 @shape(
-    overloads=(0, 2000), hidden=(0, 900), places=(1, 5), wrong=(0, len(WRONG) - 1), where=(0, 3), values=(0, 998), chain=(0, 250),
-    named=(0, 2), other=(0, len(WRONG)), seen=(0, 900),
+    overloads=(0, 2000), hidden=(0, 998), places=(1, 5), wrong=(0, len(WRONG) - 1), where=(0, 3), values=(0, 998), chain=(0, 250),
+    named=(0, len(OVERLOADS) - 1), other=(0, len(WRONG)), seen=(0, 900),
 )  # fmt: skip
 def floods(s, overloads, hidden, places, wrong, where, values, chain, named, other, seen):
     """As many bodies or initializers with an error as there is room for, of one kind or of two in turn, over functions that are seen,
-    hidden or the script's own."""
-    words = ["function 0 0 void q", "function 0 0 void f", "method T 0 void s"][named]
-    seen = min(seen, ENTRIES - hidden)
-    s.profile += ["mask 00000001", "type T 0", *(f"{words}({listed(n, places, 0)})" for n in range(seen)), "mask 00000002"]
-    s.profile += [f"{words}({listed(n, places, 0)})" for n in range(seen, seen + hidden)]
+    hidden or the script's own: functions, methods, or factories of a type that is seen, or hidden too."""
+    is_hidden = named == len(OVERLOADS) - 1
+    seen = 0 if is_hidden else min(seen, ENTRIES - hidden)
+    lines = [f"{OVERLOADS[named]}({listed(n, places, 0)})" for n in range(seen + hidden)]
+    kind = ["type T 0"]
+    s.profile += ["mask 00000001", *kind * (not is_hidden), *lines[:seen], "mask 00000002", *kind * is_hidden, *lines[seen:]]
     for n in range(min(values, ENTRIES - hidden - seen) // 2):
         s.profile += [f"enum Some{n}", f"value Some{n} V 1"]
     for n in range(overloads):
         s.add_function(f"void f({listed(n, places, 0)}){{}}")
-    given = f"({','.join(['1'] * places)})"
-    errors(s, [WRONG[it].replace("(1)", given) for it in (wrong, other - 1 if other else wrong)], where, chain)
+    texts = [re.sub(r"\((?=[1ab]\))", f"({'1,' * (places - 1)}", WRONG[it]) for it in (wrong, other - 1 if other else wrong)]
+    if any(it.endswith(("a)", "b)")) for it in texts):
+        s.add("int8 a;uint8 b;")
+    errors(s, texts, where, chain)
 
 
 def errors(s, wrong, where, chain):

@@ -193,7 +193,7 @@ static void tell_host(bb_engine *engine)
     do {
         bb_answer dropped = nothing;
         telling->host(telling->data, &telling->ask, &dropped);
-    } while (bb_next_post(telling));
+    } while (bb_next_call(telling) || bb_next_post(telling));
 }
 
 static bb_state by_host(bb_engine *engine)
@@ -260,7 +260,7 @@ const bb_posts *bb_take_posts(bb_engine *engine, size_t *runs)
 {
     *runs = 0;
     bool is_posted = turn(engine, BB_ASKS) == BB_ASKS && engine->ask.posted;
-    return is_posted ? bb_batch_posts(engine, runs) : NULL;
+    return is_posted ? bb_rest_of_posts(engine, runs) : NULL;
 }
 
 /* The bytes of the reply: at an ask, or where something is posted, there is none yet. */
@@ -289,9 +289,10 @@ bb_state bb_state_of(const bb_engine *engine)
     return engine->state;
 }
 
+/* The program may have ended before the host was told all that it posted. */
 int bb_status(const bb_engine *engine)
 {
-    return engine->status;
+    return engine->state == BB_ENDED ? engine->status : 0;
 }
 
 size_t bb_memory_used(const bb_engine *engine)
@@ -336,7 +337,7 @@ bb_state bb_free(bb_engine *engine)
     free(engine->line);
     for (size_t at = 0; at < LISTS; at++)
         free(engine->lists[at].block);
-    free(engine->batch);
+    free(engine->posts);
     free(engine->output);
     free(engine);
     return BB_ENDED;

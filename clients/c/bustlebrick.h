@@ -168,8 +168,7 @@ bb_state bb_resume(bb_engine *engine, const bb_answer *answer);
 /* Takes what waits, where that is posted, and the posts behind it, as many as there is room for: runs of calls of one
    function, in the order of the script's calls. `runs` is set to how many these are. bb_resume goes on behind them. They are
    the library's, and hold until then. For hosts in languages from which each call of C costs much; others take one after
-   the other (bb_asked). NULL, and 0 runs, where nothing posted waits, in another thread, and where memory was refused:
-   nothing is taken then. */
+   the other (bb_asked). NULL, and 0 runs, where nothing posted waits that was not taken, and in another thread. */
 const bb_posts *bb_take_posts(bb_engine *engine, size_t *runs);
 
 /* The lines of the reply to the last command that was done, each with its LF: events, errors, denials, and one line for
@@ -199,8 +198,8 @@ void bb_set_timeout(bb_engine *engine, uint64_t milliseconds);
 bb_state bb_state_of(const bb_engine *engine);
 
 /* Once it has ended, the exit status of asremote (docs/FORMATS.md, "Exit status"): 0 and 1 after bb_end, where all
-   commands were answered by `ok`, or not; 2 of a profile that was refused; 3 where memory was refused outside of a
-   command, at the start or for the text of a command; 4 where memory was refused for a reply's text; 127 at the start
+   commands were answered by `ok`, or not; 2 of a profile that was refused, and where memory was refused for a reply's
+   text; 3 where memory was refused outside of a command, at the start or for the text of a command; 127 at the start
    where the processor lacks what the object was built for (x86-64-v2). Before that 0. */
 int bb_status(const bb_engine *engine);
 
@@ -217,7 +216,8 @@ size_t bb_memory_used(const bb_engine *engine);
 size_t bb_stack_used(const bb_engine *engine);
 
 /* Ends the engine, and keeps its status and its last reply: a script that waits is answered the fault Host 4294967282,
-   and the reply is that of its command. BB_ENDED, BB_BUSY or BB_THREAD. */
+   what one posts from then on is refused by the fault Host 4294967280, and the reply is that of its command. BB_ENDED,
+   BB_BUSY or BB_THREAD. */
 bb_state bb_end(bb_engine *engine);
 
 /* The same, and then the engine is gone. BB_BUSY and BB_THREAD: nothing was done, and it is still there. NULL is

@@ -12,6 +12,8 @@ enum {
     MOST_PIECES = 5,
     MOST_ANSWER = 64,       /* bytes of an answer's line */
     LISTS = 2,              /* blocks for long lists: the events, and their arguments */
+    MOST_RUNS = 128,        /* of posts that are kept */
+    MOST_VALUES = 1024,     /* of all these */
     MOST_FRONT = 64,        /* bytes of an ask's line in front of its values: two numbers of 32 bits, a key, some 20 more */
     MOST_COMMAND = 16777216 /* bytes of a command */
 };
@@ -67,15 +69,28 @@ struct piece {
 /* Why the program lets the host go on. */
 enum bb_stop {
     BB_TO_HEAR,  /* it has read all that the host said, and wants the next command, or the answer to an ask */
-    BB_FOR_ROOM, /* there are many posts, which the host is to take before the program goes on */
+    BB_FOR_ROOM, /* there are as many posts as are kept, which the host is to be told before the program goes on */
     BB_AT_END
 };
 
 /* What the line of the post that was read last has in front of its values: most posts have the same as the one before. */
 struct bb_front {
     char text[MOST_FRONT];
-    size_t bytes; /* 0 until one was read */
+    size_t bytes; /* 0 for none, or one that is not kept */
     bb_ask ask;
+};
+
+/* What is posted, of which the host was not told all. */
+struct bb_kept {
+    bb_posts runs[MOST_RUNS];
+    bb_value values[MOST_VALUES];
+    size_t runs_kept, values_kept;
+    size_t room;            /* how many more calls of the last run are kept before the host is told all */
+    struct bb_front front;  /* that of the last run, if there is one */
+    bb_posts *plain;        /* the last run, if it has a short front (posts.c) and one value each; else NULL */
+    size_t runs_told, left; /* the runs that the host was told, and how many calls of the last of these it was not */
+    const bb_value *told;   /* the values of the call that is the ask, which has a copy of them */
+    bool waits;             /* whether the ask is a call of that run, and the rest was not taken at once */
 };
 
 /* A block for a long list of the program, which is kept when the program gives it back, so that the next command has it: that
@@ -103,15 +118,13 @@ struct bb_engine {
     size_t input_at, input_count;
     bool input_ended;
 
-    char *output; /* what the program wrote since the command began, but for what was read of it, and a 0 after it */
+    char *output; /* what the program wrote since the command began, but for what it posted and what was read of it, and a 0 */
     size_t output_bytes, output_room;
-    size_t output_at; /* where in it the post ends that the host was told last */
     int error; /* the program's errno */
 
     bb_ask ask;
     bb_value values[MOST_ARGUMENTS];
-    struct bb_front front;
-    struct bb_batch *batch; /* NULL until the host takes posts at once */
+    struct bb_kept *posts; /* NULL until something is posted */
     char answer[MOST_ANSWER];
 
     size_t memory_used;
@@ -147,17 +160,47 @@ uint64_t bb_now(void);
 /* The function that the engine's stack begins with. */
 void bb_begin_program(void);
 
-/* ---- What is posted (posts.c) */
+/* ---- What is posted (posts.c): it is kept as runs of calls of one function, until the host was told all of it */
+
+/* What became of a text. */
+enum bb_keeping {
+    BB_NO_POST,   /* it is no line of a post: nothing was done */
+    BB_NO_MEMORY, /* nothing was done */
+    BB_KEPT       /* it is a post, which is kept */
+};
+
+/* Keeps the post whose line a text is, behind the others. There is room for it. */
+enum bb_keeping bb_keep_post(bb_engine *engine, const char *text, size_t bytes);
 
 /* Takes the next post of which the host is to be told, if there is one, as the ask. Once the input has ended it is told
    nothing more. */
 bool bb_next_post(bb_engine *engine);
 
+/* Puts the values of a call, which is the ask, where those of all asks are. */
+static inline void bb_tell_values(bb_engine *engine, const bb_value *values)
+{
+    engine->posts->told = values;
+    for (size_t at = 0; at < engine->ask.count; at++)
+        engine->values[at] = values[at];
+}
+
+/* Takes the next call of the run of which the ask is one, if the host was not told them all. */
+static inline bool bb_next_call(bb_engine *engine)
+{
+    if (!engine->posts->left)
+        return false;
+    engine->posts->left--;
+    bb_tell_values(engine, engine->posts->told + engine->ask.count);
+    return true;
+}
+
 /* Lets go the posts that were taken. */
 void bb_forget_posts(bb_engine *engine);
 
-/* Takes the post that is the ask, and those behind it that there is room for. NULL where memory was refused. */
-const bb_posts *bb_batch_posts(bb_engine *engine, size_t *runs);
+/* Takes the post that is the ask, and those behind it. NULL, and no runs, where they were taken. */
+const bb_posts *bb_rest_of_posts(bb_engine *engine, size_t *runs);
+
+/* ---- What is read of the output (program.c) */
 
 /* Takes the last line of the output away where it is an ask or `done`, and says which: BB_ASKS, BB_DONE, or BB_ENDED
    for neither. */

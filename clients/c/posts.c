@@ -1,99 +1,172 @@
-/* What scripts have posted: the lines with which the output begins, until the host was told them. */
+/* What scripts have posted: each line is read as the program writes it, and kept until the host was told it. */
 #include "engine.h"
 
 #include <stdlib.h>
 #include <string.h>
 
-enum { MOST_RUNS = 128, MOST_VALUES = 1024 };
+/* What is not a count of values. */
+static const size_t none = SIZE_MAX;
 
-/* What the host takes at once. */
-struct bb_batch {
-    bb_posts runs[MOST_RUNS];
-    bb_value values[MOST_VALUES];
-    size_t run_count, value_count;
-};
+/* ---- Reading */
 
-/* Reads what the line of a post has in front of its values. It stands apart, since it is seldom another than the last one. */
-__attribute__((noinline)) static const char *read_other_front(struct bb_front *front, const char *text, const char *end)
+/* Reads `7`, `-7` or `7u`, and gives where it ends; or NULL where there is something else. */
+static inline const char *read_integer(const char *text, bb_value *value)
+{
+    bool is_negative = *text == '-';
+    const char *from = text + is_negative, *at = from;
+    uint64_t number = 0;
+    for (unsigned digit; (digit = (unsigned)(unsigned char)*at - '0') < 10; at++)
+        number = number * 10 + digit;
+    bool is_unsigned = *at == 'u' && !is_negative;
+    value->kind = is_unsigned ? BB_UINT : BB_INT;
+    value->as.u64 = is_negative ? 0 - number : number;
+    return at > from ? at + is_unsigned : NULL;
+}
+
+/* Reads values that are all integers, `7,8)` with the end of the line, and gives how many these are; or 0 where they are
+   not. The parenthesis in front of the line's end ends digits, if nothing else does. */
+static inline size_t read_integers(const char *at, const char *end, bb_value *values)
+{
+    if (end[-2] != ')' || end[-1] != '\n')
+        return 0;
+    for (size_t count = 0; count < MOST_ARGUMENTS; at++) {
+        at = read_integer(at, &values[count]);
+        if (!at)
+            return 0;
+        count++;
+        if (*at != ',')
+            return at == end - 2 ? count : 0;
+    }
+    return 0;
+}
+
+/* Reads values, with the end of the line, and gives how many these are; or none where there is something else. */
+static inline size_t read_values(const char *text, const char *end, bb_value *values)
+{
+    size_t count = read_integers(text, end, values);
+    if (count)
+        return count;
+    bb_ask ask;
+    return bb_read_values(text, end, &ask, values) == end ? ask.count : none;
+}
+
+/* Whether a text begins with the front that was read last, and has values behind it. */
+static inline bool has_front(const struct bb_front *front, const char *text, const char *end)
+{
+    return front->bytes && front->bytes + 2 <= (size_t)(end - text) && memcmp(text, front->text, front->bytes) == 0;
+}
+
+/* Reads the front of a post, and gives where it ends; or NULL where a text does not begin with one. */
+static const char *read_front(struct bb_front *front, const char *text, const char *end)
 {
     const char *values = bb_read_front(text, end, &front->ask);
-    front->bytes = values && values - text <= MOST_FRONT ? (size_t)(values - text) : 0;
+    bool is_post = values && end - values >= 2 && front->ask.posted && front->ask.kind == BB_CALL && !front->ask.has_object;
+    front->bytes = is_post && values - text <= MOST_FRONT ? (size_t)(values - text) : 0;
     memcpy(front->text, text, front->bytes);
-    return values;
+    return is_post ? values : NULL;
 }
 
-static inline const char *read_front(struct bb_front *front, const char *text, const char *end)
+/* ---- Keeping */
+
+/* How many more calls of the last run may be kept, so that there is room for any post as long as there is for one of these. */
+static size_t room_of_run(const struct bb_kept *kept, size_t count)
 {
-    size_t bytes = front->bytes;
-    bool is_same = bytes && bytes <= (size_t)(end - text) && memcmp(text, front->text, bytes) == 0;
-    return is_same ? text + bytes : read_other_front(front, text, end);
+    size_t most = MOST_VALUES - MOST_ARGUMENTS;
+    if (kept->runs_kept == MOST_RUNS || kept->values_kept > most)
+        return 0;
+    return (most - kept->values_kept) / (count ? count : 1);
 }
 
-/* Reads the post that stands at `output_at`, if one does, and gives where it ends. */
-static inline const char *read_post(bb_engine *engine, bb_ask *ask, bb_value values[MOST_ARGUMENTS])
+/* Whether a front is `post 0 call 12 - (`, with one digit for the driver, and up to four for the function. */
+static bool is_short(const struct bb_front *front)
 {
-    if (engine->output_at == engine->output_bytes)
-        return NULL;
-    const char *text = engine->output + engine->output_at, *end = engine->output + engine->output_bytes;
-    const char *at = *text == 'p' ? read_front(&engine->front, text, end) : NULL;
-    if (!at)
-        return NULL;
-    *ask = engine->front.ask;
-    return bb_read_values(at, end, ask, values);
+    return front->bytes && front->ask.driver <= 9 && front->ask.function <= 9999;
+}
+
+/* Begins a run with a call of the function of the front, whose values stand behind those that are kept. */
+static void begin_run(struct bb_kept *kept, size_t count)
+{
+    const bb_ask *ask = &kept->front.ask;
+    bb_posts *run = &kept->runs[kept->runs_kept++];
+    *run = (bb_posts){ask->driver, ask->function, 1, count, kept->values + kept->values_kept};
+    kept->values_kept += count;
+    kept->room = room_of_run(kept, count);
+    kept->plain = count == 1 && is_short(&kept->front) ? run : NULL;
+}
+
+/* Keeps a call of the function of the front, with so many values: in the last run, if that has this front and as many. */
+static void keep(struct bb_kept *kept, size_t count, bool is_same_front)
+{
+    bb_posts *run = is_same_front && kept->runs_kept ? &kept->runs[kept->runs_kept - 1] : NULL;
+    if (!run || run->count != count) {
+        begin_run(kept, count);
+        return;
+    }
+    run->calls++;
+    kept->values_kept += count;
+    kept->room--;
+}
+
+enum bb_keeping bb_keep_post(bb_engine *engine, const char *text, size_t bytes)
+{
+    if (!engine->posts && !(engine->posts = calloc(1, sizeof *engine->posts)))
+        return BB_NO_MEMORY;
+    struct bb_kept *kept = engine->posts;
+    const char *end = text + bytes;
+    bool is_same_front = has_front(&kept->front, text, end);
+    const char *values = is_same_front ? text + kept->front.bytes : read_front(&kept->front, text, end);
+    size_t count = values ? read_values(values, end, kept->values + kept->values_kept) : none;
+    if (count == none) {
+        kept->front.bytes = 0;
+        kept->plain = NULL;
+        return BB_NO_POST;
+    }
+    keep(kept, count, is_same_front);
+    return BB_KEPT;
+}
+
+/* ---- Telling */
+
+/* Takes the first call of the next run. */
+static bool next_run(bb_engine *engine)
+{
+    struct bb_kept *kept = engine->posts;
+    if (kept->runs_told == kept->runs_kept)
+        return false;
+    const bb_posts *run = &kept->runs[kept->runs_told++];
+    kept->left = run->calls - 1;
+    kept->waits = true;
+    engine->ask = (bb_ask){BB_CALL, run->driver, run->function, false, true, 0, run->count, engine->values};
+    bb_tell_values(engine, run->values);
+    return true;
 }
 
 bool bb_next_post(bb_engine *engine)
 {
-    const char *end;
-    while ((end = read_post(engine, &engine->ask, engine->values))) {
-        engine->output_at = (size_t)(end - engine->output);
-        if (!engine->input_ended)
-            return true;
-    }
-    return false;
+    return engine->posts && !engine->input_ended && (bb_next_call(engine) || next_run(engine));
 }
 
 void bb_forget_posts(bb_engine *engine)
 {
-    if (!engine->output_at)
+    struct bb_kept *kept = engine->posts;
+    if (!kept)
         return;
-    engine->output_bytes -= engine->output_at;
-    memmove(engine->output, engine->output + engine->output_at, engine->output_bytes + 1);
-    engine->output_at = 0;
+    kept->runs_kept = kept->values_kept = kept->room = kept->runs_told = kept->left = 0;
+    kept->plain = NULL;
+    kept->waits = false;
 }
 
-/* Puts a post behind the others. False, with nothing done, where there is no room for another run. */
-static bool put_post(struct bb_batch *batch, const bb_ask *ask)
+const bb_posts *bb_rest_of_posts(bb_engine *engine, size_t *runs)
 {
-    bb_posts *last = batch->run_count ? &batch->runs[batch->run_count - 1] : NULL;
-    if (last && last->driver == ask->driver && last->function == ask->function && last->count == ask->count)
-        last->calls++;
-    else if (batch->run_count == MOST_RUNS)
-        return false;
-    else
-        batch->runs[batch->run_count++] = (bb_posts){ask->driver, ask->function, 1, ask->count, ask->values};
-    batch->value_count += ask->count;
-    return true;
-}
-
-const bb_posts *bb_batch_posts(bb_engine *engine, size_t *runs)
-{
-    *runs = 0;
-    if (!engine->batch)
-        engine->batch = malloc(sizeof *engine->batch);
-    struct bb_batch *batch = engine->batch;
-    if (!batch)
+    struct bb_kept *kept = engine->posts;
+    if (!kept->waits)
         return NULL;
-    batch->run_count = batch->value_count = 0;
-    bb_ask ask = engine->ask;
-    memcpy(batch->values, engine->values, ask.count * sizeof *batch->values);
-    ask.values = batch->values;
-    const char *end = engine->output + engine->output_at;
-    while (end && put_post(batch, &ask)) {
-        engine->output_at = (size_t)(end - engine->output);
-        bool has_room = batch->value_count <= MOST_VALUES - MOST_ARGUMENTS;
-        end = has_room ? read_post(engine, &ask, batch->values + batch->value_count) : NULL;
-    }
-    *runs = batch->run_count;
-    return batch->runs;
+    bb_posts *first = &kept->runs[kept->runs_told - 1];
+    first->calls = kept->left + 1;
+    first->values = kept->told;
+    *runs = kept->runs_kept - kept->runs_told + 1;
+    kept->runs_told = kept->runs_kept;
+    kept->left = 0;
+    kept->waits = false;
+    return first;
 }

@@ -25,10 +25,10 @@ enum { LINE = 136 };
 
 /* The least bytes of a long list; and the most of a block for one that is kept for the next command, which is no more than this
    part of the engine's limit of memory either. */
-enum { LONG_LIST = 64 << 10, KEPT_LIST = 2 << 20, KEPT_PART = 32 };
+enum { LONG_LIST = 4 << 10, KEPT_LIST = 2 << 20, KEPT_PART = 32 };
 
-/* The bytes of posts that are kept for the host: with as many it is given them before the program goes on. */
-enum { MOST_POSTS = 64 << 10 };
+/* So many posts come between two looks at the clock, where the command has a deadline. */
+enum { UNWATCHED = 64 };
 
 int bb_program_main(void);
 
@@ -352,25 +352,113 @@ static ssize_t refused(bb_engine *engine, int error)
     return -1;
 }
 
-/* What is written to standard error is dropped: the status says it. A post for which the program takes no memory is where a
-   command may be ended that grows nothing. */
-ssize_t bb_write(int stream, const void *bytes, size_t count)
+static ssize_t write_text(bb_engine *engine, const char *text, size_t count)
 {
-    bb_engine *engine = now;
-    if (stream != OUTPUT)
-        return stream == ERRORS ? (ssize_t)count : refused(engine, EBADF);
-    if (is_post(bytes, count) && is_ending(engine))
-        return refused(engine, ECANCELED);
     if (!has_room(engine, count))
         return refused(engine, ENOMEM);
     if (count)
-        memcpy(engine->output + engine->output_bytes, bytes, count);
+        memcpy(engine->output + engine->output_bytes, text, count);
     engine->output_bytes += count;
     engine->output[engine->output_bytes] = 0;
     engine->has_written = true;
-    if (engine->output_bytes >= MOST_POSTS && is_post(engine->output, engine->output_bytes))
+    return (ssize_t)count;
+}
+
+/* Lets the host take what is kept, if it has to before another post. */
+__attribute__((noinline)) static ssize_t kept(bb_engine *engine, size_t count)
+{
+    if (!engine->posts->room)
         stop(engine, BB_FOR_ROOM);
     return (ssize_t)count;
+}
+
+/* A post, for which the program takes no memory, is where a command may end that grows nothing; and once the engine is to end,
+   it does so there, since the host is told nothing more. */
+static ssize_t write_post(bb_engine *engine, const char *line, size_t count)
+{
+    if (engine->input_ended || is_ending(engine))
+        return refused(engine, ECANCELED);
+    enum bb_keeping keeping = bb_keep_post(engine, line, count);
+    if (keeping == BB_NO_POST)
+        return write_text(engine, line, count);
+    if (keeping == BB_NO_MEMORY)
+        return refused(engine, ENOMEM);
+    engine->has_written = true;
+    return kept(engine, count);
+}
+
+/* What is written to standard error is dropped: the status says it. */
+__attribute__((noinline)) static ssize_t write_apart(bb_engine *engine, int stream, const void *bytes, size_t count)
+{
+    if (stream != OUTPUT)
+        return stream == ERRORS ? (ssize_t)count : refused(engine, EBADF);
+    return is_post(bytes, count) ? write_post(engine, bytes, count) : write_text(engine, bytes, count);
+}
+
+static inline uint32_t four_at(const char *text)
+{
+    uint32_t four;
+    memcpy(&four, text, sizeof four);
+    return four;
+}
+
+/* Whether a text has a short front of so many bytes, `post 0 call 12 - (`. It is read in such pieces as the program has just
+   written it in: a processor hands on what was stored to a load that wants no more than one store has, and else the load
+   waits. */
+static inline bool has_short_front(const char *text, const char *front, size_t bytes)
+{
+    uint32_t words = (four_at(text) ^ four_at(front)) | (four_at(text + 7) ^ four_at(front + 7)) |
+                     (four_at(text + bytes - 4) ^ four_at(front + bytes - 4));
+    uint8_t rest = (uint8_t)((text[4] ^ front[4]) | (text[5] ^ front[5]) | (text[6] ^ front[6]) | (text[11] ^ front[11]));
+    for (size_t at = 12; at < bytes - 4; at++)
+        rest |= (uint8_t)(text[at] ^ front[at]);
+    return !(words | rest);
+}
+
+/* Reads a text that is `7)` and the end of a line. The parenthesis ends the digits, if nothing else does. */
+static inline bool read_last_number(const char *text, const char *end, uint64_t *number)
+{
+    if (memcmp(end - 2, ")\n", 2) != 0)
+        return false;
+    uint64_t sum = 0;
+    for (unsigned digit; (digit = (unsigned)(unsigned char)*text - '0') < 10; text++)
+        sum = sum * 10 + digit;
+    *number = sum;
+    return text == end - 2;
+}
+
+/* Keeps a post that is as the one before, with one number. False, with nothing done, where that is not so. */
+static inline bool keeps_number(struct bb_kept *kept, const char *text, size_t bytes)
+{
+    uint64_t number;
+    size_t front = kept->front.bytes;
+    if (bytes < front + 3 || !has_short_front(text, kept->front.text, front) ||
+        !read_last_number(text + front, text + bytes, &number))
+        return false;
+    bb_value *value = &kept->values[kept->values_kept++];
+    value->kind = BB_INT;
+    value->as.u64 = number;
+    kept->plain->calls++;
+    kept->room--;
+    return true;
+}
+
+/* Whether a post that is as the one before may be where the command ends. At the clock is looked for some of these alone. */
+static inline bool may_end(bb_engine *engine)
+{
+    return (engine->deadline && engine->posts->room % UNWATCHED == 0) ||
+           atomic_load_explicit(&engine->cancelled, memory_order_relaxed);
+}
+
+/* The program writes a post as one line, by one call. */
+ssize_t bb_write(int stream, const void *bytes, size_t count)
+{
+    bb_engine *engine = now;
+    bool is_plain = stream == OUTPUT && engine->posts && engine->posts->plain && !may_end(engine) &&
+                    keeps_number(engine->posts, bytes, count);
+    if (!is_plain)
+        return write_apart(engine, stream, bytes, count);
+    return engine->posts->room ? (ssize_t)count : kept(engine, count);
 }
 
 /* What the program's start calls, to say that the processor lacks what it was built for. */

@@ -5,6 +5,7 @@
 Prints what stands in posts.expected.
 """
 
+import operator
 import os
 import sys
 from typing import Callable, List, Optional
@@ -23,6 +24,7 @@ int64 mixed(int64 n) {
   return wrong;
 }
 void many(int64 n) { for (int64 i = 0; i < n; i++) say(i); }
+int64 behind() { say(7); return sum(40, 2); }
 int64 blamed() { bad(); say(7); return last(); }
 void kinds() {
   Thing a(7);
@@ -62,6 +64,7 @@ def main() -> None:
     profile.posted("void say(int64)", said.append)
     profile.function("int64 last()", lambda: said[-1])
     profile.posted("void bad()", bad)
+    profile.function("int64 sum(int64, int64)", operator.add)
     thing = profile.type("Thing")
     thing.factory("Thing@ f(int)", Thing)
     thing.posted("void note(Thing@+, bool, uint8, uint64, int8)", noted(notes))
@@ -71,6 +74,8 @@ def main() -> None:
         module.section(SCRIPT)
         if not module.build().ok:
             print("the script is not built")
+        if module.call("int64 behind()") != 42:
+            print("what is asked behind the first post has other values")
         wrong = module.call("int64 mixed(int64)", 1000)
         print(f"1000 times two posts and an ask: {wrong} out of order")
         said.clear()

@@ -33,16 +33,17 @@ use Rattle.ang_check_contest.specs.Host.{first_found, found, function_of_entry, 
 use Rattle.ang_check_contest.proofs.Adding.{past_end, same_number}
 use Rattle.ang_check_uses.specs.Uses.{candidates_of, host_methods, resolution_of, value_in}
 use Rattle.ang_check_contest.specs.Scopes.{Scope}
-use Rattle.ang_check_denials.specs.Added.{adds, call_wins, factories, has_global, is_called_by, is_enumeration_number, is_factory_of, is_number_of, is_property_of, is_type_number, is_value_at, named_with, plain, value_wins, wins, with_receiver}
+use Rattle.ang_check_added.specs.Made.{plain, with_receiver}
+use Rattle.ang_check_denials.specs.Added.{adds, call_wins, factories, has_global, is_called_by, is_enumeration_number, is_factory_of, is_number_of, is_property_of, is_type_number, is_value_at, named_with, value_wins, wins}
 use Rattle.ang_check_denials.specs.Denials.{helps, means_entry, stays}
 use Rattle.ang_check_denials.specs.Names.{PutsHidden, help_row, hidden_named, is_a_type_named, is_hidden_named, name_meant, name_sought, own_name, owner_name}
 use Rattle.ang_check_denials.proofs.Helping.{entry_at-hidden, helps_is, hidden_unseen, seen_helps_not}
-use Rattle.ang_check_denials.proofs.Kept.{one_more}
+use Rattle.ang_check_added.proofs.Kept.{one_more}
 use Rattle.ang_check_denials.proofs.Meaning.{wins_wanted}
 
 -- ---- the name of an entry
 
-no_factory : (p : EntryKind → Bool) → p entry.Factory ≡ false → (k : EntryKind) → p k ≡ true → is_factory k ≡ false
+pub no_factory : (p : EntryKind → Bool) → p entry.Factory ≡ false → (k : EntryKind) → p k ≡ true → is_factory k ≡ false
 no_factory p f entry.HostType e = refl
 no_factory p f entry.Factory e = let no' : false ≡ true = sym f ∙ e in cc
 no_factory p f entry.Method e = refl

@@ -31,7 +31,7 @@ taken_or true false false = refl
 taken_or false w true = refl
 taken_or false w false = refl
 
-stays_is : (s : Scope) (r : Refused) (a : Asks) (o : Option Entry) (joined : Bool) → joined ≡ is_joined s r.error.name a
+pub stays_is : (s : Scope) (r : Refused) (a : Asks) (o : Option Entry) (joined : Bool) → joined ≡ is_joined s r.error.name a
     → stays s r a o ≡ (if joined && is_function_entry o then false else is_taken s r a)
 stays_is s r a o joined e =
     let own = is_own s r a in

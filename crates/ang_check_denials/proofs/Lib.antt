@@ -1,4 +1,3 @@
-pub mod Bringing
 pub mod ByName
 pub mod Helping
 pub mod Kept
@@ -9,5 +8,6 @@ pub mod Places
 pub mod SameUses
 pub mod Seen
 pub mod Taking
+pub mod Telling
 pub mod Types
 pub mod Values

@@ -43,7 +43,8 @@ use Rattle.ang_check_uses.specs.declared.uses.Resolution.{Resolution}
 use Rattle.ang_check_uses.specs.declared.uses.Resolution.TheVariants as resolution
 use Rattle.ang_check_uses.specs.Uses.{best_function, best_method, best_of_those, called_by, called_name, callable_at, callable_in, candidates_of, constructor_of, default_maker, enumeration_meant, factories_of, functions_of, global_meant, global_or_host, host_callable, host_meant, host_method, host_methods, imported_function, maker, makers_for, makers_in, makers_of, own_function, picked, property_meant, resolution_of, script_callables, takes_number, type_meant, unmatched, value_meant, variable_meant}
 use Rattle.ang_check_contest.specs.Scopes.{Scope}
-use Rattle.ang_check_denials.specs.Added.{adds, call_wins, factories, factory_wins, found_in, has_global, has_place, is_called_by, is_enumeration_number, is_factory_of, is_number_of, is_property_of, is_type_number, is_value_at, named_with, plain, property_wins, value_wins, wins, with_receiver}
+use Rattle.ang_check_added.specs.Made.{found_in, plain, with_receiver}
+use Rattle.ang_check_denials.specs.Added.{adds, call_wins, factories, factory_wins, has_global, has_place, is_called_by, is_enumeration_number, is_factory_of, is_number_of, is_property_of, is_type_number, is_value_at, named_with, property_wins, value_wins, wins}
 use Rattle.ang_check_denials.specs.Denials.{is_called, means_entry}
 use Rattle.ang_check_denials.specs.Names.{is_a_type_named}
 use Rattle.ang_check_denials.proofs.Places.{Apart, apart_append, candidates_map, means_added, none_meant}

@@ -22,13 +22,13 @@ use Rattle.ang_check_contest.specs.declared.host.Wanted.{Wanted}
 use Rattle.ang_check_contest.specs.declared.host.Wanted.TheVariants as wanted
 use Rattle.ang_check_contest.specs.Scopes.{Scope}
 use Rattle.ang_check_uses.specs.Uses.{candidates_of, functions_of, host_methods, resolution_of, takes_number}
-use Rattle.ang_check_denials.specs.Added.{adds, call_wins, factories, factory_wins, found_in, is_called_by, named_with, wins}
+use Rattle.ang_check_added.specs.Made.{candidate_in, candidate_of, found_in, is_won, made}
+use Rattle.ang_check_denials.specs.Added.{adds, call_wins, factories, factory_wins, is_called_by, named_with, wins}
 use Rattle.ang_check_denials.specs.Denials.{helps, means_entry, stays}
-use Rattle.ang_check_denials.specs.Made.{candidate_in, candidate_of, is_won, made}
 use Rattle.ang_check_denials.specs.Takers.{can_mean_at}
 use Rattle.ang_check_denials.proofs.ByName.{past_helps_not}
 use Rattle.ang_check_denials.proofs.Helping.{hidden_unseen, seen_helps_not}
-use Rattle.ang_check_denials.proofs.Making.{candidate_is_made}
+use Rattle.ang_check_added.proofs.Making.{candidate_is_made}
 use Rattle.ang_check_denials.proofs.Meaning.{adds_means}
 
 -- ---- one candidate

@@ -8,7 +8,8 @@ use Rattle.ang_check_contest.specs.declared.host.Wanted.TheVariants as wanted
 use Rattle.ang_check_contest.specs.Contest.{IsContest, Standing, fresh}
 use Rattle.ang_check_contest.specs.Host.{host_where}
 use Rattle.ang_check_uses.specs.Uses.{candidates_of, factories_of, maker}
-use Rattle.ang_check_denials.specs.Added.{factories, plain}
+use Rattle.ang_check_added.specs.Made.{plain}
+use Rattle.ang_check_denials.specs.Added.{factories}
 use Rattle.ang_check_denials.proofs.Places.{candidates_map}
 
 -- factories that can be called are candidates as they are

@@ -14,8 +14,8 @@ use Rattle.ang_view.specs.Registration.{RegistrationList}
 use Rattle.ang_check_contest.specs.declared.host.Wanted.{Wanted}
 use Rattle.ang_check_contest.specs.Told.{IsTable, TellsRanks, ranks_at}
 use Rattle.ang_check_contest.proofs.ToldLaws.{ranks_told}
-use Rattle.ang_check_denials.specs.Made.{candidate_in, made, params_in, params_made}
-use Rattle.ang_check_denials.proofs.Making.{candidate_is_made}
+use Rattle.ang_check_added.specs.Made.{candidate_in, made, params_in, params_made}
+use Rattle.ang_check_added.proofs.Making.{candidate_is_made}
 
 -- ---- a candidate that was made
 

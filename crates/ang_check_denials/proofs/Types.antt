@@ -4,14 +4,14 @@ use Rattle.std.specs.List.{position_from, range_with_len}
 use Rattle.std.proofs.Common.{arith, refl, sym, ap, ◌∙◌}
 use Rattle.std.proofs.lemmas.Iterator.Adapters.{position_from-zero}
 use Rattle.std.proofs.lemmas.Bool.{eqb-true}
-use Rattle.ang_kinds.specs.declared.mask.EntityNo.{EntityNo}
 use Rattle.ang_view.specs.declared.entry.Entry.{Entry}
 use Rattle.ang_view.specs.declared.entry.EntryKind.{EntryKind}
 use Rattle.ang_view.specs.declared.entry.EntryKind.TheVariants as entry
 use Rattle.ang_view.specs.Hidden.{is_with, numbers_of, seen_with}
-use Rattle.ang_view.specs.Named.{has_name, is_bare, find as found}
+use Rattle.ang_view.specs.Named.{is_type_entry}
 use Rattle.ang_view.specs.Registration.{RegistrationList, entry_at, is_host_type, is_seen, is_type, seen, seen_entry}
 use Rattle.ang_view.specs.Types.{enumeration_named, is_enumeration, is_enumeration_named, is_type_named, type_named}
+use Rattle.ang_view.proofs.Lists.{and_gives}
 use Rattle.ang_view.proofs.Seen.{entry_at-seen, position-passes}
 use Rattle.ang_names_known.specs.declared.names.Family.{Family}
 use Rattle.ang_names_known.specs.declared.space.Named.{Named}
@@ -22,7 +22,8 @@ use Rattle.ang_check_contest.specs.Scopes.{Scope}
 use Rattle.ang_check_denials.specs.Added.{family_of_name, is_shown, is_shown_enumeration, is_shown_type, named_with}
 use Rattle.ang_check_denials.specs.Denials.{is_known}
 use Rattle.ang_check_denials.specs.Names.{is_a_type_named, types_named}
-use Rattle.ang_check_denials.proofs.Kept.{found_of_part, kept_of_part}
+use Rattle.ang_check_added.specs.Brought.{all_types}
+use Rattle.ang_check_added.proofs.Kept.{found_of_part, kept_of_part}
 
 pub type_is : (V : RegistrationList) (name : List ℕ) → type_named V name ≡ position_from (is_type_named name) 0 V
 unfolding type_named
@@ -74,36 +75,24 @@ module _ (p : Option Entry → Bool) (none : p None ≡ false) where
       let passes = position-passes p (seen_with R m x) n None e in
       kept_entry R m (is_with R x n) (entry_at R n) (ap p (sym (entry_at-seen_with R m x n)) ∙ passes.1)
 
--- ---- the types of a name are among the entries that the list finds by it
+-- ---- the types of a name are among all types
 
 both_follow : (b d c : Bool) → (b ≡ true → d ≡ true) → (b && c) ≡ true → (d && c) ≡ true
 both_follow true d true h is = rw (h refl) refl
 both_follow true d false h is = cc
 both_follow false d c h is = cc
 
-type_is_bare : (k : EntryKind) → is_type k ≡ true → is_bare k ≡ true
-type_is_bare entry.HostType e = refl
-type_is_bare entry.Factory e = cc
-type_is_bare entry.Method e = cc
-type_is_bare entry.Property e = cc
-type_is_bare entry.Function e = cc
-type_is_bare entry.Global e = cc
-type_is_bare entry.Enumeration e = refl
-type_is_bare (entry.EnumValue v) e = cc
+type_entry : (name : List ℕ) (o : Option Entry) → is_a_type_named name o ≡ true → is_type_entry o ≡ true
+type_entry name None e = cc
+type_entry name (Some x) e = (and_gives (is_type x.kind) (bytes_eq x.signature.name name) e).0
 
-type_is_found : (name : List ℕ) (o : Option Entry) → is_a_type_named name o ≡ true → has_name name o ≡ true
-type_is_found name None e = cc
-type_is_found name (Some x) e = both_follow (is_type x.kind) (is_bare x.kind) (bytes_eq x.signature.name name) (type_is_bare x.kind) e
+pub types_are : (R : RegistrationList) (name : List ℕ) (ns : List ℕ) → ns ≡ all_types R → filter (λ k. is_a_type_named name (entry_at R k)) ns ≡ types_named R name
+unfolding all_types types_named
+types_are R name ns are =
+    ap (filter (λ k. is_a_type_named name (entry_at R k))) are
+    ∙ kept_of_part (λ k. is_a_type_named name (entry_at R k)) (λ k. is_type_entry (entry_at R k)) (λ k e. type_entry name (entry_at R k) e) (numbers_of R)
 
-pub types_are : (R : RegistrationList) (name : List ℕ) (es : List EntityNo) → map (λ (e : EntityNo). e.0) es ≡ found R name
-    → filter (λ k. is_a_type_named name (entry_at R k)) (map (λ (e : EntityNo). e.0) es) ≡ types_named R name
-unfolding found types_named
-types_are R name es are =
-    let is_type_at : ℕ → Bool = λ k. is_a_type_named name (entry_at R k) in
-    ap (filter is_type_at) are
-    ∙ kept_of_part is_type_at (λ k. has_name name (entry_at R k)) (λ k e. type_is_found name (entry_at R k) e) (numbers_of R)
-
-host_type_is_type : (k : EntryKind) → is_host_type k ≡ true → is_type k ≡ true
+pub host_type_is_type : (k : EntryKind) → is_host_type k ≡ true → is_type k ≡ true
 host_type_is_type entry.HostType e = refl
 host_type_is_type entry.Factory e = cc
 host_type_is_type entry.Method e = cc

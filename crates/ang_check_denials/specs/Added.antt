@@ -3,7 +3,6 @@
 use Rattle.std.specs.Prelude.{ℕ, ◌==◌, Bool, false, not, ◌&&◌, ◌||◌, List, [], ◌∷◌, map, is_some, slice_get, Option, Some, None, bytes_eq}
 use Rattle.std.specs.List.{position}
 use Rattle.ang_kinds.specs.declared.mask.EntityNo.{EntityNo}
-use Rattle.ang_kinds.specs.declared.types.Pass.TheVariants as pass
 use Rattle.ang_types.specs.declared.arg_type.ArgType.{ArgType}
 use Rattle.ang_types.specs.declared.arg_type.ArgType.TheVariants as type
 use Rattle.ang_types.specs.declared.asks.Asks.{Asks}
@@ -18,7 +17,6 @@ use Rattle.ang_view.specs.Named.{is_value_named, values_named, is_factory}
 use Rattle.ang_view.specs.Types.{is_enumeration_named, is_type_named}
 use Rattle.ang_check_contest.specs.declared.host.SeenFunction.{SeenFunction}
 use Rattle.ang_check_contest.specs.declared.host.SeenProperty.{SeenProperty}
-use Rattle.ang_check_contest.specs.declared.host.Wanted.{Wanted}
 use Rattle.ang_check_contest.specs.declared.host.Wanted.TheVariants as wanted
 use Rattle.ang_check_contest.specs.declared.host.WantedProperty.{WantedProperty}
 use Rattle.ang_check_contest.specs.declared.host.WantedProperty.TheVariants as property
@@ -27,23 +25,17 @@ use Rattle.ang_names_known.specs.declared.names.ScriptGlobal.{ScriptGlobal}
 use Rattle.ang_names_known.specs.declared.space.Named.{Named}
 use Rattle.ang_names_known.specs.declared.space.Named.TheVariants as named
 use Rattle.ang_check_contest.specs.Added.{added_property}
-use Rattle.ang_check_contest.specs.Host.{found, host_where, property_found, property_where}
+use Rattle.ang_check_contest.specs.Host.{host_where, property_found, property_where}
 use Rattle.ang_names_known.specs.Items.{is_empty}
 use Rattle.ang_names_known.specs.Lookup.{global_named}
 use Rattle.ang_names_known.specs.Spaces.{family_of_type, family_or_host, space_of_names, type_of_name}
 use Rattle.ang_check_uses.specs.Uses.{candidates_of, functions_of, host_methods, takes_number, value_in}
 use Rattle.ang_check_contest.specs.Scopes.{Scope}
+use Rattle.ang_check_added.specs.Made.{found_in, plain, with_receiver}
 use Rattle.ang_check_denials.specs.Denials.{is_call}
 use Rattle.ang_check_denials.specs.Names.{is_a_type_named}
 
 -- ---- what is seen beside the entry that is added
-
--- a function or a factory, and a method with its receiver in front, as candidates
-abbrev pub plain : SeenFunction → Candidate
-plain f = record { params = f.params }
-
-abbrev pub with_receiver : ℕ → SeenFunction → Candidate
-with_receiver n f = record { params = (type.Object n f.read_only, pass.RefInOut) ∷ f.params }
 
 abbrev pub factories : RegistrationList → ℕ → List Candidate
 factories V n = map plain (host_where (wanted.Factory n) V)
@@ -136,9 +128,6 @@ value_wins R s name x (Some h) = h.entity.0 == x
 abbrev pub wins : Ancestors → (SeenFunction → Candidate) → List Candidate → List ArgType → Option SeenFunction → Bool
 wins ancestors candidate cs args None = false
 wins ancestors candidate cs args (Some f) = is_best ancestors (candidate f ∷ cs) args 0
-
-abbrev pub found_in : RegistrationList → ℕ → Wanted → Option SeenFunction
-found_in R x w = found w R x (entry_at R x)
 
 abbrev pub is_number_of : ℕ → Named → Bool
 is_number_of x named.Unknown = false

@@ -7,7 +7,7 @@ use Rattle.ang_types.specs.declared.candidate.Candidate.{Candidate}
 use Rattle.ang_types.specs.Ranks.{Ancestors}
 use Rattle.ang_view.specs.Registration.{RegistrationList}
 use Rattle.ang_check_uses.specs.Uses.{takes_number}
-use Rattle.ang_check_denials.specs.Made.{is_won, made}
+use Rattle.ang_check_added.specs.Made.{is_won, made}
 
 -- An entry that is this candidate would be the best if it were alone. A call of an enumeration's name takes a number.
 abbrev pub can_mean : Ancestors → Asks → Option Candidate → Bool

@@ -148,7 +148,7 @@ fn of_others(
         (λ b. b.named.numbers.items ≡ names.types_named masked.now.list name.now) }
     ensures family { IfOk result (λ b. b.named.family ≡ spec.family_of_name scope.now name.now) }
 {
-    let named = all_named(alloc, masked.whole(), scope, name)?;
+    let named = all_named(alloc, masked, scope, name)?;
     let made = if calls { first_called(&named) } else { NO_TYPE };
     let makers = makers_of(alloc, scope, made, types.as_slice())?;
     Ok(Beside {
@@ -180,7 +180,7 @@ fn of_property(
         (λ b. b.named.numbers.items ≡ names.types_named masked.now.list name.now) }
     ensures family { IfOk result (λ b. b.named.family ≡ spec.family_of_name scope.now name.now) }
 {
-    let named = all_named(alloc, masked.whole(), scope, name)?;
+    let named = all_named(alloc, masked, scope, name)?;
     let rivals = no_others(alloc, 0)?;
     let makers = makers_of(alloc, scope, NO_TYPE, &[])?;
     Ok(Beside {

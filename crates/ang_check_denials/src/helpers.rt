@@ -8,6 +8,7 @@ ghost use Rattle.ang_check_denials.specs.Denials as spec;
 ghost use Rattle.ang_check_contest.specs.Told.{IsTable, table_of};
 ghost use Rattle.ang_check_denials.specs.Names as names;
 ghost use Rattle.ang_check_denials.specs.Others.{AreOthers};
+ghost use Rattle.ang_check_denials.specs.Telling as telling;
 
 use crate::beside::{Beside, beside_of};
 use crate::masked::Masked;
@@ -15,6 +16,7 @@ use crate::meanings::adds;
 use crate::named::is_known;
 use crate::sought::help_row;
 use crate::takers::can_help;
+use crate::told::{Told, is_sought, told_of, wins};
 use ang_check_contest::{Scope, table_for};
 use ang_check_uses::type_named;
 use ang_index::Index;
@@ -129,17 +131,6 @@ fn helps(
     adds(alloc, masked, scope, name, asks, beside, number, table)
 }
 
-/// Puts a number at the end, where it is kept.
-pub fn push_kept(numbers: &mut Vec<u32>, keeps: bool, number: u32) -> Result<(), AllocError>
-    ensures pushed { OnOk result (numbers.new.items
-        ≡ numbers.old.items ++ (if keeps then number ∷ [] else [])) }
-{
-    if keeps {
-        numbers.push(number)?;
-    }
-    Ok(())
-}
-
 /// A number, where it is kept.
 fn kept(keeps: bool, number: u32) -> Option<u32>
     ensures exact { option_to_list result ≡ (if keeps then number ∷ [] else []) }
@@ -148,6 +139,7 @@ fn kept(keeps: bool, number: u32) -> Option<u32>
 }
 
 /// A number of a row, where its entry resolves a refused use. `count` is how many entries there are.
+#[inline(never)]
 #[tactic(auto, using(crate::proofs::ByName::past_helps_not))]
 fn helper_at(
     alloc: Global,
@@ -191,6 +183,55 @@ fn helper_at(
         alloc, masked, scope, refused, asks, beside, taken, number, table,
     )?;
     Ok(kept(help, number))
+}
+
+/// The same, where `told` tells of some entries whether they do.
+#[inline(always)]
+fn helper_told(
+    alloc: Global,
+    masked: &Masked<'_>,
+    scope: &Scope<'_>,
+    refused: &Refused,
+    asks: &Asks,
+    beside: &Beside,
+    taken: bool,
+    count: u32,
+    number: u32,
+    table: &Option<Vec<Vec<Option<u8>>>>,
+    told: &Told,
+) -> Result<Option<u32>, AllocError>
+    requires view { scope.now.view ≡ seen masked.now.list masked.now.mask }
+    requires taken { taken ≡ spec.is_taken scope.now refused.now asks.now }
+    requires rivals { AreOthers beside.now.rivals scope.now.ancestors
+        (added.candidates_for scope.now refused.now.error.name asks.now) beside.now.types.items }
+    requires types { beside.now.types.items ≡ added.types_of asks.now }
+    requires property { beside.now.property
+        ≡ added.property_for scope.now refused.now.error.name asks.now }
+    requires joined { beside.now.joined
+        ≡ added.is_joined scope.now refused.now.error.name asks.now }
+    requires makers { AreOthers beside.now.makers scope.now.ancestors
+        (added.factories scope.now.view beside.now.made) beside.now.types.items }
+    requires named { beside.now.named.numbers.items
+        ≡ names.types_named masked.now.list refused.now.error.name }
+    requires family { beside.now.named.family
+        ≡ added.family_of_name scope.now refused.now.error.name }
+    requires count { count ≡ length masked.now.list }
+    requires few { count ≤ 1024 }
+    requires table { IsTable scope.now.ancestors (numbered 0 masked.now.kinds)
+        beside.now.types.items (table_of table.now) }
+    requires told { telling.IsTold masked.now.list masked.now.mask masked.now.kinds scope.now
+        refused.now asks.now told.now }
+    ensures exact { IfOk result (λ helper. option_to_list helper ≡ filter
+        (telling.chosen masked.now.list masked.now.mask scope.now refused.now asks.now
+        told.now.sought) (number ∷ [])) }
+{
+    if is_sought(masked.whole(), told.sought, number) {
+        let won = wins(masked, &told.verdicts, number);
+        return Ok(kept(won, number));
+    }
+    helper_at(
+        alloc, masked, scope, refused, asks, beside, taken, count, number, table,
+    )
 }
 
 /// Puts a number at the end, where there is one.
@@ -249,6 +290,88 @@ fn helpers_beside(
     Ok(numbers)
 }
 
+/// The same, where `told` tells of some entries whether they do.
+fn helpers_told(
+    alloc: Global,
+    masked: &Masked<'_>,
+    scope: &Scope<'_>,
+    refused: &Refused,
+    asks: &Asks,
+    beside: &Beside,
+    taken: bool,
+    count: u32,
+    row: &[u32],
+    table: &Option<Vec<Vec<Option<u8>>>>,
+    told: &Told,
+) -> Result<Vec<u32>, AllocError>
+    requires view { scope.now.view ≡ seen masked.now.list masked.now.mask }
+    requires taken { taken ≡ spec.is_taken scope.now refused.now asks.now }
+    requires rivals { AreOthers beside.now.rivals scope.now.ancestors
+        (added.candidates_for scope.now refused.now.error.name asks.now) beside.now.types.items }
+    requires types { beside.now.types.items ≡ added.types_of asks.now }
+    requires property { beside.now.property
+        ≡ added.property_for scope.now refused.now.error.name asks.now }
+    requires joined { beside.now.joined
+        ≡ added.is_joined scope.now refused.now.error.name asks.now }
+    requires makers { AreOthers beside.now.makers scope.now.ancestors
+        (added.factories scope.now.view beside.now.made) beside.now.types.items }
+    requires named { beside.now.named.numbers.items
+        ≡ names.types_named masked.now.list refused.now.error.name }
+    requires family { beside.now.named.family
+        ≡ added.family_of_name scope.now refused.now.error.name }
+    requires count { count ≡ length masked.now.list }
+    requires few { count ≤ 1024 }
+    requires table { IsTable scope.now.ancestors (numbered 0 masked.now.kinds)
+        beside.now.types.items (table_of table.now) }
+    requires told { telling.IsTold masked.now.list masked.now.mask masked.now.kinds scope.now
+        refused.now asks.now told.now }
+    ensures exact { IfOk result (λ numbers. numbers.items ≡ filter
+        (telling.chosen masked.now.list masked.now.mask scope.now refused.now asks.now
+        told.now.sought) row.now) }
+{
+    let mut numbers = Vec::with_capacity(alloc, row.len())?;
+    for number in row {
+        let helper = helper_told(
+            alloc, masked, scope, refused, asks, beside, taken, count, *number, table, told,
+        )?;
+        push_number(&mut numbers, helper)?;
+    }
+    Ok(numbers)
+}
+
+/// The numbers of the row of a use whose entries resolve it, in order.
+fn helpers_of(
+    alloc: Global,
+    masked: &Masked<'_>,
+    scope: &Scope<'_>,
+    refused: &Refused,
+    asks: &Asks,
+    count: u32,
+    row: &[u32],
+) -> Result<Vec<u32>, AllocError>
+    requires view { scope.now.view ≡ seen masked.now.list masked.now.mask }
+    requires count { count ≡ length masked.now.list }
+    requires few { count ≤ 1024 }
+    requires row { row.now ≡ names.help_row masked.now.list masked.now.mask
+        refused.now.error.name asks.now }
+    ensures exact { IfOk result (λ numbers. numbers.items ≡ filter
+        (spec.helps masked.now.list masked.now.mask scope.now refused.now asks.now) row.now) }
+{
+    let beside = beside_of(alloc, masked, scope, refused.error.name.as_slice(), asks)?;
+    let taken = is_taken(scope, refused, asks);
+    let types = beside.types.as_slice();
+    let table = table_for(alloc, scope.lineage(), masked.kinds(), types, row.len())?;
+    let found = told_of(alloc, masked, scope, refused, asks, &beside, taken, &table)?;
+    let Some(told) = found else {
+        return helpers_beside(
+            alloc, masked, scope, refused, asks, &beside, taken, count, row, &table,
+        );
+    };
+    helpers_told(
+        alloc, masked, scope, refused, asks, &beside, taken, count, row, &table, &told,
+    )
+}
+
 /// The numbers of a row whose entries resolve a refused use, in order. `count` is how many entries there are.
 #[tactic(auto, using(crate::proofs::NotMeant::none_in_row))]
 fn helpers_among(
@@ -263,6 +386,8 @@ fn helpers_among(
     requires view { scope.now.view ≡ seen masked.now.list masked.now.mask }
     requires count { count ≡ length masked.now.list }
     requires few { count ≤ 1024 }
+    requires row { row.now ≡ names.help_row masked.now.list masked.now.mask
+        refused.now.error.name asks.now }
     ensures exact { IfOk result (λ numbers. numbers.items ≡ filter
         (spec.helps masked.now.list masked.now.mask scope.now refused.now asks.now) row.now) }
 {
@@ -273,13 +398,7 @@ fn helpers_among(
     if !can {
         return Ok(Vec::new(alloc));
     }
-    let beside = beside_of(alloc, masked, scope, refused.error.name.as_slice(), asks)?;
-    let taken = is_taken(scope, refused, asks);
-    let types = beside.types.as_slice();
-    let table = table_for(alloc, scope.lineage(), masked.kinds(), types, row.len())?;
-    helpers_beside(
-        alloc, masked, scope, refused, asks, &beside, taken, count, row, &table,
-    )
+    helpers_of(alloc, masked, scope, refused, asks, count, row)
 }
 
 /// The numbers of the hidden entries that would resolve a use, rising; `rows` as of `help_rows`. The only error is want of memory.

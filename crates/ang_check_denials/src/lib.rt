@@ -9,18 +9,16 @@
 #![tactic(auto)]
 
 mod beside;
-mod brought;
 mod helpers;
-mod made;
 mod marked;
 mod masked;
 mod meanings;
 mod named;
-mod numbered;
 mod rows;
 mod same;
 mod sought;
 mod takers;
+mod told;
 
 pub use ang_kinds::Denial;
 pub use masked::Masked;

@@ -1,13 +1,37 @@
-//! Numbers that are marked, and what comes with some entries, as it is marked.
+//! Numbers that are marked, and what comes with some entries, as it is marked where they don't come alone.
 ghost use Rattle.std.specs.Prelude.{◌≡◌, ◌∷◌, [], false, filter, length, replicate, slice_index_or, IfOk};
 ghost use Rattle.std.specs.List.{range_with_len};
 ghost use Rattle.ang_typed.specs.Marked.{each_marks};
 ghost use Rattle.ang_typed.specs.Uses.{marked};
-ghost use Rattle.ang_check_denials.specs.Brought.{brought};
+ghost use Rattle.ang_check_added.specs.Brought.{brought};
+ghost use Rattle.ang_check_added.specs.Brought as spec;
 
-use crate::helpers::push_kept;
 use crate::masked::Masked;
+use ang_check_added::push_kept;
 use std::alloc::{AllocError, Global};
+
+/// Whether nothing else comes with an entry, and its own mask does not meet the module's.
+#[inline(always)]
+fn is_alone(masked: &Masked<'_>, number: u32) -> bool
+    ensures exact { result ≡ spec.is_alone masked.now.list masked.now.mask number }
+{
+    match masked.brought(number) {
+        [only] => *only == number,
+        _ => false,
+    }
+}
+
+/// Whether each of these entries comes alone.
+pub fn are_alone(masked: &Masked<'_>, numbers: &[u32]) -> bool
+    ensures exact { result ≡ spec.are_alone masked.now.list masked.now.mask numbers.now }
+{
+    for number in numbers {
+        if !is_alone(masked, *number) {
+            return false;
+        }
+    }
+    true
+}
 
 /// Marks a number, where it is within the marks.
 fn mark(marks: &mut Vec<bool>, number: u32)

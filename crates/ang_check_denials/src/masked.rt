@@ -4,14 +4,14 @@ ghost use Rattle.std.specs.Prelude.{map as list_map};
 ghost use Rattle.ang_names_known.specs.Kinds.{Says};
 ghost use Rattle.ang_view.specs.Hidden as spec;
 ghost use Rattle.ang_view.specs.Registration.{entry_at};
-ghost use Rattle.ang_check_denials.specs.Brought as brought_spec;
+ghost use Rattle.ang_check_added.specs.Brought as brought_spec;
 ghost use Rattle.ang_check_denials.specs.Denials as denials;
-ghost use Rattle.ang_check_denials.specs.Made as candidates;
+ghost use Rattle.ang_check_added.specs.Made as candidates;
 
-use crate::brought::{brought_rows, numbers_at};
-use crate::made::{candidate_among, made, made_at};
 use crate::marked::is_marked;
-use crate::numbered::{Numbered, number_kinds};
+use ang_check_added::{
+    Numbered, all_made, all_types, brought_rows, candidate_among, made_at, number_kinds, numbers_at,
+};
 use ang_check_contest::Wanted;
 use ang_kinds::{EntityNo, Mask, Pass};
 use ang_names_known::KindRows;
@@ -23,7 +23,7 @@ use std::marker::Model;
 /// A registration list, and what a module of a mask does not see of it.
 ///
 /// Beside it stand its functions, factories and methods as candidates, so that none is made anew for each use that looks
-/// at it, the numbers of their parameters' kinds, and of each entry the numbers of what comes with it.
+/// at it, the numbers of their parameters' kinds, of each entry the numbers of what comes with it, and the numbers of all types.
 #[derive(Drop)]
 pub struct Masked<'a> {
     whole: &'a View,
@@ -32,13 +32,14 @@ pub struct Masked<'a> {
     made: Vec<Option<Candidate>>,
     numbered: Numbered,
     brought: KindRows,
+    types: Vec<u32>,
 }
 
 impl<'a> Model for Masked<'a> {
     ghost use Rattle.std.specs.Prelude.{◌≡◌, is_some, map};
     ghost use Rattle.ang_view.specs.Hidden as views;
-    ghost use Rattle.ang_check_denials.specs.Brought.{all_brought};
-    ghost use Rattle.ang_check_denials.specs.Made as candidates;
+    ghost use Rattle.ang_check_added.specs.Brought.{all_brought, all_types};
+    ghost use Rattle.ang_check_added.specs.Made as candidates;
     ghost use Rattle.ang_check_denials.specs.Masked as value;
     ghost use Rattle.ang_names_known.specs.Kinds.{AreRows};
 
@@ -54,7 +55,8 @@ impl<'a> Model for Masked<'a> {
         × (r.made.items ≡ candidates.made r.whole.now)
         × AreRows r.numbered.kinds.items r.numbered.rows
         (λ t. candidates.params_made (candidates.made r.whole.now))
-        × (r.brought ≡ all_brought r.whole.now r.mask.0) };
+        × (r.brought ≡ all_brought r.whole.now r.mask.0)
+        × (r.types.items ≡ all_types r.whole.now) };
 }
 
 impl<'a> Masked<'a> {
@@ -70,9 +72,10 @@ impl<'a> Masked<'a> {
         ensures list { IfOk result (λ masked. masked.list ≡ whole.now) }
         ensures mask { IfOk result (λ masked. masked.mask ≡ mask.0) }
     {
-        let made = made(alloc, whole)?;
+        let made = all_made(alloc, whole)?;
         let numbered = number_kinds(alloc, made.as_slice())?;
         let brought = brought_rows(alloc, whole, mask)?;
+        let types = all_types(alloc, whole)?;
         Ok(Masked {
             whole,
             hidden,
@@ -80,6 +83,7 @@ impl<'a> Masked<'a> {
             made,
             numbered,
             brought,
+            types,
         })
     }
 
@@ -149,6 +153,13 @@ impl<'a> Masked<'a> {
         ensures exact { result.now ≡ brought_spec.brought self.now.list self.now.mask number }
     {
         numbers_at(&self.brought, number)
+    }
+
+    /// The numbers of all object types and enumerations, rising.
+    pub fn types(&self) -> &[u32]
+        ensures exact { result.now ≡ brought_spec.all_types self.now.list }
+    {
+        self.types.as_slice()
     }
 
     /// The mask of the entry of this number, or 0 where none is there.

@@ -1,10 +1,10 @@
 //! What a use would mean, where a hidden entry is added to what a module sees.
-ghost use Rattle.std.specs.Prelude.{◌≡◌, true, not, ◌&&◌, List, IfOk, None, slice_index_or};
+ghost use Rattle.std.specs.Prelude.{◌≡◌, not, ◌&&◌, List, IfOk, None, slice_index_or};
 ghost use Rattle.ang_types.specs.declared.asks.Asks.TheVariants as asks_of;
 ghost use Rattle.ang_types.specs.declared.candidate.Candidate.{Candidate};
 ghost use Rattle.ang_names_known.specs.Kinds.{numbered};
 ghost use Rattle.ang_view.specs.Named.{values_named};
-ghost use Rattle.ang_view.specs.Registration.{entry_at, is_function_named, seen};
+ghost use Rattle.ang_view.specs.Registration.{entry_at, seen};
 ghost use Rattle.ang_check_contest.specs.declared.host.WantedProperty.TheVariants as sought_property;
 ghost use Rattle.ang_check_contest.specs.Added.{added_property};
 ghost use Rattle.ang_check_contest.specs.Host.{property_found};
@@ -13,13 +13,13 @@ ghost use Rattle.ang_names_known.specs.Spaces as spaces;
 ghost use Rattle.ang_check_uses.specs.Uses.{candidates_of, functions_of};
 ghost use Rattle.ang_check_denials.specs.Added as spec;
 ghost use Rattle.ang_check_contest.specs.Told.{IsTable, table_of};
-ghost use Rattle.ang_check_denials.specs.Made as candidates;
+ghost use Rattle.ang_check_added.specs.Made as candidates;
 ghost use Rattle.ang_check_denials.specs.Names.{types_named};
 ghost use Rattle.ang_check_denials.specs.Others.{AreOthers};
 
 use crate::beside::{Beside, makers_of};
 use crate::masked::Masked;
-use crate::named::{is_a_type_named, is_enumeration_named, is_function_at, is_made_by, named_with};
+use crate::named::{is_a_type_named, is_called_at, is_enumeration_named, named_with};
 use ang_check_contest::{Rivalry, Scope, SeenProperty, Wanted, WantedProperty, property_at};
 use ang_check_uses::takes_number;
 use ang_kinds::EntityNo;
@@ -210,7 +210,7 @@ fn wins(
         (table_of table.now) }
     ensures exact { (cs : List Candidate) → AreOthers rivals.now lineage.now cs types.now →
         result ≡ spec.wins lineage.now (candidates.candidate_of wanted.now) cs types.now
-        (spec.found_in masked.now.list added wanted.now) }
+        (candidates.found_in masked.now.list added wanted.now) }
 {
     let Some(candidate) = masked.candidate(wanted, added) else {
         return false;
@@ -310,44 +310,6 @@ fn call_wins(
     }
 }
 
-/// Whether a call of a name would mean the function of this name that is added: it is the best of all, where the name is no
-/// type's.
-#[tactic(auto, using(crate::proofs::Making::function_wins))]
-fn function_means(
-    alloc: Global,
-    masked: &Masked<'_>,
-    scope: &Scope<'_>,
-    added: u32,
-    name: &[u8],
-    beside: &Beside,
-    table: &Option<Vec<Vec<Option<u8>>>>,
-) -> Result<bool, AllocError>
-    requires view { scope.now.view ≡ seen masked.now.list masked.now.mask }
-    requires rivals { AreOthers beside.now.rivals scope.now.ancestors
-        (candidates_of (functions_of scope.now name.now)) beside.now.types.items }
-    requires makers { AreOthers beside.now.makers scope.now.ancestors
-        (spec.factories scope.now.view beside.now.made) beside.now.types.items }
-    requires named { beside.now.named.numbers.items ≡ types_named masked.now.list name.now }
-    requires family { beside.now.named.family ≡ spec.family_of_name scope.now name.now }
-    requires table { IsTable scope.now.ancestors (numbered 0 masked.now.kinds)
-        beside.now.types.items (table_of table.now) }
-    requires function { is_function_named name.now (entry_at masked.now.list added) ≡ true }
-    ensures exact { IfOk result (λ won. won ≡ spec.call_wins masked.now.list scope.now name.now
-        beside.now.types.items added
-        (spec.named_with masked.now.list masked.now.mask scope.now added name.now)) }
-{
-    match named_with(masked, scope, added, name, &beside.named) {
-        Named::Unknown => {
-            let lineage = scope.lineage();
-            let types = beside.types.as_slice();
-            Ok(made_wins(masked, lineage, added, &beside.rivals, types, table))
-        }
-        Named::Object(_) | Named::Enumeration(_) => {
-            call_wins(alloc, masked, scope, added, name, beside, table)
-        }
-    }
-}
-
 /// Whether a call of a name would mean the entry that is added: most entries are neither functions or enumerations of the
 /// name nor factories of a type of it.
 fn call_means(
@@ -372,10 +334,7 @@ fn call_means(
         && spec.call_wins masked.now.list scope.now name.now beside.now.types.items added
         (spec.named_with masked.now.list masked.now.mask scope.now added name.now))) }
 {
-    if is_function_at(masked.whole(), name, added) {
-        return function_means(alloc, masked, scope, added, name, beside, table);
-    }
-    if is_made_by(masked.whole(), name, added) {
+    if is_called_at(masked.whole(), name, added) {
         call_wins(alloc, masked, scope, added, name, beside, table)
     } else {
         Ok(false)

@@ -1,5 +1,5 @@
 //! Object types and enumerations by name, where a hidden entry is added to what a module sees.
-ghost use Rattle.std.specs.Prelude.{◌≡◌, ◌<◌, ◌||◌, [], ◌∷◌, false, bytes_eq, filter, is_some, map as list_map, option_to_list, IfOk, IfSome, Some};
+ghost use Rattle.std.specs.Prelude.{◌≡◌, ◌<◌, [], ◌∷◌, false, bytes_eq, filter, is_some, map as list_map, option_to_list, IfOk, IfSome, Some};
 ghost use Rattle.std.specs.List.{position};
 ghost use Rattle.ang_view.specs.Hidden.{seen_with};
 ghost use Rattle.ang_view.specs.Registration as registration;
@@ -37,7 +37,7 @@ pub fn is_known(named: Named) -> bool
 }
 
 /// Whether the entry of this number is an object type of this name.
-fn is_type_named(whole: &View, number: u32, name: &[u8]) -> bool
+pub fn is_type_named(whole: &View, number: u32, name: &[u8]) -> bool
     ensures exact { result ≡ types.is_type_named name.now (entry_at whole.now number) }
 {
     match whole.get(EntityNo(number)) {
@@ -81,25 +81,26 @@ fn sees(view: &View, number: u32) -> bool
 }
 
 /// The number of an entry, where it is an object type or an enumeration of this name.
-fn type_at(whole: &View, name: &[u8], number: EntityNo) -> Option<u32>
+fn type_at(whole: &View, name: &[u8], number: u32) -> Option<u32>
     ensures exact { option_to_list result ≡ filter
-        (λ k. names.is_a_type_named name.now (entry_at whole.now k)) (number.0 ∷ []) }
+        (λ k. names.is_a_type_named name.now (entry_at whole.now k)) (number ∷ []) }
 {
-    if is_a_type_named(whole, number.0, name) {
-        Some(number.0)
+    if is_a_type_named(whole, number, name) {
+        Some(number)
     } else {
         None
     }
 }
 
 /// The numbers of the object types and the enumerations of this name, rising. The only error is want of memory.
-fn types_named(alloc: Global, whole: &View, name: &[u8]) -> Result<Vec<u32>, AllocError>
-    ensures exact { IfOk result (λ numbers. numbers.items ≡ names.types_named whole.now name.now) }
+fn types_named(alloc: Global, masked: &Masked<'_>, name: &[u8]) -> Result<Vec<u32>, AllocError>
+    ensures exact { IfOk result
+        (λ numbers. numbers.items ≡ names.types_named masked.now.list name.now) }
 {
     let mut numbers = Vec::new(alloc);
-    let found = whole.find(name);
-    for number in found {
-        push_number(&mut numbers, type_at(whole, name, *number))?;
+    let types = masked.types();
+    for number in types {
+        push_number(&mut numbers, type_at(masked.whole(), name, *number))?;
     }
     Ok(numbers)
 }
@@ -197,16 +198,16 @@ fn family_of_name(scope: &Scope<'_>, name: &[u8]) -> Named
 /// What is kept of the types of this name. The only error is want of memory.
 pub fn all_named(
     alloc: Global,
-    whole: &View,
+    masked: &Masked<'_>,
     scope: &Scope<'_>,
     name: &[u8],
 ) -> Result<TypesNamed, AllocError>
     ensures numbers { IfOk result
-        (λ named. named.numbers.items ≡ names.types_named whole.now name.now) }
+        (λ named. named.numbers.items ≡ names.types_named masked.now.list name.now) }
     ensures family { IfOk result
         (λ named. named.family ≡ spec.family_of_name scope.now name.now) }
 {
-    let numbers = types_named(alloc, whole, name)?;
+    let numbers = types_named(alloc, masked, name)?;
     let family = family_of_name(scope, name);
     Ok(TypesNamed { numbers, family })
 }
@@ -261,25 +262,15 @@ pub fn named_with(
     host_named_with(masked, scope, added, name, named)
 }
 
-/// Whether the entry of this number is a function of this name.
-pub fn is_function_at(whole: &View, name: &[u8], number: u32) -> bool
-    ensures exact { result ≡ registration.is_function_named name.now (entry_at whole.now number) }
-{
-    match whole.get(EntityNo(number)) {
-        None => false,
-        Some(entry) => is_function_named(entry, name),
-    }
-}
-
-/// Whether the entry of this number is an enumeration of this name, or a factory of a type of this name.
-pub fn is_made_by(whole: &View, name: &[u8], number: u32) -> bool
-    ensures exact { result ≡ (types.is_enumeration_named name.now (entry_at whole.now number)
-        || spec.is_factory_of whole.now name.now (entry_at whole.now number)) }
+/// Whether the entry of this number is a function or an enumeration of this name, or a factory of a type of it.
+pub fn is_called_at(whole: &View, name: &[u8], number: u32) -> bool
+    ensures exact { result ≡ spec.is_called_by whole.now name.now number }
 {
     match whole.get(EntityNo(number)) {
         None => false,
         Some(entry) => {
-            is_enumeration_named(whole, number, name) || is_factory_of(whole, name, entry)
+            is_function_named(entry, name)
+                || (is_enumeration_named(whole, number, name) || is_factory_of(whole, name, entry))
         }
     }
 }

@@ -3,11 +3,12 @@ ghost use Rattle.std.specs.Prelude.{◌≡◌, ◌++◌, ◌&&◌, filter, map a
 ghost use Rattle.std.specs.List.{list_any, flat_map};
 ghost use Rattle.ang_view.specs.Hidden.{is_unmet, is_with, numbers_of};
 ghost use Rattle.ang_view.specs.Registration.{seen};
+ghost use Rattle.ang_check_added.specs.Brought.{AreInOrder};
 ghost use Rattle.ang_check_denials.specs.Denials as spec;
 ghost use Rattle.ang_check_denials.specs.Names.{HasHidden};
 
 use crate::helpers::helpers;
-use crate::marked::{marks_of, numbers_marked};
+use crate::marked::{are_alone, marks_of, numbers_marked};
 use crate::masked::Masked;
 use crate::same::is_same_use;
 use crate::sought::help_rows;
@@ -18,17 +19,23 @@ use ang_types::{Asks, Refused};
 use std::alloc::{AllocError, Global};
 
 /// The numbers of the entries that come with one of these and whose own masks do not meet the module's, rising. Each of
-/// them comes with itself.
-fn denied_with(alloc: Global, masked: &Masked<'_>, helpers: &[u32]) -> Result<Vec<u32>, AllocError>
+/// them comes with itself: where each comes alone, these are all.
+fn denied_with(
+    alloc: Global,
+    masked: &Masked<'_>,
+    helpers: Vec<u32>,
+) -> Result<Vec<u32>, AllocError>
+    requires ordered { AreInOrder masked.now.list helpers.items }
     ensures exact { IfOk result (λ numbers. numbers.items ≡ filter
         (λ y. is_unmet masked.now.list masked.now.mask y
-        && list_any (λ x. is_with masked.now.list x y) helpers.now)
+        && list_any (λ x. is_with masked.now.list x y) helpers.items)
         (numbers_of masked.now.list)) }
 {
-    if helpers.is_empty() {
-        return Ok(Vec::new(alloc));
+    let entries = helpers.as_slice();
+    if are_alone(masked, entries) {
+        return Ok(helpers);
     }
-    let marks = marks_of(alloc, masked, helpers)?;
+    let marks = marks_of(alloc, masked, entries)?;
     numbers_marked(alloc, marks.as_slice(), masked.len())
 }
 
@@ -48,7 +55,7 @@ fn denied_numbers(
         (numbers_of masked.now.list)) }
 {
     let helpers = helpers(alloc, masked, hidden, scope, refused, asks)?;
-    denied_with(alloc, masked, helpers.as_slice())
+    denied_with(alloc, masked, helpers)
 }
 
 fn row(masked: &Masked<'_>, refused: &Refused, number: u32) -> Denial
@@ -72,6 +79,7 @@ fn push_rows(
     ensures pushed { OnOk result (rows.new.items ≡ rows.old.items
         ++ list_map (spec.row masked.now.list masked.now.mask refused.now) numbers.now) }
 {
+    rows.reserve(numbers.len())?;
     for number in numbers {
         rows.push(row(masked, refused, *number))?;
     }

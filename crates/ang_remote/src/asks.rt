@@ -1,5 +1,6 @@
 //! The text of an ask, and of a post.
-ghost use Rattle.std.specs.Prelude.{◌≡◌, ◌≤◌, ◌++◌, length, OnOk, IfOk, codes, decimal, flat_map};
+ghost use Rattle.std.specs.Prelude.{◌≡◌, ◌==◌, ◌≤◌, ◌++◌, length, OnOk, IfOk, codes, decimal, flat_map};
+ghost use Rattle.std.specs.List.{list_any};
 ghost use Rattle.ang_remote.specs.Asks.{value_text, values_text, kind_text, is_posted_call, word_text, line_text};
 
 use crate::short_line::{FEW, SHORT, write_line};
@@ -79,12 +80,21 @@ fn kind_name(kind: AskKind) -> &'static str
     }
 }
 
+/// Whether a function is one of these.
+#[inline(always)]
+fn is_among(functions: &[u32], f: u32) -> bool
+    ensures exact { result ≡ list_any (λ p. p == f) functions.now }
+{
+    functions.iter().any(|number| *number == f)
+}
+
 /// Whether a call is posted, of a driver that is posted these functions. A method never is.
+#[inline(always)]
 pub fn is_posted_call(posted: &[u32], f: u32, object: Option<u64>) -> bool
     ensures exact { result ≡ is_posted_call posted.now f object }
 {
     match object {
-        None => posted.contains(&f),
+        None => is_among(posted, f),
         Some(_) => false,
     }
 }

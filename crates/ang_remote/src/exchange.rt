@@ -35,6 +35,7 @@ fn read_answer<R: Read>(alloc: Global, reader: &mut R) -> Said
 }
 
 /// Writes the line of two values at most, for which it takes no memory. False where that failed: a front of it is written then.
+#[inline(always)]
 fn write_short<W: Write>(
     writer: &mut W,
     posted: bool,
@@ -53,8 +54,38 @@ fn write_short<W: Write>(
     write_text(writer, &line[at..])
 }
 
+/// Asks the driver of this number, and gives what is said to it, by a line in a block of the heap; or posts it so.
+#[inline(never)]
+fn exchange_apart<R: Read, W: Write>(
+    alloc: Global,
+    reader: &mut R,
+    writer: &mut W,
+    posted: bool,
+    driver: u32,
+    kind: AskKind,
+    f: u32,
+    object: Option<u64>,
+    values: &[Value],
+) -> Said
+    ensures exchanged { IsExchanged (line_text posted driver kind f object values.now)
+        (W.contents writer.old) (W.contents writer.new) (R.remaining reader.old)
+        (R.remaining reader.new) result posted }
+{
+    let Ok(line) = ask_line(alloc, posted, driver, kind, f, object, values) else {
+        return Said::Memory;
+    };
+    if !write_text(writer, &line) {
+        return Said::Fault(NOT_WRITTEN);
+    }
+    if posted {
+        return Said::Void;
+    }
+    read_answer(alloc, reader)
+}
+
 /// Asks the driver of this number, and gives what is said to it. What is posted is written alone, and `void` is taken for
-/// its answer.
+/// its answer. It is in line, so that a post is written where it is known to be a call.
+#[inline(always)]
 pub fn exchange<R: Read, W: Write>(
     alloc: Global,
     reader: &mut R,
@@ -77,14 +108,7 @@ pub fn exchange<R: Read, W: Write>(
             Said::Fault(NOT_WRITTEN)
         };
     }
-    let Ok(line) = ask_line(alloc, posted, driver, kind, f, object, values) else {
-        return Said::Memory;
-    };
-    if !write_text(writer, &line) {
-        return Said::Fault(NOT_WRITTEN);
-    }
-    if posted {
-        return Said::Void;
-    }
-    read_answer(alloc, reader)
+    exchange_apart(
+        alloc, reader, writer, posted, driver, kind, f, object, values,
+    )
 }

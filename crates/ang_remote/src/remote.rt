@@ -9,6 +9,7 @@ use crate::answers::{KEY_LIVE, NOT_LIVE, OTHER_KIND, Said};
 use crate::asks::{AskKind, is_posted_call};
 use crate::exchange::exchange;
 use crate::keys::Keys;
+use crate::short_line::FEW;
 use ang_host::{Answer, Driver, Made};
 use ang_kinds::Value;
 use std::alloc::Global;
@@ -52,6 +53,7 @@ impl<R: Read + Drop, W: Write + Drop> Remote<R, W> {
     }
 
     // Whether a call is posted.
+    #[inline(always)]
     fn posts(&self, f: u32, object: Option<u64>) -> bool
         ensures exact { result ≡ is_posted_call self.now.posted.items f object }
     {
@@ -59,6 +61,7 @@ impl<R: Read + Drop, W: Write + Drop> Remote<R, W> {
     }
 
     // Asks or posts, and gives what is said.
+    #[inline(always)]
     fn ask(
         &mut self,
         posted: bool,
@@ -106,6 +109,7 @@ fn given(keys: &Keys, value: Value) -> Answer
 }
 
 // The answer to a call, a read or a write that is said, where these keys are live.
+#[inline(always)]
 fn answer(keys: &Keys, said: Said) -> Answer
     ensures exact { result ≡ answer_of (ledger keys.now).live said }
 {
@@ -169,6 +173,11 @@ impl<R: Read + Drop, W: Write + Drop> Driver for Remote<R, W> {
             return Answer::Full;
         }
         let posted = self.posts(f, object);
+        if posted && args.len() <= FEW {
+            // Apart and in line, since nothing but `void` and one fault comes of it.
+            let said = self.ask(true, AskKind::Call, f, object, args);
+            return answer(&self.keys, said);
+        }
         let said = self.ask(posted, AskKind::Call, f, object, args);
         answer(&self.keys, said)
     }

@@ -5,6 +5,7 @@ use std::io::Write;
 
 /// Writes the whole text, in as many calls of `write` as it takes, and flushes the writer. False where one of these
 /// failed, interrupted too, or took 0 bytes of what was left: a front of the text is written then.
+#[inline(always)]
 pub fn write_text<W: Write>(writer: &mut W, text: &[u8]) -> bool
     ensures written { IsWritten (W.contents writer.old) (W.contents writer.new) text.now result }
 {

@@ -15,3 +15,7 @@ returns c =
           (c.help_row-row.ensures.exact ∙ ap (λ name. help_row R m name c.args.asks.now) c.as_slice.ensures.same))
           c.helpers_among.ensures.exact;
     }
+
+pub helpers_among-requires-clause-row : goal.helpers_among-requires-clause-row
+helpers_among-requires-clause-row c =
+    c.help_row-row.ensures.exact ∙ ap (λ name. help_row c.args.masked.now.list c.args.masked.now.mask name c.args.asks.now) c.as_slice.ensures.same

@@ -1,7 +1,7 @@
 use Rattle.std.proofs.Common.{◌≡◌, drop}
 use Rattle.ang_typed.specs.Marked.{each_marks}
 use Rattle.ang_typed.specs.Uses.{marked}
-use Rattle.ang_check_denials.specs.Brought.{brought}
+use Rattle.ang_check_added.specs.Brought.{brought}
 use Rattle.ang_check_denials.proofs.marked.mark_brought.Given as goal
 
 abbrev pub invariant-loop-entry : goal.invariant-loop-entry

@@ -1,6 +1,6 @@
 use Rattle.std.specs.Prelude.{ℕ, Bool, false, [], ◌∷◌, ◌++◌, if◌then◌else◌, slice_index_or}
 use Rattle.std.proofs.Common.{sym, ap, ◌∙◌}
-use Rattle.ang_check_denials.proofs.Kept.{kept_more}
+use Rattle.ang_check_added.proofs.Kept.{kept_more}
 use Rattle.ang_check_denials.proofs.marked.numbers_marked.Goals as goal
 
 pub loop-number-preserved : goal.loop-number-preserved

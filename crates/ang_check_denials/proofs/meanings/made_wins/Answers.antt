@@ -1,7 +1,7 @@
 use Rattle.std.proofs.Common.{◌≡◌, ℕ, List, Option, None, Some, Bor, subst, sym, ap, ◌∙◌}
 use Rattle.std.specs.Prelude.{option_copied, option_map, slice_index_or}
 use Rattle.ang_check_contest.specs.Told.{table_of}
-use Rattle.ang_check_denials.specs.Made.{made}
+use Rattle.ang_check_added.specs.Made.{made}
 use Rattle.ang_check_denials.proofs.Taking.{made_tells}
 use Rattle.ang_check_denials.proofs.meanings.made_wins.Goals as goal
 

@@ -1,8 +1,8 @@
 use Rattle.std.proofs.Common.{◌≡◌, ℕ, List, Option, Some, Bor, subst, sym, ap, ◌∙◌}
 use Rattle.std.specs.Prelude.{option_copied, option_map}
 use Rattle.ang_check_contest.specs.Told.{table_of}
-use Rattle.ang_check_denials.specs.Made.{candidate_in}
-use Rattle.ang_check_denials.proofs.Making.{candidate_is_made}
+use Rattle.ang_check_added.specs.Made.{candidate_in}
+use Rattle.ang_check_added.proofs.Making.{candidate_is_made}
 use Rattle.ang_check_denials.proofs.Taking.{told_tells}
 use Rattle.ang_check_denials.proofs.meanings.wins.Goals as goal
 

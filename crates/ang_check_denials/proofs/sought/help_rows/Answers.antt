@@ -3,7 +3,7 @@ use Rattle.std.specs.List.{range_with_len}
 use Rattle.std.proofs.Common.{◌≡◌, ap, sym, rules, ◌∙◌}
 use Rattle.ang_index.specs.Rows.{items_at}
 use Rattle.ang_check_denials.specs.Names.{hidden_named, is_hidden_named}
-use Rattle.ang_check_denials.proofs.Kept.{kept_more}
+use Rattle.ang_check_added.proofs.Kept.{kept_more}
 use Rattle.ang_check_denials.proofs.sought.help_rows.Goals as goal
 
 pub loop-number-init : goal.loop-number-init

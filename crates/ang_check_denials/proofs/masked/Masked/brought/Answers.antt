@@ -1,7 +1,7 @@
 use Rattle.std.proofs.Common.{◌≡◌, ℕ, sym, ap, ◌∙◌}
-use Rattle.ang_check_denials.specs.Brought.{brought, numbers_at}
+use Rattle.ang_check_added.specs.Brought.{brought, numbers_at}
 use Rattle.ang_check_denials.specs.Masked.{Masked}
-use Rattle.ang_check_denials.proofs.Bringing.{numbers_are}
+use Rattle.ang_check_added.proofs.Bringing.{numbers_are}
 use Rattle.ang_check_denials.proofs.masked.Masked.brought.Goals as goal
 
 pub returns : goal.returns

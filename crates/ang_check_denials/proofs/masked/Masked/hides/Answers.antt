@@ -2,7 +2,7 @@ use Rattle.std.specs.Prelude.{false, slice_index_or}
 use Rattle.std.proofs.Common.{◌≡◌, ℕ, Bool, List, ap, ◌∙◌}
 use Rattle.ang_view.specs.Hidden.{hidden, is_hidden}
 use Rattle.ang_check_denials.specs.Masked.{Masked}
-use Rattle.ang_check_denials.proofs.Bringing.{some_at}
+use Rattle.ang_check_added.proofs.Bringing.{some_at}
 use Rattle.ang_check_denials.proofs.masked.Masked.hides.Goals as goal
 
 pub returns : goal.returns

@@ -1,6 +1,6 @@
 use Rattle.std.proofs.Common.{◌≡◌, ℕ, subst, ◌∙◌}
 use Rattle.ang_names_known.specs.Kinds.{kinds_of, numbered, told_of}
-use Rattle.ang_check_denials.specs.Made.{params_made}
+use Rattle.ang_check_added.specs.Made.{params_made}
 use Rattle.ang_check_denials.proofs.masked.Masked.new.Goals as goal
 
 pub invariant_of-result : goal.invariant_of-result
@@ -11,4 +11,5 @@ invariant_of-result c =
       subst (λ cs. (t : ℕ) → kinds_of (numbered t n.kinds.items) n.rows ≡ told_of (params_made cs)) (c.as_slice.ensures.value ∙ c.in_ok-made.ensures.exact)
           c.in_ok-numbered.ensures.rows,
       c.in_ok-brought.ensures.exact,
+      c.in_ok-types.ensures.exact,
     )

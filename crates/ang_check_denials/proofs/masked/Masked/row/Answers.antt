@@ -1,7 +1,7 @@
 use Rattle.std.proofs.Common.{ℕ, List, None, Bor, subst}
 use Rattle.std.specs.Prelude.{option_map, slice_index_or}
 use Rattle.ang_names_known.specs.Kinds.{Says}
-use Rattle.ang_check_denials.specs.Made.{made, params_in}
+use Rattle.ang_check_added.specs.Made.{made, params_in}
 use Rattle.ang_check_denials.specs.Masked.{Masked}
 use Rattle.ang_check_denials.proofs.Taking.{says_of_made}
 use Rattle.ang_check_denials.proofs.masked.Masked.row.Goals as goal

@@ -1,0 +1,4 @@
+pub mod Bringing
+pub mod Judging
+pub mod Kept
+pub mod Making
