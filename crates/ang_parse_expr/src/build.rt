@@ -83,6 +83,50 @@ pub(crate) fn method_call(
     })
 }
 
+/// Two expressions, each in a box.
+fn boxed_both(
+    alloc: Global,
+    first: Expression,
+    second: Expression,
+) -> Result<(Box<Expression>, Box<Expression>), AllocError>
+    ensures first { IfOk result (λ boxes. boxes.0.value ≡ first) }
+    ensures second { IfOk result (λ boxes. boxes.1.value ≡ second) }
+{
+    match Box::new(alloc, first) {
+        Ok(first) => {
+            let second = Box::new(alloc, second)?;
+            Ok((first, second))
+        }
+        Err(error) => {
+            drop(second);
+            Err(AllocError::from(error))
+        }
+    }
+}
+
+/// Three expressions, each in a box.
+fn boxed_three(
+    alloc: Global,
+    first: Expression,
+    second: Expression,
+    third: Expression,
+) -> Result<(Box<Expression>, Box<Expression>, Box<Expression>), AllocError>
+    ensures first { IfOk result (λ boxes. boxes.0.value ≡ first) }
+    ensures second { IfOk result (λ boxes. boxes.1.value ≡ second) }
+    ensures third { IfOk result (λ boxes. boxes.2.value ≡ third) }
+{
+    match boxed_both(alloc, first, second) {
+        Ok((first, second)) => {
+            let third = Box::new(alloc, third)?;
+            Ok((first, second, third))
+        }
+        Err(error) => {
+            drop(third);
+            Err(error)
+        }
+    }
+}
+
 /// A cast of an operand.
 pub(crate) fn cast(
     alloc: Global,
@@ -93,8 +137,8 @@ pub(crate) fn cast(
         ≡ tree.cast tokens.word tokens.less tokens.target tokens.greater tokens.open
         (view_expr operand) tokens.close) }
 {
-    let tokens = Box::new(alloc, tokens)?;
     let operand = Box::new(alloc, operand)?;
+    let tokens = Box::new(alloc, tokens)?;
     Ok(Expression::Cast { tokens, operand })
 }
 
@@ -108,8 +152,7 @@ pub(crate) fn binary(
     ensures exact { IfOk result (λ e. view_expr e
         ≡ tree.binary (view_expr left) operator (view_expr right)) }
 {
-    let left = Box::new(alloc, left)?;
-    let right = Box::new(alloc, right)?;
+    let (left, right) = boxed_both(alloc, left, right)?;
     Ok(Expression::Binary {
         left,
         operator,
@@ -130,9 +173,7 @@ pub(crate) fn conditional(
         ≡ tree.conditional (view_expr condition) question (view_expr «then») colon
         (view_expr otherwise)) }
 {
-    let condition = Box::new(alloc, condition)?;
-    let then = Box::new(alloc, then)?;
-    let otherwise = Box::new(alloc, otherwise)?;
+    let (condition, then, otherwise) = boxed_three(alloc, condition, then, otherwise)?;
     Ok(Expression::Conditional {
         condition,
         question,
@@ -152,8 +193,7 @@ pub(crate) fn assignment(
     ensures exact { IfOk result (λ e. view_expr e
         ≡ tree.assignment (view_expr target) operator (view_expr value)) }
 {
-    let target = Box::new(alloc, target)?;
-    let value = Box::new(alloc, value)?;
+    let (target, value) = boxed_both(alloc, target, value)?;
     Ok(Expression::Assignment {
         target,
         operator,

@@ -6,8 +6,8 @@ pub returns : goal.returns
 returns c =
     record {
       exact =
-          let a : c.in_ok-condition.condition.value ≡ c.args.condition = c.in_ok-condition.ensures.ok in
-          let b : c.in_ok-then.then.value ≡ c.args.then = c.in_ok-then.ensures.ok in
-          let d : c.in_ok-otherwise.otherwise.value ≡ c.args.otherwise = c.in_ok-otherwise.ensures.ok in
+          let a : c.in_ok-condition.condition.value ≡ c.args.condition = c.in_ok-condition.ensures.first in
+          let b : c.in_ok-condition.then.value ≡ c.args.then = c.in_ok-condition.ensures.second in
+          let d : c.in_ok-condition.otherwise.value ≡ c.args.otherwise = c.in_ok-condition.ensures.third in
           conditional_made _ _ _ _ _ ∙ rw (a, b, d) refl;
     }
