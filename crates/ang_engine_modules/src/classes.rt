@@ -81,13 +81,15 @@ fn kinds_of(
     Ok(kinds)
 }
 
-/// The numbers of a class and of those above it, in the room of the latter.
-fn numbers_of(number: usize, above: Vec<usize>) -> Result<Vec<usize>, AllocError>
-    ensures exact { IfOk result (λ found. found.items ≡ number ∷ above.items) }
+/// The numbers of a class and of those above it, with room for no more.
+fn numbers_of(alloc: Global, number: usize, above: &[u8]) -> Result<Vec<usize>, AllocError>
+    ensures exact { IfOk result (λ found. found.items ≡ number ∷ above.now) }
 {
-    let mut found = above;
-    found.reserve_exact(1)?;
-    found.insert(0, number)?;
+    let mut found = Vec::with_capacity(alloc, above.len().saturating_add(1))?;
+    found.push(number)?;
+    for family in above {
+        found.push(*family as usize)?;
+    }
     Ok(found)
 }
 
@@ -172,12 +174,17 @@ fn all_parts(
 }
 
 /// The code of the class of a number, which has these parts.
-fn class_code(number: usize, class: TypedClass, parts: ClassParts) -> Result<ClassCode, AllocError>
+fn class_code(
+    alloc: Global,
+    number: usize,
+    class: TypedClass,
+    parts: ClassParts,
+) -> Result<ClassCode, AllocError>
     ensures exact { IfOk result (λ code. spec.class_of code
         ≡ joining.class_with number class (joining.parts_in parts)) }
 {
     let ClassParts { fields, methods } = parts;
-    let under = numbers_of(number, class.above.into_vec())?;
+    let under = numbers_of(alloc, number, class.above.as_slice())?;
     let class = meaning::Class {
         number,
         rank: class.rank,
@@ -207,13 +214,13 @@ fn codes_with(
         let Some(part) = rest.next() else {
             return Ok(codes);
         };
-        let code = class_code(number, class, part)?;
+        let code = class_code(alloc, number, class, part)?;
         codes.push(code)?;
     }
     Ok(codes)
 }
 
-/// The code of all classes of a module, by number. What a class stands under stays where it is, and takes no room anew.
+/// The code of all classes of a module, by number.
 ///
 /// # Errors
 /// Want of memory.

@@ -1,5 +1,5 @@
 //! Members that don't fit with what a class inherits.
-ghost use Rattle.std.specs.Prelude.{◌≡◌, ◌==◌, ◌&&◌, IfOk, bytes_eq, find, option_map};
+ghost use Rattle.std.specs.Prelude.{◌≡◌, ◌==◌, ◌&&◌, IfOk, bytes_eq, drop, find, option_map};
 ghost use Rattle.std.specs.Prelude.{option_copied, slice_get};
 ghost use Rattle.std.specs.List.{list_any};
 ghost use Rattle.ang_names_known.specs.Lookup as lookup;
@@ -10,7 +10,6 @@ ghost use Rattle.ang_names.specs.Rows as rows;
 use crate::indexed::{Indexed, index_members};
 use crate::rings::refused_at;
 use ang_kinds::{ErrorKind, Place};
-use ang_names_graph::after_first;
 use ang_names_known::{Access, Family, Field, ScriptMethod, same_type};
 use ang_names_listed::push_refused;
 use ang_types::Refused;
@@ -86,14 +85,14 @@ fn in_slot<'f>(families: &'f Indexed<'_>, number: usize, slot: usize) -> Option<
 /// The first method in a slot, of those of these classes and interfaces in their order.
 fn first_in_slot<'f>(
     families: &'f Indexed<'_>,
-    order: &[usize],
+    order: &[u8],
     slot: usize,
 ) -> Option<&'f ScriptMethod>
     ensures exact { option_copied result
         ≡ find (λ m. m.slot == slot) (numbered.methods_at families.now order.now) }
 {
     for number in order {
-        if let Some(method) = in_slot(families, *number, slot) {
+        if let Some(method) = in_slot(families, *number as usize, slot) {
             return Some(method);
         }
     }
@@ -102,7 +101,7 @@ fn first_in_slot<'f>(
 
 /// The numbers of the classes and interfaces of which one has methods, itself first.
 #[tactic(auto, unfolding(ang_names_known::specs::Lookup::kin_of))]
-fn order_of(families: &[Family], number: usize) -> &[usize]
+fn order_of(families: &[Family], number: usize) -> &[u8]
     ensures exact { lookup.families_at families.now result.now
         ≡ lookup.kin_of families.now number }
 {
@@ -168,13 +167,13 @@ fn missing_among<'m>(
 fn first_missing<'f>(
     families: &'f Indexed<'_>,
     class: usize,
-    above: &[usize],
+    above: &[u8],
 ) -> Option<&'f ScriptMethod>
     ensures exact { option_copied result ≡ spec.missing_among
         families.now class (numbered.interface_methods_at families.now above.now) }
 {
     for number in above {
-        let methods = interface_methods(families.families(), *number);
+        let methods = interface_methods(families.families(), *number as usize);
         if let Some(method) = missing_among(families, class, methods) {
             return Some(method);
         }
@@ -274,11 +273,13 @@ fn declares(families: &Indexed<'_>, number: usize, name: &[u8]) -> bool
 }
 
 /// Whether one of these classes declares a member of this name.
-fn declares_among(families: &Indexed<'_>, order: &[usize], name: &[u8]) -> bool
+fn declares_among(families: &Indexed<'_>, order: &[u8], name: &[u8]) -> bool
     ensures exact { result
         ≡ list_any (λ n. rows.declares name.now (slice_get families.now n)) order.now }
 {
-    order.iter().any(|number| declares(families, *number, name))
+    order
+        .iter()
+        .any(|number| declares(families, *number as usize, name))
 }
 
 /// Whether a class has a member of this name, own or inherited.
@@ -397,33 +398,42 @@ fn is_refused_by(families: &Indexed<'_>, number: usize, method: &ScriptMethod) -
 }
 
 /// Whether one of these classes has a method of this slot.
-fn is_inherited(families: &Indexed<'_>, above: &[usize], slot: usize) -> bool
+fn is_inherited(families: &Indexed<'_>, above: &[u8], slot: usize) -> bool
     ensures exact { result ≡ list_any
         (λ n. list_any (λ x. x.slot == slot)
         (numbered.methods_in (slice_get families.now n))) above.now }
 {
-    above.iter().any(|number| has_slot(families, *number, slot))
+    above
+        .iter()
+        .any(|number| has_slot(families, *number as usize, slot))
 }
 
 /// Whether a method would stand for one of these classes, and can't.
-fn is_refused(families: &Indexed<'_>, above: &[usize], method: &ScriptMethod) -> bool
+fn is_refused(families: &Indexed<'_>, above: &[u8], method: &ScriptMethod) -> bool
     ensures exact { result ≡ list_any
         (λ n. list_any (λ x. x.slot == method.now.slot && spec.cannot_override method.now x)
         (numbered.methods_in (slice_get families.now n))) above.now }
 {
     above
         .iter()
-        .any(|number| is_refused_by(families, *number, method))
+        .any(|number| is_refused_by(families, *number as usize, method))
 }
 
 /// Whether a method can't stand for all that it would of what these classes have.
 #[tactic(auto, using(crate::proofs::Inherited::none_in_slot, crate::proofs::Inherited::refused_in_slot))]
-fn is_bad_override(families: &Indexed<'_>, above: &[usize], method: &ScriptMethod) -> bool
+fn is_bad_override(families: &Indexed<'_>, above: &[u8], method: &ScriptMethod) -> bool
     ensures exact { result ≡ spec.is_bad_override method.now
         (spec.in_slot method.now.slot (numbered.methods_at families.now above.now)) }
 {
     let is_override_of_none = method.is_override && !is_inherited(families, above, method.slot);
     is_override_of_none || is_refused(families, above, method)
+}
+
+/// The families above one, by those from which it has methods.
+fn after_first(order: &[u8]) -> &[u8]
+    ensures exact { result.now ≡ drop 1 order.now }
+{
+    order.get(1..).unwrap_or(&[])
 }
 
 #[tactic(auto, using(crate::proofs::Inherited::methods_known))]

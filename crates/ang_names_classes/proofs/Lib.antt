@@ -7,3 +7,4 @@ pub mod Places
 pub mod MemberCounts
 pub mod Numbered
 pub mod Spaced
+pub mod Small

@@ -1,5 +1,5 @@
 //! The classes and interfaces of a build, with what stands above each.
-ghost use Rattle.std.specs.Prelude.{◌≡◌, ◌≤◌, ◌<◌, [], length, slice_get, IfOk};
+ghost use Rattle.std.specs.Prelude.{◌≡◌, ◌≤◌, ◌<◌, [], All, length, slice_get, IfOk};
 ghost use Rattle.std.specs.Option.{option_map_or};
 ghost use Rattle.ang_names_graph.specs.Graphs as graphs;
 ghost use Rattle.ang_names_graph.specs.Graphs.{leads};
@@ -44,6 +44,7 @@ fn all_above(
         (leads (hierarchy.is_parent families.now) (length families.now)) }
     ensures exact { IfOk result (λ places. places.items
         ≡ graphs.above (hierarchy.is_parent families.now) (length families.now) number) }
+    ensures few { IfOk result (λ places. All (λ k. k < 256) places.items) }
 {
     above_of(alloc, above, families.len(), number)
 }
@@ -60,6 +61,7 @@ fn chain_of(
     requires bases { Shows bases.now (length families.now) (hierarchy.is_base families.now) }
     ensures exact { IfOk result (λ places. places.items
         ≡ graphs.order_of (hierarchy.is_base families.now) (length families.now) number) }
+    ensures few { IfOk result (λ places. All (λ k. k < 256) places.items) }
 {
     order_of(alloc, bases, families.len(), number)
 }
@@ -76,6 +78,7 @@ fn ancestors_of(
     requires parents { Shows parents.now (length families.now) (hierarchy.is_parent families.now) }
     ensures exact { IfOk result (λ places. places.items
         ≡ graphs.order_of (hierarchy.is_parent families.now) (length families.now) number) }
+    ensures few { IfOk result (λ places. All (λ k. k < 256) places.items) }
 {
     order_of(alloc, parents, families.len(), number)
 }
@@ -94,6 +97,7 @@ fn order_in(
     requires known { tables.AreTables space.now families.now known.now }
     ensures exact { IfOk result (λ places. places.items ≡ graphs.order_of
         (spec.gives_members families.now is_class) (length families.now) number) }
+    ensures few { IfOk result (λ places. All (λ k. k < 256) places.items) }
 {
     if is_class {
         chain_of(alloc, families, &known.bases, number)
@@ -102,13 +106,24 @@ fn order_in(
     }
 }
 
-/// The same places, with room for no more: each family of a chain keeps a list of all those above it.
-fn without_room(places: Vec<usize>) -> List<usize>
-    ensures same { result ≡ places.items }
+/// The number of a family as a byte.
+fn byte_of(place: usize) -> u8
+    requires few { place < 256 }
+    ensures same { result ≡ place }
 {
-    let mut places = places;
-    places.shrink_to_fit();
-    List::from_vec(places)
+    place as u8
+}
+
+/// The same places, a byte each, with room for no more: each family of a chain keeps a list of all those above it.
+fn as_bytes(alloc: Global, places: &[usize]) -> Result<List<u8>, AllocError>
+    requires few { All (λ k. k < 256) places.now }
+    ensures same { IfOk result (λ bytes. bytes ≡ places.now) }
+{
+    let mut bytes = Vec::with_capacity(alloc, places.len())?;
+    for place in places {
+        bytes.push(byte_of(*place))?;
+    }
+    Ok(List::from_vec(bytes))
 }
 
 /// To how many it leads through what its fields can hold, by the table of what each one reaches.
@@ -210,8 +225,10 @@ fn family_with(
 {
     let is_class = family.shape().is_class;
     let name = copy_at(alloc, family.text(), &family.name())?;
-    let above = all_above(alloc, families, &known.above, number)?;
-    let order = order_in(alloc, space, families, known, is_class, number)?;
+    let places = all_above(alloc, families, &known.above, number)?;
+    let above = as_bytes(alloc, places.as_slice())?;
+    let nearest = order_in(alloc, space, families, known, is_class, number)?;
+    let order = as_bytes(alloc, nearest.as_slice())?;
     let fields = own_fields(alloc, space, families, &known.bases, number, family)?;
     let methods = methods_of(alloc, space, &known.signatures, family, before)?;
     let constructors = constructors_of(alloc, space, family, before)?;
@@ -220,8 +237,8 @@ fn family_with(
         place: family.name().place,
         is_class,
         base: base_of(families, &known.bases, number),
-        above: without_room(above),
-        order: without_room(order),
+        above,
+        order,
         rank: rank_of(space, families, &known.reach, number),
         fields,
         methods,

@@ -37,13 +37,13 @@ fn above_host_types(alloc: Global) -> Result<Vec<Vec<u32>>, AllocError>
 }
 
 /// The numbers of some families as types.
-fn types_of(alloc: Global, families: &[usize]) -> Result<Vec<u32>, AllocError>
+fn types_of(alloc: Global, families: &[u8]) -> Result<Vec<u32>, AllocError>
     requires within { All (λ k. k < 256) families.now }
     ensures exact { IfOk result (λ types. types.items ≡ map spaces.family_type families.now) }
 {
     let mut types = Vec::with_capacity(alloc, families.len())?;
     for family in families {
-        types.push(family_type(*family))?;
+        types.push(family_type(*family as usize))?;
     }
     Ok(types)
 }

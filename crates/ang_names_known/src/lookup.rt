@@ -1,5 +1,6 @@
 //! What the scripts declare, by name, as far as it takes no memory.
-ghost use Rattle.std.specs.Prelude.{◌≡◌, [], slice_get};
+ghost use Rattle.std.specs.Prelude.{◌≡◌, ◌==◌, [], slice_get};
+ghost use Rattle.std.specs.List.{list_any};
 ghost use Rattle.std.specs.Option.{option_map_or};
 ghost use Rattle.ang_names_known.specs.declared.names.Default.TheVariants as default;
 ghost use Rattle.ang_names_known.specs.Headings as headings;
@@ -120,7 +121,7 @@ pub(crate) fn heading_among(
 }
 
 /// The families above a family, by number.
-fn above_of(families: &[Family], family: usize) -> &[usize]
+fn above_of(families: &[Family], family: usize) -> &[u8]
     ensures exact { result.now
         ≡ option_map_or (λ f. f.above) (slice_get families.now family) [] }
 {
@@ -130,11 +131,18 @@ fn above_of(families: &[Family], family: usize) -> &[usize]
     }
 }
 
+/// Whether a number is among some numbers of families.
+fn is_among(families: &[u8], other: usize) -> bool
+    ensures exact { result ≡ list_any (λ k. k == other) families.now }
+{
+    families.iter().any(|number| *number as usize == other)
+}
+
 /// Whether a family is another one, or stands under it. It takes no memory.
 pub fn is_under(families: &[Family], family: usize, other: usize) -> bool
     ensures exact { result ≡ spec.is_under families.now family other }
 {
-    family == other || above_of(families, family).contains(&other)
+    family == other || is_among(above_of(families, family), other)
 }
 
 /// Whether a member of the family `owner` may be used in a body of the class `within`, or in one of no class. It takes no
@@ -157,7 +165,7 @@ pub fn may_use(families: &[Family], within: Option<usize>, owner: usize, access:
 
 /// The families of which a family has members, itself first, by number.
 #[tactic(auto, unfolding(crate::specs::Lookup::kin_of))]
-pub(crate) fn order_of(families: &[Family], family: usize) -> &[usize]
+pub(crate) fn order_of(families: &[Family], family: usize) -> &[u8]
     ensures exact { spec.families_at families.now result.now ≡ spec.kin_of families.now family }
 {
     match families.get(family) {
@@ -202,7 +210,7 @@ fn nearest_default(families: &[Family], family: usize) -> Option<usize>
 {
     let order = order_of(families, family);
     for number in order {
-        let constructors = constructors_of(families, *number);
+        let constructors = constructors_of(families, *number as usize);
         if !constructors.is_empty() {
             return default_among(constructors);
         }

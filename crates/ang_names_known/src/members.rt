@@ -61,7 +61,7 @@ pub(crate) fn field_in(
 {
     let order = order_of(families, family);
     for number in order {
-        if let Some(found) = own_field(families, fields, *number, name) {
+        if let Some(found) = own_field(families, fields, *number as usize, name) {
             return Some(found);
         }
     }
@@ -90,7 +90,7 @@ pub(crate) fn has_method_in(
 {
     let order = order_of(families, family);
     for number in order {
-        if has_own_method(families, methods, *number, name) {
+        if has_own_method(families, methods, *number as usize, name) {
             return true;
         }
     }

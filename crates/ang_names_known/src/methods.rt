@@ -84,8 +84,9 @@ pub(crate) fn methods_in(
     let mut slots = HashSet::new(alloc);
     let order = order_of(families, family);
     for number in order {
-        let places = index.find(*number as u64, name);
-        push_methods(families, &mut found, &mut slots, *number, places)?;
+        let owner = *number as usize;
+        let places = index.find(owner as u64, name);
+        push_methods(families, &mut found, &mut slots, owner, places)?;
     }
     Ok(found)
 }

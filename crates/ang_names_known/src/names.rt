@@ -130,10 +130,10 @@ pub struct Family {
     /// The number of its base class.
     pub base: Option<usize>,
     /// The numbers of all families above it, rising: base classes, and the interfaces of these and its own.
-    pub above: List<usize>,
+    pub above: List<u8>,
     /// Itself and the families from which it has methods, the nearest first: of a class its base classes, of an interface
     /// the interfaces above it, of equally near ones the lowest number first.
-    pub order: List<usize>,
+    pub order: List<u8>,
     /// It falls along all that a field can reach.
     pub rank: usize,
     /// Its own fields, in order of declaration.

@@ -30,7 +30,7 @@ pub struct TypedClass {
     /// The number of its base class.
     pub base: Option<usize>,
     /// The numbers of the families above it, rising.
-    pub above: List<usize>,
+    pub above: List<u8>,
     /// For each method that it has itself: the slot, and the number in `Typed::functions` of the body that stands in it.
     /// In any other slot it has what its base class has there. An interface has no bodies.
     pub chosen: List<(usize, usize)>,
