@@ -52,6 +52,28 @@ fn found_in(alloc: Global, build: &Build<'_>, scripts: &[Script]) -> Result<Foun
     Ok(found)
 }
 
+/// What the bodies and initializers of all sections give, by what is made to judge them alone: it is let go before there is a
+/// resolved tree.
+fn found_by(
+    alloc: Global,
+    view: &View,
+    names: &Names,
+    scripts: &[Script],
+) -> Result<Found, AllocError>
+    requires families { AreFamilies names.now.families }
+    ensures all { IfOk result (λ found. spec.Holds found (bodies.judgements view.now names.now
+        (list_map source_of scripts.now))) }
+{
+    let lineage = lineage_of(alloc, names)?;
+    let known = KnownView::new(alloc, view)?;
+    let build = Build {
+        view: &known,
+        names,
+        lineage: &lineage,
+    };
+    found_in(alloc, &build, scripts)
+}
+
 /// Functions, with the bodies of members after them.
 fn with_members(
     functions: Vec<TypedFunction>,
@@ -111,13 +133,6 @@ pub fn judge(
     ensures refused { IfOk result (λ j. j.refused
         ≡ bodies.body_refusals view.now names.now (list_map source_of scripts.now)) }
 {
-    let lineage = lineage_of(alloc, names)?;
-    let known = KnownView::new(alloc, view)?;
-    let build = Build {
-        view: &known,
-        names,
-        lineage: &lineage,
-    };
-    let found = found_in(alloc, &build, scripts)?;
+    let found = found_by(alloc, view, names, scripts)?;
     judged_of(alloc, names, found)
 }
