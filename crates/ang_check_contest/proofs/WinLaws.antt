@@ -1,6 +1,7 @@
 -- What the ranks of one candidate more say beside the least ones of the others: whether it is the best of all.
-use Rattle.std.specs.Prelude.{ℕ, Bool, true, false, not, ◌≡◌, ◌<◌, ◌&&◌, ◌||◌, ◌⊎◌, List, [], ◌∷◌, drop, length, slice_get, Option, Some, None, IsSome, Decides}
-use Rattle.std.proofs.Common.{arith, refl, ap, sym, subst, inl, inr, zero, suc, ◌∙◌}
+use Rattle.std.specs.Prelude.{ℕ, Bool, true, false, not, ◌≡◌, ◌≢◌, ◌<◌, ◌&&◌, ◌||◌, ◌⊎◌, List, [], ◌∷◌, drop, length, slice_get, Option, Some, None, IsSome, Decides, Vec}
+use Rattle.std.specs.declared.alloc.Global.{Global}
+use Rattle.std.proofs.Common.{arith, refl, ap, sym, subst, inl, inr, zero, suc, drop-cons, get_or, add-one, ◌+◌, ◌∙◌}
 use Rattle.std.proofs.lemmas.Bool.Decides.{Decides-and, Decides-like, Decides-ltb, Decides-not}
 use Rattle.ang_types.specs.declared.arg_type.ArgType.{ArgType}
 use Rattle.ang_types.specs.declared.candidate.Candidate.{Candidate}
@@ -10,7 +11,7 @@ use Rattle.ang_types.specs.Ranks.{Ancestors}
 use Rattle.ang_types.specs.Rivals.{AreRivals, IsAbreast, least_at}
 use Rattle.ang_types.proofs.RivalLaws.{tested}
 use Rattle.ang_check_contest.specs.Contest.{ranks_of, with_rank}
-use Rattle.ang_check_contest.specs.Told.{TellsRanks, ranks_at}
+use Rattle.ang_check_contest.specs.Told.{TellsRanks, rank_in, ranks_at, rows_of}
 use Rattle.ang_check_contest.specs.Winning.{is_ahead, wins_by, wins_if_told}
 use Rattle.ang_check_contest.proofs.ContestLaws.{RanksSay, ranks_say, there}
 
@@ -24,6 +25,62 @@ pub one_rank_more : (r : ℕ) (o : Option (List ℕ)) (least : List (Option ℕ)
     → wins_by (with_rank (Some r) o) least ahead ≡ (not (is_less (least_at least 0) (Some r)) && wins_by o (drop 1 least) (ahead || is_less (Some r) (least_at least 0)))
 one_rank_more r None least ahead = nothing_after (not (is_less (least_at least 0) (Some r)))
 one_rank_more r (Some ranks) least ahead = refl
+
+-- ---- ranks from place to place
+
+-- where there is not one number for each argument
+pub other_number : (rows : List (Vec (Option ℕ) Global)) (ns : List ℕ) (least : List (Option ℕ)) (ahead : Bool) → length ns ≢ length rows
+    → wins_by (ranks_at (rows_of rows) ns) least ahead ≡ false
+other_number rows ns least ahead ne = ap (λ o. wins_by o least ahead) (lacking rows ns ne)
+  where
+    none_left : (o : Option ℕ) → with_rank o None ≡ None
+    none_left None = refl
+    none_left (Some r) = refl
+
+    lacking : (rows : List (Vec (Option ℕ) Global)) (ns : List ℕ) → length ns ≢ length rows → ranks_at (rows_of rows) ns ≡ None
+    lacking [] [] ne = absurd (ne refl)
+    lacking [] (n ∷ ns) ne = refl
+    lacking (v ∷ rows) [] ne = refl
+    lacking (v ∷ rows) (n ∷ ns) ne = ap (with_rank (rank_in v.items n)) (lacking rows ns (λ e. ne (ap suc e))) ∙ none_left (rank_in v.items n)
+
+first_left : (least : List (Option ℕ)) (p : ℕ) → least_at (drop p least) 0 ≡ least_at least p
+first_left least zero = refl
+first_left [] (suc p) = refl
+first_left (m ∷ least) (suc p) = first_left least p
+
+rest_left : (least : List (Option ℕ)) (p : ℕ) → drop 1 (drop p least) ≡ drop (suc p) least
+rest_left [] zero = refl
+rest_left [] (suc p) = refl
+rest_left (m ∷ least) zero = refl
+rest_left (m ∷ least) (suc p) = rest_left least p
+
+-- what is left from a place on
+abbrev pub from_place : List (Vec (Option ℕ) Global) → List ℕ → List (Option ℕ) → ℕ → Bool → Bool
+from_place rows ns least p ahead = wins_by (ranks_at (rows_of (drop p rows)) (drop p ns)) (drop p least) ahead
+
+module _ (rows : List (Vec (Option ℕ) Global)) (ns : List ℕ) (least : List (Option ℕ)) (p : ℕ) (v : Vec (Option ℕ) Global) (lt : p < length rows)
+    (same : length ns ≡ length rows) (is_v : v ≡ get_or rows p v) where
+  abbrev ranks_after : Option (List ℕ)
+  ranks_after = ranks_at (rows_of (drop (suc p) rows)) (drop (suc p) ns)
+
+  begins : (ahead : Bool) → from_place rows ns least p ahead ≡ wins_by (with_rank (rank_in v.items (get_or ns p 0)) ranks_after) (drop p least) ahead
+  begins ahead =
+      let row : drop p rows ≡ v ∷ drop (suc p) rows = drop-cons rows p v lt ∙ ap (λ x. x ∷ drop (suc p) rows) (sym is_v) in
+      let number : drop p ns ≡ get_or ns p 0 ∷ drop (suc p) ns = drop-cons ns p 0 (omega (arith, lt, same)) in
+      λ i. wins_by (ranks_at (rows_of (row i)) (number i)) (drop p least) ahead
+
+  pub rank_missing : (ahead : Bool) → rank_in v.items (get_or ns p 0) ≡ None → from_place rows ns least p ahead ≡ false
+  rank_missing ahead e = begins ahead ∙ ap (λ q. wins_by (with_rank q ranks_after) (drop p least) ahead) e
+
+  pub rank_there : (ahead : Bool) (r : ℕ) → rank_in v.items (get_or ns p 0) ≡ Some r
+      → from_place rows ns least p ahead
+      ≡ (not (is_less (least_at least p) (Some r)) && from_place rows ns least (p + 1) (ahead || is_less (Some r) (least_at least p)))
+  rank_there ahead r e =
+      begins ahead
+      ∙ ap (λ q. wins_by (with_rank q ranks_after) (drop p least) ahead) e
+      ∙ one_rank_more r ranks_after (drop p least) ahead
+      ∙ (λ i. not (is_less (first_left least p i) (Some r)) && wins_by ranks_after (rest_left least p i) (ahead || is_less (Some r) (first_left least p i)))
+      ∙ ap (λ q. not (is_less (least_at least p) (Some r)) && from_place rows ns least q (ahead || is_less (Some r) (least_at least p))) (sym (add-one p))
 
 -- where arguments are lacking
 pub lacking_wins_not : (l : Ancestors) (ps : Params) (args : List ArgType) (least : List (Option ℕ)) (ahead : Bool) → length args ≡ 0 → 0 < length ps → wins_by (ranks_of l ps args) least ahead ≡ false

@@ -79,9 +79,47 @@ fn first_and_rest(least: &[Option<u8>]) -> (Option<u8>, &[Option<u8>])
     }
 }
 
-/// Whether parameters of the kinds of these numbers take all arguments, no rank of which is above the least one, and some rank
-/// is below it, or they are ahead without that. The ranks are found in a row for each argument.
-#[tactic(auto, using(crate::proofs::WinLaws::one_rank_more))]
+/// The least rank of the argument at a place.
+#[inline(always)]
+fn least_of(least: &[Option<u8>], place: usize) -> Option<u8>
+    ensures exact { result ≡ least_at least.now place }
+{
+    match least.get(place) {
+        None => None,
+        Some(rank) => *rank,
+    }
+}
+
+/// Whether parameters of the kinds of these numbers, of which there is one for each argument, have ranks none of which is above
+/// the least one, and some rank is below it, or they are ahead without that. The ranks are found in a row for each argument.
+#[inline(always)]
+fn wins_by_places(
+    rows: &[Vec<Option<u8>>],
+    numbers: &[u32],
+    least: &[Option<u8>],
+    is_ahead: bool,
+) -> bool
+    requires same { length numbers.now ≡ length rows.now }
+    ensures exact { result ≡ spec.wins_by (told.ranks_at (told.rows_of rows.now) numbers.now)
+        least.now is_ahead }
+{
+    let mut ahead = is_ahead;
+    for place in 0..rows.len() {
+        let Some(rank) = rank_at(rows[place].as_slice(), numbers[place]) else {
+            return false;
+        };
+        let first = least_of(least, place);
+        if is_less(first, Some(rank)) {
+            return false;
+        }
+        ahead = gets_ahead(ahead, rank, first);
+    }
+    ahead
+}
+
+/// The same of any numbers: they take all arguments only where there is one for each.
+#[inline(always)]
+#[tactic(auto, using(crate::proofs::WinLaws::other_number))]
 fn wins_by_rows(
     rows: &[Vec<Option<u8>>],
     numbers: &[u32],
@@ -91,31 +129,14 @@ fn wins_by_rows(
     ensures exact { result ≡ spec.wins_by (told.ranks_at (told.rows_of rows.now) numbers.now)
         least.now is_ahead }
 {
-    let mut rest = numbers;
-    let mut others = least;
-    let mut ahead = is_ahead;
-    for row in rows {
-        let Some((number, after)) = rest.split_first() else {
-            return false;
-        };
-        let Some(rank) = rank_at(row.as_slice(), *number) else {
-            return false;
-        };
-        let (first, later) = first_and_rest(others);
-        if is_less(first, Some(rank)) {
-            return false;
-        }
-        ahead = gets_ahead(ahead, rank, first);
-        rest = after;
-        others = later;
+    if numbers.len() != rows.len() {
+        return false;
     }
-    match rest {
-        [] => ahead,
-        _ => false,
-    }
+    wins_by_places(rows, numbers, least, is_ahead)
 }
 
 /// The same of parameters whose ranks are found out here.
+#[inline(never)]
 #[tactic(auto, using(crate::proofs::WinLaws::one_rank_more))]
 fn wins_by_ranks(
     lineage: &Lineage,
@@ -152,6 +173,7 @@ fn wins_by_ranks(
 }
 
 /// The same where the ranks for all kinds are known, and the numbers of the parameters' kinds.
+#[inline(always)]
 fn wins_if_told(
     table: &Option<Vec<Vec<Option<u8>>>>,
     numbers: Option<&[u32]>,
@@ -172,6 +194,7 @@ fn wins_if_told(
 
 /// Whether these parameters take all arguments, no rank of which is above the least one, and some rank is below it, or they are
 /// ahead without that.
+#[inline(always)]
 fn wins(
     lineage: &Lineage,
     params: &[(ArgType, Pass)],
@@ -217,6 +240,7 @@ impl Rivalry {
     /// Whether a candidate with these parameters, put in front of those that were taken in, is the best of all. The lineage and
     /// the arguments have to be those of the contest. It takes no memory. Where `table` has the ranks for all kinds, they are
     /// looked up by `numbers`, those of the parameters' kinds.
+    #[inline(always)]
     pub fn would_win(
         &self,
         lineage: &Lineage,
