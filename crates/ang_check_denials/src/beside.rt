@@ -41,11 +41,11 @@ pub struct Beside {
 /// A number that no host type has.
 const NO_TYPE: u32 = u32::MAX;
 
-/// The number of the host type of this name, seen or hidden. With any other number `makers_of` is only asked more often.
-fn type_called(masked: &Masked<'_>, name: &[u8]) -> u32 {
-    match masked.whole().find_type(name) {
-        None => NO_TYPE,
-        Some(number) => number.0,
+/// The number of the first type of a name, seen or hidden. With any other number `makers_of` is only asked more often.
+fn first_called(named: &TypesNamed) -> u32 {
+    match named.numbers.as_slice() {
+        [] => NO_TYPE,
+        [number, ..] => *number,
     }
 }
 
@@ -136,7 +136,7 @@ fn of_others(
     rivals: Rivalry,
     types: Vec<ArgType>,
     joined: bool,
-    made: u32,
+    calls: bool,
 ) -> Result<Beside, AllocError>
     ensures rivals { IfOk result (λ b. b.rivals ≡ rivals) }
     ensures makers { IfOk result (λ b. AreOthers b.makers scope.now.ancestors
@@ -149,6 +149,7 @@ fn of_others(
     ensures family { IfOk result (λ b. b.named.family ≡ spec.family_of_name scope.now name.now) }
 {
     let named = all_named(alloc, masked.whole(), scope, name)?;
+    let made = if calls { first_called(&named) } else { NO_TYPE };
     let makers = makers_of(alloc, scope, made, types.as_slice())?;
     Ok(Beside {
         rivals,
@@ -223,16 +224,15 @@ pub fn beside_of(
         Asks::Type | Asks::Enumeration => of_property(alloc, masked, scope, name, None),
         Asks::Call(args) => {
             let (rivals, joined) = functions_beside(alloc, scope, name, args.as_slice())?;
-            let made = type_called(masked, name);
-            of_others(alloc, masked, scope, name, rivals, types, joined, made)
+            of_others(alloc, masked, scope, name, rivals, types, joined, true)
         }
         Asks::Make(number, args) => {
             let rivals = makers_of(alloc, scope, *number, args.as_slice())?;
-            of_others(alloc, masked, scope, name, rivals, types, false, NO_TYPE)
+            of_others(alloc, masked, scope, name, rivals, types, false, false)
         }
         Asks::Default(number) => {
             let rivals = makers_of(alloc, scope, *number, &[])?;
-            of_others(alloc, masked, scope, name, rivals, types, false, NO_TYPE)
+            of_others(alloc, masked, scope, name, rivals, types, false, false)
         }
         Asks::Property(number) => {
             let wanted = WantedProperty::Member(*number, BorrowedText::new(name));
@@ -242,7 +242,7 @@ pub fn beside_of(
         Asks::Method(number, read_only, args) => {
             let (receiver, args) = ((*number, *read_only), args.as_slice());
             let rivals = methods_beside(alloc, scope, name, receiver, args, types.as_slice())?;
-            of_others(alloc, masked, scope, name, rivals, types, false, NO_TYPE)
+            of_others(alloc, masked, scope, name, rivals, types, false, false)
         }
     }
 }

@@ -66,6 +66,7 @@ fn is_property_of(property: Option<SeenProperty>, number: u32) -> bool
 }
 
 /// Whether the property that is wanted would be that of the entry that is added, beside the one that is seen.
+#[inline(never)]
 fn property_wins(
     masked: &Masked<'_>,
     added: u32,
@@ -118,6 +119,7 @@ fn value_wins(
 }
 
 /// Whether a bare name would mean the global property or the value that is added.
+#[inline(never)]
 fn value_means(
     masked: &Masked<'_>,
     scope: &Scope<'_>,
@@ -137,6 +139,7 @@ fn value_means(
 }
 
 /// Whether a type's name would mean the type that is added.
+#[inline(never)]
 fn type_wins(
     masked: &Masked<'_>,
     scope: &Scope<'_>,
@@ -164,6 +167,7 @@ fn is_number_of(number: u32, named: Named) -> bool
 }
 
 /// Whether the name of an enumeration, in front of `::`, would mean the one that is added.
+#[inline(never)]
 fn enumeration_wins(
     masked: &Masked<'_>,
     scope: &Scope<'_>,
@@ -192,6 +196,7 @@ fn is_enumeration_number(number: u32, named: Named) -> bool
 }
 
 /// Whether the function, factory or method that is added, where it is wanted, would be the best of all.
+#[inline(never)]
 fn wins(
     masked: &Masked<'_>,
     lineage: &Lineage,
@@ -215,6 +220,7 @@ fn wins(
 }
 
 /// Whether the entry of this number, as a candidate, would be the best of all.
+#[inline(always)]
 pub fn made_wins(
     masked: &Masked<'_>,
     lineage: &Lineage,
@@ -268,6 +274,7 @@ fn factory_wins(
 }
 
 /// Whether a call of a name would mean the entry that is added, which is a function, a factory or an enumeration.
+#[inline(never)]
 fn call_wins(
     alloc: Global,
     masked: &Masked<'_>,

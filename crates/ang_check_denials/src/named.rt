@@ -212,6 +212,7 @@ pub fn all_named(
 }
 
 /// What a name that is no family's means as a type, where an entry is added to what a module sees.
+#[inline(never)]
 #[tactic(auto, using(crate::proofs::Types::host_named_is))]
 fn host_named_with(
     masked: &Masked<'_>,
@@ -234,6 +235,7 @@ fn host_named_with(
 }
 
 /// What a name means as a type, where an entry is added to what a module sees. It takes no memory.
+#[inline(always)]
 #[tactic(auto, using(crate::proofs::Types::family_named_is, crate::proofs::Types::nothing_named_is))]
 pub fn named_with(
     masked: &Masked<'_>,
