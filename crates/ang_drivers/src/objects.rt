@@ -146,6 +146,27 @@ impl<T: Drop> Objects<T> {
         requires held { IsHeld (ledger self.old) key }
         ensures added { AddsOne (ledger self.old) key result (ledger self.new) }
     {
+        if self.live.leads(key) {
+            return self.add_one(key);
+        }
+        self.add_one_apart(key)
+    }
+
+    // The same, apart, so that no register is saved where the object is found at once.
+    #[inline(never)]
+    fn add_one_apart(&mut self, key: u64) -> bool
+        requires held { IsHeld (ledger self.old) key }
+        ensures added { AddsOne (ledger self.old) key result (ledger self.new) }
+    {
+        self.add_one(key)
+    }
+
+    // The same, whether the object is found at once or not.
+    #[inline(always)]
+    fn add_one(&mut self, key: u64) -> bool
+        requires held { IsHeld (ledger self.old) key }
+        ensures added { AddsOne (ledger self.old) key result (ledger self.new) }
+    {
         if self.added == LIMIT {
             return false;
         }
@@ -157,6 +178,27 @@ impl<T: Drop> Objects<T> {
     /// Releases a reference to a live object, and tells whether it was the last: then the object is
     /// gone.
     pub fn release(&mut self, key: u64) -> bool
+        requires held { IsHeld (ledger self.old) key }
+        ensures released { ReleasesOne (ledger self.old) key result (ledger self.new) }
+    {
+        if self.live.leads(key) {
+            return self.release_one(key);
+        }
+        self.release_one_apart(key)
+    }
+
+    // The same, apart, so that no register is saved where the object is found at once.
+    #[inline(never)]
+    fn release_one_apart(&mut self, key: u64) -> bool
+        requires held { IsHeld (ledger self.old) key }
+        ensures released { ReleasesOne (ledger self.old) key result (ledger self.new) }
+    {
+        self.release_one(key)
+    }
+
+    // The same, whether the object is found at once or not.
+    #[inline(always)]
+    fn release_one(&mut self, key: u64) -> bool
         requires held { IsHeld (ledger self.old) key }
         ensures released { ReleasesOne (ledger self.old) key result (ledger self.new) }
     {

@@ -82,6 +82,12 @@ impl<T> Pages<T> {
         self.next
     }
 
+    /// Whether each key below this one, and it itself, is that of a live object, which then is found at once.
+    #[inline(always)]
+    pub(crate) fn leads(&self, key: u64) -> bool {
+        key < self.leading
+    }
+
     // Where the object of a live key is.
     #[inline(always)]
     fn place(&self, key: u64) -> Place

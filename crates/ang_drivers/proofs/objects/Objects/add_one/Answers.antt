@@ -4,7 +4,7 @@ use Rattle.ang_drivers.specs.declared.pages.Counted.{Counted}
 use Rattle.ang_drivers.specs.Objects.{by_key}
 use Rattle.ang_drivers.specs.PagesHeld.{entries_of}
 use Rattle.ang_drivers.proofs.Ledgers.{is_held, stands, counted-added, count-bound, recounted}
-use Rattle.ang_drivers.proofs.objects.Objects.add_ref.Goals as goal
+use Rattle.ang_drivers.proofs.objects.Objects.add_one.Goals as goal
 
 pub count_up-requires-clause-held : goal.count_up-requires-clause-held
 count_up-requires-clause-held g c = is_held (λ (o : Counted g.row.T.Denot). o.count) _ _ c.requires.held.0 c.requires.held.1

@@ -6,7 +6,7 @@ use Rattle.ang_drivers.specs.declared.pages.Counted.{Counted}
 use Rattle.ang_drivers.specs.Objects.{by_key}
 use Rattle.ang_drivers.specs.PagesHeld.{entries_of}
 use Rattle.ang_drivers.proofs.Ledgers.{is_held, stands, counted-released, counted-ended, recounted}
-use Rattle.ang_drivers.proofs.objects.Objects.release.Goals as goal
+use Rattle.ang_drivers.proofs.objects.Objects.release_one.Goals as goal
 
 pub count_down-requires : goal.count_down-requires
 count_down-requires g c = record {
