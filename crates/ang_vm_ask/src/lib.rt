@@ -17,6 +17,6 @@ mod operation;
 mod replies;
 mod rooms;
 
-pub use arguments::FEW;
-pub use fitting::{entry_of, given_count, is_called, operands, operands_of};
+pub use arguments::{FEW, argument_from};
+pub use fitting::{called_among, entry_of, given_count, operands, operands_of, receivers};
 pub use operation::{ask, ask_called, ask_entry, call_entry};

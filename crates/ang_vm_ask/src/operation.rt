@@ -492,7 +492,7 @@ fn make_entry(
 
 /// Asks an entry that is called, a function, a method or a factory, for a module, of an object or of none, with the
 /// values that its driver is handed, and answers its value. The operands from which they come needn't stand on a stack,
-/// and are all still there then.
+/// and are all still there then. The role is the entry's, which a caller may know by then.
 ///
 /// What is listed, when the driver isn't asked, and the errors are as `ask` says.
 #[inline(always)]
@@ -500,6 +500,7 @@ pub fn ask_called(
     table: &Table,
     home: u32,
     host: &HostUse,
+    role: Role,
     object: Option<u64>,
     args: &[Value],
     store: &mut Store,
@@ -507,6 +508,7 @@ pub fn ask_called(
 ) -> Result<Slot, Fault>
     requires entry { AsksEntry table.now home (Ask entity) host.now }
     requires called { is_called_by host.now.role host.now.member ≡ true }
+    requires role { host.now.role ≡ role }
     requires drivers { DriversThere table.now (length (members store.old.drivers)) }
     requires ready { IsReady ⟦<dyn Driver as Driver>⟧ store.old }
     requires object_live { IsLiveOption
@@ -522,7 +524,7 @@ pub fn ask_called(
     ensures same { length (members store.new.drivers) ≡ length (members store.old.drivers) }
     ensures moves { HasMovedOver ⟦<dyn Driver as Driver>⟧ table.now store.old store.new }
 {
-    match host.role {
+    match role {
         Role::Calling(number) => {
             call_entry(table, home, host, number, object, args, store, entity)
         }
