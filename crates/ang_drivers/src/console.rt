@@ -1,5 +1,5 @@
 //! A driver without objects: it notes values, adds, faults, and has a register.
-ghost use Rattle.std.specs.Prelude.{◌≡◌, ◌<◌, ◌^◌, pos, [], IfOk};
+ghost use Rattle.std.specs.Prelude.{◌≡◌, ◌<◌, ◌^◌, ◌++◌, pos, [], IfOk, OnErr, OnOk};
 ghost use Rattle.ang_drivers.specs.Console.{IsSum, IsFaultOf};
 ghost use Rattle.ang_drivers.specs.Plain.{IsPlain};
 
@@ -45,6 +45,16 @@ impl Console {
             asked: 0,
         })
     }
+}
+
+// Notes values, or none where there is no memory for them. It stands apart, so that no register is saved where nothing is
+// noted.
+#[inline(never)]
+fn note(notes: &mut Vec<Value>, values: &[Value]) -> Result<(), AllocError>
+    ensures added { OnOk result (notes.new.items ≡ notes.old.items ++ values.now) }
+    ensures kept { OnErr result (notes.new.items ≡ notes.old.items) }
+{
+    notes.extend_from_slice(values)
 }
 
 fn sum_of(args: &[Value]) -> Answer
@@ -97,7 +107,7 @@ impl Driver for Console {
         }
         self.asked += 1;
         match f {
-            0 => match self.notes.extend_from_slice(args) {
+            0 => match note(&mut self.notes, args) {
                 Ok(()) => Answer::Void,
                 Err(_) => Answer::Memory,
             },

@@ -29,10 +29,10 @@ returns-in-2 c = record {
 pub returns-in-Ok : goal.returns-in-Ok
 returns-in-Ok c = record {
   law =
-      console_answers c.args.self.now.register c.args.self.now.register c.args.self.now.notes.items c.extend_from_slice.new.self.items c.args.self.now.asked (call c.args.f c.args._object c.args.args.now) Void tt
+      console_answers c.args.self.now.register c.args.self.now.register c.args.self.now.notes.items c.note.new.notes.items c.args.self.now.asked (call c.args.f c.args._object c.args.args.now) Void tt
       (rw c.in-0.is (inl (
         refl,
-        ap (λ ns. code_of (Int c.args.self.now.register) ∷ list_map code_of ns) c.in-Ok.ensures.items
+        ap (λ ns. code_of (Int c.args.self.now.register) ∷ list_map code_of ns) c.in-Ok.ensures.added
             ∙ ap (λ ns. code_of (Int c.args.self.now.register) ∷ ns) (map-append code_of c.args.self.now.notes.items c.args.args.now),
       )));
 }
@@ -40,8 +40,8 @@ returns-in-Ok c = record {
 pub returns-in-Err : goal.returns-in-Err
 returns-in-Err c = record {
   law =
-      console_answers c.args.self.now.register c.args.self.now.register c.args.self.now.notes.items c.extend_from_slice.new.self.items c.args.self.now.asked (call c.args.f c.args._object c.args.args.now) Memory tt
-      (rw c.in-0.is (inr (refl, ap (λ ns. code_of (Int c.args.self.now.register) ∷ list_map code_of ns) c.in-Err.ensures.items)));
+      console_answers c.args.self.now.register c.args.self.now.register c.args.self.now.notes.items c.note.new.notes.items c.args.self.now.asked (call c.args.f c.args._object c.args.args.now) Memory tt
+      (rw c.in-0.is (inr (refl, ap (λ ns. code_of (Int c.args.self.now.register) ∷ list_map code_of ns) c.in-Err.ensures.kept)));
 }
 
 pub returns-in_default : goal.returns-in_default
