@@ -1,12 +1,12 @@
 -- Whether one candidate more is the best, by the least ranks of the others.
-use Rattle.std.specs.Prelude.{ℕ, Bool, true, false, ◌≡◌, ◌≢◌, ◌<◌, ◌≤◌, ◌+◌, ◌⊎◌, ◌↔◌, List, ◌∷◌, length, Option, Some, None, IsSome, IfSome, min, Decides}
+use Rattle.std.specs.Prelude.{ℕ, Bool, true, false, ◌≡◌, ◌≢◌, ◌<◌, ◌≤◌, ◌+◌, ◌⊎◌, ◌↔◌, List, ◌∷◌, length, Option, Some, None, IsSome, IfSome, Decides}
 use Rattle.std.proofs.Common.{arith, refl, ap, sym, subst, inl, inr, zero, suc, below_more, ◌∙◌}
 use Rattle.ang_types.specs.declared.arg_type.ArgType.{ArgType}
 use Rattle.ang_types.specs.declared.candidate.Candidate.{Candidate}
 use Rattle.ang_types.specs.Ranks.{Ancestors}
-use Rattle.ang_types.specs.Overloads.{Params, params_at, rank_at, IsViable, IsLess, IsBetter, IsViableAt, IsBest}
+use Rattle.ang_types.specs.Overloads.{Params, params_at, rank_at, IsLess, IsBetter, IsViableAt, IsBest}
 use Rattle.ang_types.specs.Best.{is_best}
-use Rattle.ang_types.specs.Rivals.{lesser, IsAtMost, least_at, AreLeast, AreRivals, IsAbreast}
+use Rattle.ang_types.specs.Rivals.{IsAtMost, least_at, AreRivals, IsAbreast}
 use Rattle.ang_types.proofs.BestLaws.{is_best-Decides}
 
 -- on ranks alone
@@ -117,74 +117,5 @@ pub tested : (x : Bool) (l : Ancestors) (ps : Params) (cs : List Candidate) (arg
 tested x l ps cs args r d rs c e =
     same_test x (is_best l (c ∷ cs) args 0) (IsAbreast l c.params args r) _ (subst (λ p. Decides x (IsAbreast l p args r)) (sym e) d) (is_best-Decides l (c ∷ cs) args 0) (abreast-IsBest l c cs args r rs)
 
--- the lesser of two is at most both
-lesser_first : (r m : Option ℕ) → IsSome r → IsAtMost (lesser r m) r
-lesser_first None m s = cc
-lesser_first (Some r) None s = omega arith
-lesser_first (Some r) (Some q) s = omega arith
-
-lesser_second : (r m d : Option ℕ) → IsAtMost m d → IsAtMost (lesser r m) d
-lesser_second r None d a = absurd a
-lesser_second None (Some q) d a = a
-lesser_second (Some r) (Some q) None a = absurd a
-lesser_second (Some r) (Some q) (Some s) a = omega (arith, a)
-
--- and is one of them
-lesser_is : (r m : Option ℕ) (P : Option ℕ → Type 0) → P r → P m → P (lesser r m)
-lesser_is r None P p q = p
-lesser_is None (Some m) P p q = q
-lesser_is (Some r) (Some m) P p q = elim (either r m) [ inl e ↦ subst (λ x. P (Some x)) (sym e) p | inr e ↦ subst (λ x. P (Some x)) (sym e) q ]
-  where
-    either : (r m : ℕ) → (min r m ≡ r) ⊎ (min r m ≡ m)
-    either r m = grind arith
-
 pub split_last : (i n : ℕ) → i < n + 1 → (i < n) ⊎ (i ≡ n)
 split_last i n lt = grind arith
-
--- one candidate more that is not viable
-pub least_skip : (l : Ancestors) (cs : List Candidate) (args : List ArgType) (n : ℕ) (m : List (Option ℕ)) → AreLeast l cs args n m → ¬ IsViable l (params_at cs n) args
-    → AreLeast l cs args (n + 1) m
-least_skip l cs args n m h isnt =
-    record {
-      size = h.size;
-      none_below = λ i lt v. elim (split_last i n lt) [
-        | inl less ↦ h.none_below i less v
-        | inr same ↦ absurd (isnt (subst (λ x. IsViable l (params_at cs x) args) same v.viable))
-      ];
-      attained = h.attained;
-    }
-
--- one that is
-pub least_lower : (l : Ancestors) (cs : List Candidate) (args : List ArgType) (n : ℕ) (m m' : List (Option ℕ)) → AreLeast l cs args n m → n < length cs → IsViable l (params_at cs n) args
-    → length m' ≡ length args
-    → ((k : ℕ) → k < length args → least_at m' k ≡ lesser (rank_at l (params_at cs n) args k) (least_at m k))
-    → AreLeast l cs args (n + 1) m'
-least_lower l cs args n m m' h there viable size lower =
-    let at_most : (i : ℕ) → i < n + 1 → IsViableAt l cs args i → (k : ℕ) → k < length args → IsAtMost (lesser (rank_at l (params_at cs n) args k) (least_at m k)) (rank_at l (params_at cs i) args k) =
-    λ i lt v k kn. elim (split_last i n lt) [
-      | inl less ↦ lesser_second (rank_at l (params_at cs n) args k) (least_at m k) (rank_at l (params_at cs i) args k) (h.none_below i less v k kn)
-      | inr same ↦ subst (λ x. IsAtMost (lesser (rank_at l (params_at cs n) args k) (least_at m k)) (rank_at l (params_at cs x) args k)) (sym same)
-          (lesser_first (rank_at l (params_at cs n) args k) (least_at m k) (viable.ranked k kn))
-    ] in
-    let here : (k : ℕ) → (o : Option ℕ) → rank_at l (params_at cs n) args k ≡ o → IfSome o (λ r. (i : ℕ) × IsViableAt l cs args i × (rank_at l (params_at cs i) args k ≡ Some r)) =
-    λ k o e. attained_here l cs args n k o (record { there = there; viable = viable }) e in
-    record {
-      size = size;
-      none_below = λ i lt v k kn. subst (λ x. IsAtMost x (rank_at l (params_at cs i) args k)) (sym (lower k kn)) (at_most i lt v k kn);
-      attained = λ k kn. subst (λ x. IfSome x (λ r. (i : ℕ) × IsViableAt l cs args i × (rank_at l (params_at cs i) args k ≡ Some r))) (sym (lower k kn))
-          (lesser_is (rank_at l (params_at cs n) args k) (least_at m k) (λ x. IfSome x (λ r. (i : ℕ) × IsViableAt l cs args i × (rank_at l (params_at cs i) args k ≡ Some r)))
-          (here k (rank_at l (params_at cs n) args k) refl) (h.attained k kn));
-    }
-  where
-    attained_here : (l : Ancestors) (cs : List Candidate) (args : List ArgType) (n k : ℕ) (o : Option ℕ) → IsViableAt l cs args n → rank_at l (params_at cs n) args k ≡ o
-        → IfSome o (λ r. (i : ℕ) × IsViableAt l cs args i × (rank_at l (params_at cs i) args k ≡ Some r))
-    attained_here l cs args n k None v e = tt
-    attained_here l cs args n k (Some r) v e = (n, v, e)
-
-none_attained : (o : Option ℕ) (P : ℕ → Type 0) → o ≡ None → IfSome o P
-none_attained None P e = tt
-none_attained (Some x) P e = cc
-
-pub least_start : (l : Ancestors) (cs : List Candidate) (args : List ArgType) (m : List (Option ℕ)) → length m ≡ length args → ((k : ℕ) → least_at m k ≡ None) → AreLeast l cs args 0 m
-least_start l cs args m size none =
-    record { size = size; none_below = λ i lt. absurd (omega (arith, lt)); attained = λ k kn. none_attained (least_at m k) _ (none k) }

@@ -1,15 +1,9 @@
 -- What is kept of the candidates of a use, so that one more can be told to be the best or not.
-use Rattle.std.specs.Prelude.{ℕ, Bool, true, ◌≡◌, ◌<◌, ◌≤◌, ◌↔◌, List, length, Option, Some, None, IfSome, min, slice_index_or}
+use Rattle.std.specs.Prelude.{ℕ, Bool, true, ◌≡◌, ◌<◌, ◌≤◌, ◌↔◌, List, length, Option, Some, None, IfSome, slice_index_or}
 use Rattle.ang_types.specs.declared.arg_type.ArgType.{ArgType}
 use Rattle.ang_types.specs.declared.candidate.Candidate.{Candidate}
 use Rattle.ang_types.specs.Ranks.{Ancestors}
 use Rattle.ang_types.specs.Overloads.{Params, params_at, rank_at, IsLess, IsViable, IsViableAt}
-
--- the lesser of two ranks, where none is above all
-abbrev pub lesser : Option ℕ → Option ℕ → Option ℕ
-lesser r None = r
-lesser None (Some q) = Some q
-lesser (Some r) (Some q) = Some (min r q)
 
 -- both are ranks, and the first is not above the second
 abbrev pub IsAtMost : Option ℕ → Option ℕ → Type 0

@@ -2,8 +2,8 @@
 //!
 //! `common` is the type in which two integers meet in an operation, `rank` says whether one type
 //! converts to another by itself and what that costs, and `resolve` picks the best of the candidates
-//! of a name. None of them takes memory. `push_ranks` finds the ranks of one argument for many parameters out. `Rivals` keeps of the candidates of a use what tells whether one more would
-//! be the best, and `Asks` is what a use asks of its name.
+//! of a name. None of them takes memory. `push_ranks` finds the ranks of one argument for many
+//! parameters out. `Asks` is what a use asks of its name.
 #![tactic(auto)]
 
 mod arg_type;
@@ -15,7 +15,6 @@ mod lineage;
 mod marks;
 mod overloads;
 mod ranks;
-mod rivals;
 mod rows;
 
 pub use arg_type::ArgType;
@@ -25,5 +24,4 @@ pub use integers::common;
 pub use lineage::Lineage;
 pub use overloads::resolve;
 pub use ranks::{rank, rank_of_argument};
-pub use rivals::Rivals;
 pub use rows::push_ranks;

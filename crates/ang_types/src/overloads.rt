@@ -82,14 +82,14 @@ fn beats_others(lineage: &Lineage, candidates: &[Candidate], args: &[ArgType], i
     true
 }
 
-pub(crate) fn params_of(candidates: &[Candidate], i: usize) -> &[(ArgType, Pass)]
+fn params_of(candidates: &[Candidate], i: usize) -> &[(ArgType, Pass)]
     requires there { i < length candidates.now }
     ensures exact { result.now ≡ params_at candidates.now i }
 {
     candidates[i].params.as_slice()
 }
 
-pub(crate) fn is_viable(lineage: &Lineage, params: &[(ArgType, Pass)], args: &[ArgType]) -> bool
+fn is_viable(lineage: &Lineage, params: &[(ArgType, Pass)], args: &[ArgType]) -> bool
     ensures exact { IsTrue result ↔ IsViable lineage.now params.now args.now }
 {
     if params.len() != args.len() {
@@ -158,7 +158,7 @@ fn gives_way(
     is_behind && !is_ahead
 }
 
-pub(crate) fn is_less(rank: Option<u8>, other: Option<u8>) -> bool
+fn is_less(rank: Option<u8>, other: Option<u8>) -> bool
     ensures exact { IsTrue result ↔ IsLess rank other }
 {
     match (rank, other) {
@@ -168,7 +168,7 @@ pub(crate) fn is_less(rank: Option<u8>, other: Option<u8>) -> bool
 }
 
 /// The rank of the argument at a place for the parameter there.
-pub(crate) fn rank_of_place(
+fn rank_of_place(
     lineage: &Lineage,
     params: &[(ArgType, Pass)],
     args: &[ArgType],
