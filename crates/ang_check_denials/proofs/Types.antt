@@ -247,6 +247,10 @@ host_named_is R m s x name t host enumeration e unknown h g =
     let none = no_family (position (bytes_eq name) (map (λ (f : Family). f.name) s.names.families)) t e unknown in
     λ i. family_or_host (none i) (h i) (g i)
 
+pub host_type_is : (R : RegistrationList) (m : ℕ) (s : Scope) (x : ℕ) (name : List ℕ) (t : Named) (n : ℕ) → t ≡ family_of_name s name → is_known t ≡ false
+    → Some n ≡ type_named (seen_with R m x) name → named.Object n ≡ named_with R m s x name
+host_type_is R m s x name t n e unknown h = host_named_is R m s x name t (Some n) (enumeration_named (seen_with R m x) name) e unknown h refl
+
 pub nothing_left : (xs : List ℕ) → (length xs == 0) ≡ true → xs ≡ []
 nothing_left [] e = refl
 nothing_left (x ∷ xs) e = let none : length (x ∷ xs) ≡ 0 = eqb-true (length (x ∷ xs)) 0 e in absurd (omega (arith, none))

@@ -213,7 +213,7 @@ pub fn all_named(
 
 /// What a name that is no family's means as a type, where an entry is added to what a module sees.
 #[inline(never)]
-#[tactic(auto, using(crate::proofs::Types::host_named_is))]
+#[tactic(auto, using(crate::proofs::Types::host_type_is, crate::proofs::Types::host_named_is))]
 fn host_named_with(
     masked: &Masked<'_>,
     scope: &Scope<'_>,
@@ -229,9 +229,11 @@ fn host_named_with(
         ≡ spec.named_with masked.now.list masked.now.mask scope.now added name.now }
 {
     let numbers = named.numbers.as_slice();
-    let host = type_with(masked, scope.view(), added, name, numbers);
+    if let Some(number) = type_with(masked, scope.view(), added, name, numbers) {
+        return Named::Object(number);
+    }
     let enumeration = enumeration_with(masked, scope.view(), added, name, numbers);
-    family_or_host(None, host, enumeration)
+    family_or_host(None, None, enumeration)
 }
 
 /// What a name means as a type, where an entry is added to what a module sees. It takes no memory.
