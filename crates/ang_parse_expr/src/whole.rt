@@ -19,6 +19,7 @@ fn all(alloc: Global, tokens: &[Token]) -> Result<Expression, ReadError<'_>>
 {
     let (found, rest) = expression(alloc, tokens, tokens.len() + 1, 0)?;
     if !rest.is_empty() {
+        drop(found);
         return Err(ReadError::Syntax(rest));
     }
     Ok(found)
