@@ -213,8 +213,13 @@ fn inside(
         (read.inside (read.expr depth) depth tokens.now) }
 {
     let (inner, rest) = expression(alloc, tokens, depth, 0)?;
-    let (close, rest) = a_right_paren(rest)?;
-    Ok(((inner, close), rest))
+    match a_right_paren(rest) {
+        Ok((close, rest)) => Ok(((inner, close), rest)),
+        Err(error) => {
+            drop(inner);
+            Err(error)
+        }
+    }
 }
 
 /// Reads what stands after the word of a primitive type.
@@ -386,6 +391,7 @@ fn suffixes(
         found = longer;
         rest = after;
     }
+    drop(found);
     Err(ReadError::Deep)
 }
 
@@ -424,9 +430,16 @@ fn operated<'a>(
     ensures reads { Gives (λ x. ((view_expr x.0.0, x.0.1), x.1.now)) result
         (read.operated (read.expr depth) depth (view_expr left) operator tokens.now) }
 {
-    let (right, rest) = expression(alloc, tokens, depth, precedence(operator.kind) + 1)?;
-    let whole = binary(alloc, left, operator, right)?;
-    Ok(((whole, true), rest))
+    match expression(alloc, tokens, depth, precedence(operator.kind) + 1) {
+        Ok((right, rest)) => {
+            let whole = binary(alloc, left, operator, right)?;
+            Ok(((whole, true), rest))
+        }
+        Err(error) => {
+            drop(left);
+            Err(error)
+        }
+    }
 }
 
 /// Reads one binary operator and its right operand, where one stands that binds as tightly as `least`.
@@ -471,6 +484,7 @@ fn operations(
         left = longer;
         rest = after;
     }
+    drop(left);
     Err(ReadError::Deep)
 }
 
@@ -486,9 +500,19 @@ fn branches(
         (read.branches (read.expr depth) depth tokens.now) }
 {
     let (then, rest) = expression(alloc, tokens, depth, 0)?;
-    let (colon, rest) = a_colon(rest)?;
-    let (otherwise, rest) = expression(alloc, rest, depth, 0)?;
-    Ok(((then, colon, otherwise), rest))
+    match a_colon(rest) {
+        Ok((colon, rest)) => match expression(alloc, rest, depth, 0) {
+            Ok((otherwise, rest)) => Ok(((then, colon, otherwise), rest)),
+            Err(error) => {
+                drop(then);
+                Err(error)
+            }
+        },
+        Err(error) => {
+            drop(then);
+            Err(error)
+        }
+    }
 }
 
 /// Reads what stands after `?`.
@@ -504,9 +528,16 @@ fn conditioned<'a>(
     ensures reads { Gives (λ x. (view_expr x.0, x.1.now)) result
         (read.conditioned (read.expr depth) depth (view_expr condition) question tokens.now) }
 {
-    let ((then, colon, otherwise), rest) = branches(alloc, tokens, depth)?;
-    let whole = conditional(alloc, condition, question, then, colon, otherwise)?;
-    Ok((whole, rest))
+    match branches(alloc, tokens, depth) {
+        Ok(((then, colon, otherwise), rest)) => {
+            let whole = conditional(alloc, condition, question, then, colon, otherwise)?;
+            Ok((whole, rest))
+        }
+        Err(error) => {
+            drop(condition);
+            Err(error)
+        }
+    }
 }
 
 /// Reads what stands after an assignment operator.
@@ -522,9 +553,16 @@ fn assigned<'a>(
     ensures reads { Gives (λ x. (view_expr x.0, x.1.now)) result
         (read.assigned (read.expr depth) depth (view_expr target) operator tokens.now) }
 {
-    let (value, rest) = expression(alloc, tokens, depth, 0)?;
-    let whole = assignment(alloc, target, operator, value)?;
-    Ok((whole, rest))
+    match expression(alloc, tokens, depth, 0) {
+        Ok((value, rest)) => {
+            let whole = assignment(alloc, target, operator, value)?;
+            Ok((whole, rest))
+        }
+        Err(error) => {
+            drop(target);
+            Err(error)
+        }
+    }
 }
 
 /// Reads the rest of a `?:` or of an assignment, where one stands.
