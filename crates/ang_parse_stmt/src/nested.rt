@@ -38,17 +38,21 @@ fn guard<'a>(
 {
     let (open, rest) = a_left_paren(tokens)?;
     let (condition, rest) = expression(alloc, rest, limit, 0)?;
-    let (close, rest) = a_right_paren(rest)?;
-    let found = Box::new(
-        alloc,
-        Guard {
-            word: *word,
-            open,
-            condition,
-            close,
-        },
-    )?;
-    Ok((found, rest))
+    match a_right_paren(rest) {
+        Ok((close, rest)) => {
+            let guard = Guard {
+                word: *word,
+                open,
+                condition,
+                close,
+            };
+            Ok((Box::new(alloc, guard)?, rest))
+        }
+        Err(error) => {
+            drop(condition);
+            Err(error)
+        }
+    }
 }
 
 /// Reads `"while" "(" assign ")" ";"`, the end of a `do`. The word `do` is read already, and the ending

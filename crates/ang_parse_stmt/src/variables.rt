@@ -230,8 +230,8 @@ fn some_ended(
         (read.some_ended limit tokens.now) }
 {
     let (value, rest) = expression(alloc, tokens, limit, 0)?;
-    let (semicolon, rest) = a_semicolon(rest)?;
     let value = Box::new(alloc, value)?;
+    let (semicolon, rest) = a_semicolon(rest)?;
     Ok(((Some(value), semicolon), rest))
 }
 

@@ -18,6 +18,7 @@ fn finished(found: Statement, rest: &[Token]) -> Result<Statement, ReadError<'_>
     ensures reads { Gives (λ x. (view_stmt x, [])) result (finish (view_stmt found) rest.now) }
 {
     if !rest.is_empty() {
+        drop(found);
         return Err(ReadError::Syntax(rest));
     }
     Ok(found)
