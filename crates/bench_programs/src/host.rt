@@ -1,12 +1,10 @@
-//! The same calls twice: once what the script asks the host is listed, and once it is only counted. Given a count,
-//! prints what each of two such calls takes instead, of a script that asks the host so many times.
+//! The same calls twice: once what the script asks the host is listed, and once it is only counted.
 
 ghost use Rattle.ang_engine.specs.Sound.{IsSound};
 ghost use Rattle.ang_host.specs.Boxes.{members};
 ghost use Rattle.ang_host.specs.Members.{AreFresh, states_of};
 
 use crate::script::count_script;
-use crate::show_use;
 use ang_drivers::Counter;
 use ang_engine::{Command, Engine, Held, Limits, NewRefused, Outcome, Reply, Unheard};
 use ang_host::{Driver, Drivers};
@@ -15,7 +13,6 @@ use ang_registry::{RegError, Registry};
 use asrun_text::push_outcome;
 use std::alloc::{AllocError, Global};
 use std::io::{self, Write};
-use std::time::Instant;
 
 /// The name of the module.
 const BENCH: &str = "bench";
@@ -65,18 +62,6 @@ fn apply(engine: &mut Engine, command: Result<Command, AllocError>) -> Result<()
     ensures sound { IsSound ⟦<dyn Driver as Driver>⟧ engine.new }
 {
     drop(engine.apply(command?));
-    Ok(())
-}
-
-/// The same, and events are only counted.
-fn apply_unheard(
-    engine: &mut Engine,
-    command: Result<Command, AllocError>,
-) -> Result<(), AllocError>
-    requires sound { IsSound ⟦<dyn Driver as Driver>⟧ engine.old }
-    ensures sound { IsSound ⟦<dyn Driver as Driver>⟧ engine.new }
-{
-    drop(engine.apply_unheard(command?));
     Ok(())
 }
 
@@ -216,48 +201,20 @@ fn call_each(rt: &HostRuntime, engine: &mut Engine) -> io::Result<()>
     print_held(rt, engine.held())
 }
 
-fn print_time(rt: &HostRuntime, count: u32, how: &str, nanos: u128) -> io::Result<()> {
-    println!(rt; "{count} bumps, {how}: {nanos} nanoseconds")
-}
-
-/// Takes the time of a call whose events are listed.
-fn measure_heard(rt: &HostRuntime, engine: &mut Engine, count: u32) -> io::Result<()>
-    requires sound { IsSound ⟦<dyn Driver as Driver>⟧ engine.old }
-    ensures sound { IsSound ⟦<dyn Driver as Driver>⟧ engine.new }
-{
-    let start = Instant::now(rt)?;
-    apply(engine, bumps(rt.alloc(), count))?;
-    print_time(rt, count, "listed", start.elapsed(rt)?.as_nanos())
-}
-
-/// Takes the time of a call whose events are counted alone.
-fn measure_unheard(rt: &HostRuntime, engine: &mut Engine, count: u32) -> io::Result<()>
-    requires sound { IsSound ⟦<dyn Driver as Driver>⟧ engine.old }
-    ensures sound { IsSound ⟦<dyn Driver as Driver>⟧ engine.new }
-{
-    let start = Instant::now(rt)?;
-    apply_unheard(engine, bumps(rt.alloc(), count))?;
-    print_time(rt, count, "counted", start.elapsed(rt)?.as_nanos())
-}
-
-/// Builds the script and calls it, or takes the time where a count is given.
-fn run_script(rt: &HostRuntime, engine: &mut Engine, count: Option<u32>) -> io::Result<()>
+/// Builds the script and calls it.
+fn run_script(rt: &HostRuntime, engine: &mut Engine) -> io::Result<()>
     requires sound { IsSound ⟦<dyn Driver as Driver>⟧ engine.old }
     ensures sound { IsSound ⟦<dyn Driver as Driver>⟧ engine.new }
 {
     build(rt.alloc(), engine, SCRIPT)?;
-    let Some(count) = count else {
-        return call_each(rt, engine);
-    };
-    measure_heard(rt, engine, count)?;
-    measure_unheard(rt, engine, count)
+    call_each(rt, engine)
 }
 
 /// What is done with an engine.
 #[derive(Clone, Copy)]
 pub(crate) enum Job<'a> {
-    /// The same calls twice, or the time of each where there is a count.
-    Bumps(Option<u32>),
+    /// The same calls twice.
+    Bumps,
     /// Another script is built, and its `main` called where there is a budget.
     Script(&'a str, Option<u64>),
 }
@@ -267,7 +224,7 @@ fn do_job(rt: &HostRuntime, engine: &mut Engine, job: Job<'_>) -> io::Result<()>
     ensures sound { IsSound ⟦<dyn Driver as Driver>⟧ engine.new }
 {
     match job {
-        Job::Bumps(count) => run_script(rt, engine, count),
+        Job::Bumps => run_script(rt, engine),
         Job::Script(script, budget) => count_script(rt, engine, script, budget),
     }
 }
@@ -316,7 +273,8 @@ pub(crate) fn run_over(
     }
 }
 
-fn run_count(rt: &HostRuntime, count: Option<u32>) -> io::Result<()> {
+/// Compares what calls answer whose events are listed and counted.
+pub(crate) fn run(rt: &HostRuntime) -> io::Result<()> {
     let alloc = rt.alloc();
     let mut boxes: Vec<Box<dyn Driver>> = Vec::new(alloc);
     boxes.push(Box::new(alloc, Counter::new(alloc)?)?)?;
@@ -324,19 +282,5 @@ fn run_count(rt: &HostRuntime, count: Option<u32>) -> io::Result<()> {
     if add_counters(&mut registry).is_err() {
         return eprintln!(rt; "a registration was refused");
     }
-    run_over(rt, registry, boxes, Job::Bumps(count))
-}
-
-/// Takes the time of the calls that these words ask for. Without words compares what calls answer.
-pub(crate) fn run(rt: &HostRuntime, words: &[String]) -> io::Result<u8> {
-    let count = match words {
-        [] => None,
-        [word] => match word.parse::<u32>() {
-            Ok(count) => Some(count),
-            Err(_) => return show_use(rt),
-        },
-        _ => return show_use(rt),
-    };
-    run_count(rt, count)?;
-    Ok(0)
+    run_over(rt, registry, boxes, Job::Bumps)
 }

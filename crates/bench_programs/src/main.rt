@@ -1,7 +1,7 @@
-//! Benchmarks: how fast sections are read and built, and what it takes a host to have events listed.
+//! Benchmarks: how fast sections are read and built, and scripts whose events are only counted.
 //!
-//! `bench_programs build FILE TURNS [BUILDS]` and `bench_programs host COUNT` print figures, `bench_programs script FILE
-//! [BUDGET]` runs a script for others to measure. Without words the program does a small piece of the first two jobs, and
+//! `bench_programs build FILE TURNS [BUILDS]` prints figures, `bench_programs script FILE [BUDGET]` runs a script for others
+//! to measure. Without words the program builds a small section, compares calls whose events are listed and counted, and
 //! prints what is the same in every run.
 #![tactic(auto)]
 
@@ -13,18 +13,17 @@ use std::process::ExitCode;
 use std::{env, io};
 
 fn show_use(rt: &HostRuntime) -> io::Result<u8> {
-    eprintln!(rt;
-        "bench_programs [build FILE TURNS [BUILDS] | host COUNT | script FILE [BUDGET]]"
-    )?;
+    eprintln!(rt; "bench_programs [build FILE TURNS [BUILDS] | script FILE [BUDGET]]")?;
     Ok(2)
 }
 
-/// Does each job as it is done without words of its own.
+/// What is done without words.
 fn run_each(rt: &HostRuntime) -> io::Result<u8> {
-    match build::run(rt, &[])? {
-        0 => host::run(rt, &[]),
-        status => Ok(status),
+    let status = build::run(rt, &[])?;
+    if status == 0 {
+        host::run(rt)?;
     }
+    Ok(status)
 }
 
 fn obey(rt: &HostRuntime, words: &[String]) -> io::Result<u8> {
@@ -33,7 +32,6 @@ fn obey(rt: &HostRuntime, words: &[String]) -> io::Result<u8> {
     };
     match job.as_str() {
         "build" => build::run(rt, words),
-        "host" => host::run(rt, words),
         "script" => script::run(rt, words),
         _ => show_use(rt),
     }
