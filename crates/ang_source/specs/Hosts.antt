@@ -32,7 +32,11 @@ abbrev pub is_asked : EntryKind → Bool
 is_asked TypeKind = false
 is_asked EnumerationKind = false
 is_asked (EnumValue v) = false
-is_asked _ = true
+is_asked Factory = true
+is_asked Method = true
+is_asked Property = true
+is_asked Function = true
+is_asked Global = true
 
 -- Which method of its driver answers. Of what is asked by nobody it says nothing.
 abbrev pub role_in : EntryKind → ℕ → Role
