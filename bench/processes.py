@@ -6,6 +6,7 @@ import subprocess
 
 GNU_TIME = "/usr/bin/time"
 SECONDS = 120  # of processor time, after which a process that is measured is ended
+LINE = 4096  # bytes, which no last line is longer than
 
 
 def resources(words, output):
@@ -23,14 +24,13 @@ def processor_seconds(words, output):
     return resources(words, output)[0]
 
 
-def measured(words, output):
+def measured(words, output, said):
     """The processor time of a command, as above, the bytes that are resident at most, and its status, which is above 128 after a signal.
-    GNU time starts it, since a child's figure has that of its parent in it."""
+    GNU time starts it, since a child's figure has that of its parent in it, and writes the bytes into the file `said`."""
 
     def limit():
         resource.setrlimit(resource.RLIMIT_CPU, (SECONDS, SECONDS))
 
-    said = f"{output}.resident"
     with open(output, "wb") as out:
         child = subprocess.Popen(
             [GNU_TIME, "-q", "-f", "%M", "-o", said, *words], stdout=out, stderr=subprocess.STDOUT, preexec_fn=limit
@@ -45,6 +45,13 @@ def run_session(asrun, folder, session="session"):
     words = [asrun, "--profile", f"{folder}/profile", "--session", f"{folder}/{session}"]
     seconds = processor_seconds(words, f"{folder}/printed")
     return seconds, lines_of(f"{folder}/printed")
+
+
+def last_line(path):
+    """The last line of a file that ends with a newline, however long the file is."""
+    with open(path, "rb") as file:
+        file.seek(max(0, os.path.getsize(path) - LINE))
+        return (file.read().decode().splitlines() or [""])[-1]
 
 
 def lines_of(path):

@@ -10,9 +10,9 @@ again, and goes on from what takes longer, or more memory; beside that it tries 
 found of each shape into that file. `--known` measures the sections of the file alone, with `--sections` each made as large as so many,
 and with `--beside` in another program too.
 
-A build is a fresh process. Its time is the processor time, the system's part included, of a process that builds, less that of one that
-reads the same texts and builds an empty section; its memory is what is resident at most, less what is of the other process. Each is
-the least of the rounds. What initializers do is left out: the budget is one tick.
+A build is a fresh process. Its time is the processor time, the system's part included, of a process that builds and prints into nothing,
+less that of one that reads the same texts and builds an empty section; its memory is what is resident at most, less what is of the other
+process. Each is the least of the rounds. What initializers do is left out: the budget is one tick.
 
 Ends with status 1 where a process ended by a signal or was out of time.
 """
@@ -26,7 +26,7 @@ import time
 from collections import namedtuple
 
 from doublings import ordinary
-from processes import lines_of, measured, write
+from processes import last_line, measured, write
 from shapes import MOST, SHAPES, Script
 
 WORST = os.path.join(os.path.dirname(os.path.abspath(__file__)), "worst.txt")
@@ -98,9 +98,9 @@ class Program:
     def __init__(self, path, folder):
         self.path, self.folder, self.bad = os.path.abspath(path), folder, 0
 
-    def run(self, session):
+    def run(self, session, printed=os.devnull):
         words = [self.path, "--profile", f"{self.folder}/profile", "--session", f"{self.folder}/{session}", "--budget", "1"]
-        seconds, size, status = measured(words, f"{self.folder}/printed")
+        seconds, size, status = measured(words, printed, f"{self.folder}/resident")
         self.bad += status > 2
         return seconds, size
 
@@ -112,7 +112,8 @@ class Program:
         write(self.folder, {"profile": "".join(f"{line}\n" for line in profile), **sessions})
         without = [self.run(EMPTY) for _ in range(rounds)]
         with_it = [self.run(SCRIPT) for _ in range(rounds)]
-        answer = (lines_of(f"{self.folder}/printed") or ["nothing"])[-1]
+        self.run(SCRIPT, f"{self.folder}/printed")
+        answer = last_line(f"{self.folder}/printed") or "nothing"
         seconds, size = (min(found) - min(base) for found, base in zip(zip(*with_it), zip(*without)))
         return Figures(seconds, size, sum(map(len, sections)), answer)
 
