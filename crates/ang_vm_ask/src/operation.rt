@@ -428,37 +428,6 @@ pub fn call_entry(
 }
 
 /// Asks for a new object by a factory for a module, with the values that its driver is handed, and answers its handle.
-/// It stays apart, so that `ask_called` stays small.
-#[inline(never)]
-fn make_entry_apart(
-    table: &Table,
-    home: u32,
-    host: &HostUse,
-    number: u32,
-    args: &[Value],
-    store: &mut Store,
-    entity: EntityNo,
-) -> Result<Slot, Fault>
-    requires entry { AsksEntry table.now home (Ask entity) host.now }
-    requires role { host.now.role ≡ MakingRole number }
-    requires drivers { DriversThere table.now (length (members store.old.drivers)) }
-    requires ready { IsReady ⟦<dyn Driver as Driver>⟧ store.old }
-    requires args_live { AreLive (driver_state ⟦<dyn Driver as Driver>⟧ store.old host.now.driver)
-        args.now }
-    ensures made { (ops : List Slot) → object_in (receiver_of host.now ops) ≡ Ok None
-        → values_of host.now.driver host.now.params (arguments_in host.now ops) ≡ args.now
-        → (nesting : ℕ) → StoreTold ⟦<dyn Driver as Driver>⟧ (asks (setting_of table.now nesting) home (Ask entity)
-        (reverse ops)) store.old (done result) store.new }
-    ensures enough { StillGives ⟦<dyn Driver as Driver>⟧ store.old store.new }
-    ensures ready { IsReady ⟦<dyn Driver as Driver>⟧ store.new }
-    ensures same { length (members store.new.drivers) ≡ length (members store.old.drivers) }
-    ensures moves { HasMovedOver ⟦<dyn Driver as Driver>⟧ table.now store.old store.new }
-{
-    let asking = name_at(table, home);
-    make_with(store, asking, entity, host, number, args)
-}
-
-/// The same, with a copy of what it answers, so that the value of a call doesn't stand in memory.
 #[inline(always)]
 fn make_entry(
     table: &Table,
@@ -484,10 +453,8 @@ fn make_entry(
     ensures same { length (members store.new.drivers) ≡ length (members store.old.drivers) }
     ensures moves { HasMovedOver ⟦<dyn Driver as Driver>⟧ table.now store.old store.new }
 {
-    match make_entry_apart(table, home, host, number, args, store, entity) {
-        Ok(value) => Ok(value),
-        Err(fault) => Err(fault),
-    }
+    let asking = name_at(table, home);
+    make_with(store, asking, entity, host, number, args)
 }
 
 /// Asks an entry that is called, a function, a method or a factory, for a module, of an object or of none, with the

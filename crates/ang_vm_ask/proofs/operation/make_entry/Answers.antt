@@ -4,7 +4,7 @@ use Rattle.ang_vm_stack.specs.Tables.{setting_of, entity_of}
 use Rattle.ang_vm_ask.specs.Askings.{Sees}
 use Rattle.ang_vm_ask.proofs.Live.{kept_can}
 use Rattle.ang_vm_ask.proofs.Performing.{ask_with}
-use Rattle.ang_vm_ask.proofs.operation.make_entry_apart.Goals as goal
+use Rattle.ang_vm_ask.proofs.operation.make_entry.Goals as goal
 
 pub returns-clause-made : goal.returns-clause-made
 returns-clause-made g c = λ ops object args nesting.
