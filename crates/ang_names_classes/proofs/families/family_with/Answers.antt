@@ -17,7 +17,9 @@ returns c =
     let is_class : c.shape.result.now.is_class ≡ d.shape.is_class = search rules in
     let base : c.base_of.result ≡ first_below (is_base ds c.args.number) (length ds) = search rules in
     let over : c.in_ok-above.above ≡ above (is_parent ds) (length ds) c.args.number = search rules in
-    let order : c.in_ok-order.order ≡ order_of (gives_members ds d.shape.is_class) (length ds) c.args.number = search rules in
+    let nearest : c.in_ok-order.order ≡ c.in_ok-nearest.nearest.items = search rules in
+    let order : c.in_ok-order.order ≡ order_of (gives_members ds d.shape.is_class) (length ds) c.args.number =
+    nearest ∙ c.in_ok-nearest.ensures.exact ∙ ap (λ b. order_of (gives_members ds b) (length ds) c.args.number) is_class in
     let rank : c.rank_of.result ≡ reach_of (holds E ds) (length ds) c.args.number = search rules in
     let fields = c.in_ok-fields.ensures.exact in
     let methods = c.in_ok-methods.ensures.exact ∙ ap (λ all. each_after (methods_after E all d (length c.args.before.now)) [] d.shape.members) c.requires.known.signatures in
