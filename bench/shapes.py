@@ -298,16 +298,15 @@ def crowds(s, chain, span, many, pool):
     names = s.names(chain)
     heads = [f"class {name}{f':{names[n - 1]}' if n else ''}{{" for n, name in enumerate(names)]
     pool, span = min(pool, chain), min(span, chain)
-    bodies, room, count = [""] * chain, s.room() - sum(len(it) + 1 for it in heads), 0
-    while True:
-        word = s.name()
-        row = [f"void {word}({','.join(names[i] + '@' for i in handles_of(n, pool))}){{}}" for n in range(min(many, pool + pool**2))]
-        room -= sum(map(len, row))
-        if room < 0 or count + len(row) > 250 * span:
+    bodies, room, each = [""] * chain, s.room() - sum(len(it) + 1 for it in heads), min(many, pool + pool**2)
+    for count in range(250 * span):
+        if count % each == 0:
+            word = s.name()
+        text = f"void {word}({','.join(names[i] + '@' for i in handles_of(count % each, pool))}){{}}"
+        room -= len(text)
+        if room < 0:
             break
-        for text in row:
-            bodies[count // 250] += text
-            count += 1
+        bodies[count // 250] += text
     for head, body in zip(heads, bodies):
         s.add(f"{head}{body}}}")
 
