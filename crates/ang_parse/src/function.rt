@@ -4,7 +4,7 @@
 //! of statements. One more than the number of tokens is always enough for both.
 ghost use Rattle.std.specs.Prelude.{◌≡◌, option_map};
 ghost use Rattle.ang_parse_read.specs.Gives.{Gives};
-ghost use Rattle.ang_tree.specs.View.{view_args, view_decl};
+ghost use Rattle.ang_tree.specs.View.{view_args, view_decl, view_params};
 ghost use Rattle.ang_parse.specs.Parts.{view_group};
 ghost use Rattle.ang_parse.specs.ReadFunction as read;
 
@@ -13,7 +13,7 @@ use ang_lex::{Token, TokenKind};
 use ang_parse_expr::type_name;
 use ang_parse_read::{ReadError, a_name};
 use ang_parse_stmt::{block, variables_behind, variables_named};
-use ang_tree::{Arguments, Declaration, Function, Initializer, TypeName, Variable};
+use ang_tree::{Arguments, Declaration, Function, Initializer, Parameters, TypeName, Variable};
 use std::alloc::Global;
 
 /// Reads global variables, after the arguments of the first, where there are any.
@@ -61,9 +61,35 @@ fn declared(
     Ok((Declaration::Globals(variables), rest))
 }
 
+/// Reads a function, after the left brace of its block.
+#[tactic(auto, unfolding(crate::specs::ReadFunction::bodied))]
+fn bodied(
+    alloc: Global,
+    declared_type: TypeName,
+    name: Token,
+    parameters: Parameters,
+    brace: Token,
+    tokens: &[Token],
+    depth: usize,
+    limit: usize,
+) -> Result<(Declaration, &[Token]), ReadError<'_>>
+    ensures reads { Gives (λ x. (view_decl x.0, x.1.now)) result
+        (read.bodied depth limit declared_type name (view_params parameters) brace tokens.now) }
+{
+    let (body, rest) = block(alloc, brace, tokens, depth, limit)?;
+    let function = Function {
+        result: declared_type,
+        name,
+        parameters,
+        body,
+    };
+    let function = Box::new(alloc, function)?;
+    Ok((Declaration::Function(function), rest))
+}
+
 /// Reads what stands after a type, a name and a group: a block, where the group is parameters, and
 /// else what follows the arguments of a variable.
-#[tactic(auto, unfolding(crate::specs::ReadFunction::told, crate::specs::ReadFunction::bodied))]
+#[tactic(auto, unfolding(crate::specs::ReadFunction::told))]
 fn told(
     alloc: Global,
     declared_type: TypeName,
@@ -76,12 +102,8 @@ fn told(
     ensures reads { Gives (λ x. (view_decl x.0, x.1.now)) result
         (read.told depth limit declared_type name (view_group group) tokens.now) }
 {
-    let [open, rest @ ..] = tokens else {
-        let arguments = group.into_arguments();
-        return constructed(alloc, declared_type, name, arguments, tokens, limit);
-    };
-    match open.kind {
-        TokenKind::LeftBrace => {
+    match tokens {
+        [brace, rest @ ..] if matches!(brace.kind, TokenKind::LeftBrace) => {
             let Group {
                 parameters,
                 arguments,
@@ -89,20 +111,26 @@ fn told(
             let Some(parameters) = parameters else {
                 return constructed(alloc, declared_type, name, arguments, tokens, limit);
             };
-            let (body, rest) = block(alloc, *open, rest, depth, limit)?;
-            let function = Function {
-                result: declared_type,
+            drop(arguments);
+            bodied(
+                alloc,
+                declared_type,
                 name,
                 parameters,
-                body,
-            };
-            let function = Box::new(alloc, function)?;
-            Ok((Declaration::Function(function), rest))
+                *brace,
+                rest,
+                depth,
+                limit,
+            )
         }
-        _ => {
-            let arguments = group.into_arguments();
-            constructed(alloc, declared_type, name, arguments, tokens, limit)
-        }
+        _ => constructed(
+            alloc,
+            declared_type,
+            name,
+            group.into_arguments(),
+            tokens,
+            limit,
+        ),
     }
 }
 
