@@ -65,15 +65,14 @@ pub(crate) fn scoped_call(
 /// A call of an object's method.
 pub(crate) fn method_call(
     alloc: Global,
-    object: Expression,
+    object: Box<Expression>,
     dot: Token,
     name: Token,
     arguments: Arguments,
 ) -> Result<Expression, AllocError>
     ensures exact { IfOk result (λ e. view_expr e
-        ≡ tree.method_call (view_expr object) dot name (view_args arguments)) }
+        ≡ tree.method_call (view_expr object.value) dot name (view_args arguments)) }
 {
-    let object = Box::new(alloc, object)?;
     let arguments = Box::new(alloc, arguments)?;
     Ok(Expression::MethodCall {
         object,

@@ -330,6 +330,7 @@ fn membered<'a>(
     ensures reads { Gives (λ x. (view_expr x.0, x.1.now)) result
         (read.membered (read.expr depth) depth (view_expr object) dot tokens.now) }
 {
+    let object = Box::new(alloc, object)?;
     let (name, rest) = a_name(tokens)?;
     if let [open, rest @ ..] = rest
         && matches!(open.kind, TokenKind::LeftParen)
@@ -338,7 +339,6 @@ fn membered<'a>(
         let called = method_call(alloc, object, dot, name, arguments)?;
         return Ok((called, rest));
     }
-    let object = Box::new(alloc, object)?;
     Ok((Expression::Member { object, dot, name }, rest))
 }
 
