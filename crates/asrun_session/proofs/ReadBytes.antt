@@ -1,8 +1,17 @@
 -- What was read, where the bytes of the reader are known.
-use Rattle.std.proofs.Common.{◌≡◌, ℕ, ◌+◌, ◌<◌, ◌≤◌, List, ◌++◌, length, drop, Option, Some, None, sym, ap, ◌∙◌, arith, length-append}
+use Rattle.std.proofs.Common.{◌≡◌, ℕ, ◌+◌, ◌<◌, ◌≤◌, List, ◌++◌, length, drop, Option, Some, None, sym, ap, subst, ◌∙◌, arith, length-append}
 use Rattle.std.specs.Option.{IfSome}
 use Rattle.std.specs.Io.KnownBytes.{Consumes, IsAtEnd}
 use Rattle.std.proofs.lemmas.List.{append-nil, drop_all, drop_at}
+use Rattle.std.proofs.KnownBytes.{Consumes-trans}
+
+-- some bytes more than what was read before
+pub read_on : (a b c : Option (List ℕ)) (old new : List ℕ) (count : ℕ) → Consumes a b old
+    → (bytes : List ℕ) × (length bytes ≡ count) × (new ≡ old ++ bytes) × Consumes b c bytes → Consumes a c new × (length new ≡ length old + count)
+read_on a b c old new count before (bytes, many, is, after) = (
+  subst (λ text. Consumes a c text) (sym is) (Consumes-trans a b c old bytes before after),
+  ap length is ∙ length-append old bytes ∙ ap (λ n. length old + n) many,
+)
 
 pub read_all : (old new : Option (List ℕ)) (text : List ℕ) (limit : ℕ) → Consumes old new text → IsAtEnd new → length text ≤ limit
     → IfSome old (λ bytes. (text ≡ bytes) × (length bytes ≤ limit))
