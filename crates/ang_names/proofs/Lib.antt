@@ -5,3 +5,4 @@ pub mod Named
 pub mod Numbered
 pub mod Ranks
 pub mod Among
+pub mod Nearest

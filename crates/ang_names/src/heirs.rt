@@ -1,14 +1,17 @@
 //! Members that don't fit with what a class inherits.
-ghost use Rattle.std.specs.Prelude.{◌≡◌, ◌==◌, ◌&&◌, IfOk, bytes_eq, drop, find, option_map};
+ghost use Rattle.std.specs.Prelude.{◌≡◌, ◌==◌, ◌&&◌, not, IfOk, bytes_eq, drop, find, option_map};
 ghost use Rattle.std.specs.Prelude.{option_copied, slice_get};
 ghost use Rattle.std.specs.List.{list_any};
+ghost use Rattle.ang_names_known.specs.Items.{is_empty};
 ghost use Rattle.ang_names_known.specs.Lookup as lookup;
 ghost use Rattle.ang_names.specs.Heirs as spec;
 ghost use Rattle.ang_names.specs.ByNumber as numbered;
 ghost use Rattle.ang_names.specs.Rows as rows;
 
 use crate::indexed::{Indexed, index_members};
+use crate::kin::kin_by_slot;
 use crate::rings::refused_at;
+use ang_index::Index;
 use ang_kinds::{ErrorKind, Place};
 use ang_names_known::{Access, Family, Field, ScriptMethod, same_type};
 use ang_names_listed::push_refused;
@@ -18,7 +21,7 @@ use std::alloc::{AllocError, Global};
 // ---- methods of interfaces
 
 /// The methods that a class or an interface declares itself.
-fn methods_of(families: &[Family], number: usize) -> &[ScriptMethod]
+pub fn methods_of(families: &[Family], number: usize) -> &[ScriptMethod]
     ensures exact { result.now ≡ numbered.methods_in (slice_get families.now number) }
 {
     match families.get(number) {
@@ -101,7 +104,7 @@ fn first_in_slot<'f>(
 
 /// The numbers of the classes and interfaces of which one has methods, itself first.
 #[tactic(auto, unfolding(ang_names_known::specs::Lookup::kin_of))]
-fn order_of(families: &[Family], number: usize) -> &[u8]
+pub fn order_of(families: &[Family], number: usize) -> &[u8]
     ensures exact { lookup.families_at families.now result.now
         ≡ lookup.kin_of families.now number }
 {
@@ -111,16 +114,18 @@ fn order_of(families: &[Family], number: usize) -> &[u8]
     }
 }
 
-/// The method that a class has in a slot, own or inherited: the nearest one.
+/// The method that a class has in a slot, own or inherited: the nearest one. `kin` has the numbers of those that declare it.
 fn method_in_slot<'f>(
     families: &'f Indexed<'_>,
-    number: usize,
+    kin: &Index<u8>,
+    class: usize,
     slot: usize,
 ) -> Option<&'f ScriptMethod>
+    requires kin { rows.HasKin families.now class kin.now }
     ensures exact { option_copied result
-        ≡ option_map (λ x. x.method) (lookup.method_in_slot families.now number slot) }
+        ≡ option_map (λ x. x.method) (lookup.method_in_slot families.now class slot) }
 {
-    first_in_slot(families, order_of(families.families(), number), slot)
+    first_in_slot(families, kin.find(slot as u64, &[]), slot)
 }
 
 fn is_public(access: Access) -> bool
@@ -134,10 +139,16 @@ fn is_public(access: Access) -> bool
 }
 
 /// Whether a class has a method that an interface asks for, own or inherited.
-fn has_public_method(families: &Indexed<'_>, class: usize, wanted: &ScriptMethod) -> bool
+fn has_public_method(
+    families: &Indexed<'_>,
+    kin: &Index<u8>,
+    class: usize,
+    wanted: &ScriptMethod,
+) -> bool
+    requires kin { rows.HasKin families.now class kin.now }
     ensures exact { result ≡ spec.has_public_method families.now class wanted.now }
 {
-    match method_in_slot(families, class, wanted.slot) {
+    match method_in_slot(families, kin, class, wanted.slot) {
         None => false,
         Some(method) => {
             is_public(method.access)
@@ -149,14 +160,16 @@ fn has_public_method(families: &Indexed<'_>, class: usize, wanted: &ScriptMethod
 /// The first of some methods that a class has not.
 fn missing_among<'m>(
     families: &Indexed<'_>,
+    kin: &Index<u8>,
     class: usize,
     methods: &'m [ScriptMethod],
 ) -> Option<&'m ScriptMethod>
+    requires kin { rows.HasKin families.now class kin.now }
     ensures exact { option_copied result
         ≡ spec.missing_among families.now class methods.now }
 {
     for method in methods {
-        if !has_public_method(families, class, method) {
+        if !has_public_method(families, kin, class, method) {
             return Some(method);
         }
     }
@@ -166,19 +179,29 @@ fn missing_among<'m>(
 /// The first method that a class has not, of the interfaces among these classes and interfaces.
 fn first_missing<'f>(
     families: &'f Indexed<'_>,
+    kin: &Index<u8>,
     class: usize,
     above: &[u8],
 ) -> Option<&'f ScriptMethod>
+    requires kin { rows.HasKin families.now class kin.now }
     ensures exact { option_copied result ≡ spec.missing_among
         families.now class (numbered.interface_methods_at families.now above.now) }
 {
     for number in above {
         let methods = interface_methods(families.families(), *number as usize);
-        if let Some(method) = missing_among(families, class, methods) {
+        if let Some(method) = missing_among(families, kin, class, methods) {
             return Some(method);
         }
     }
     None
+}
+
+/// Whether one of these classes and interfaces asks for methods.
+fn asks_for_methods(families: &[Family], above: &[u8]) -> bool
+    ensures exact { result ≡ list_any
+        (λ n. not (is_empty (numbered.interface_methods (slice_get families.now n)))) above.now }
+{
+    above.iter().any(|number| !interface_methods(families, *number as usize).is_empty())
 }
 
 /// The error of a class that has not all methods of the interfaces above it.
@@ -191,7 +214,12 @@ fn missing_method(
 ) -> Result<Option<Refused>, AllocError>
     ensures exact { IfOk result (λ r. r ≡ spec.missing_method families.now class family.now) }
 {
-    match first_missing(families, class, family.above.as_slice()) {
+    let above = family.above.as_slice();
+    if !asks_for_methods(families.families(), above) {
+        return Ok(None);
+    }
+    let kin = kin_by_slot(alloc, families, class)?;
+    match first_missing(families, &kin, class, above) {
         None => Ok(None),
         Some(method) => {
             let name = method.function.name.as_slice();

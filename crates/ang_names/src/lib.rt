@@ -13,6 +13,7 @@ mod families;
 mod headings;
 mod heirs;
 mod indexed;
+mod kin;
 pub mod laws;
 mod members;
 mod phases;
