@@ -184,6 +184,16 @@ fn room_for(families: &[Family]) -> usize {
         .saturating_add(ROOM)
 }
 
+/// No lists: what is looked for is looked for at each call. It takes no memory.
+pub(crate) fn no_lists(alloc: Global) -> CrowdedMethods
+    ensures right { (fs : List Family) → spec.AreRight fs result }
+{
+    CrowdedMethods {
+        lists: Vec::new(alloc),
+        numbers: Index::new(alloc),
+    }
+}
+
 /// The methods of names that very many have, and of those that many have as long as there is room.
 ///
 /// The only error is want of memory.
@@ -195,10 +205,7 @@ pub(crate) fn crowded_methods(
     requires indexed { IndexesMethods families.now index.now }
     ensures right { IfOk result (λ crowded. spec.AreRight families.now crowded) }
 {
-    let mut crowded = CrowdedMethods {
-        lists: Vec::new(alloc),
-        numbers: Index::new(alloc),
-    };
+    let mut crowded = no_lists(alloc);
     let mut all = usize::MAX;
     put_names(alloc, &mut crowded, families, index, VERY_MANY, &mut all)?;
     let used = usize::MAX.saturating_sub(all);

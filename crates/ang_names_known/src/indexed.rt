@@ -3,7 +3,7 @@ ghost use Rattle.std.specs.Prelude.{◌≡◌, IfOk};
 ghost use Rattle.ang_names_known.specs.Lookup as spec;
 
 use crate::beside::{Beside, MemberPlaces};
-use crate::crowded::{CrowdedMethods, listed};
+use crate::crowded::{CrowdedMethods, listed, no_lists};
 use crate::found::{FoundMethods, MethodPlaces};
 use crate::known::KnownFunctions;
 use crate::lookup::heading_among;
@@ -86,6 +86,30 @@ impl IndexedNames {
             fields,
             methods,
             crowded,
+            numbering,
+        }
+    }
+
+    /// The same names without the lists of methods that many have, which bodies are judged by: of a module that is built
+    /// none is asked. It takes no memory.
+    pub fn without_lists(self, alloc: Global) -> IndexedNames
+        ensures same { result ≡ self }
+    {
+        let IndexedNames {
+            lists,
+            kinds,
+            fields,
+            methods,
+            crowded,
+            numbering,
+        } = self;
+        drop(crowded);
+        IndexedNames {
+            lists,
+            kinds,
+            fields,
+            methods,
+            crowded: no_lists(alloc),
             numbering,
         }
     }
