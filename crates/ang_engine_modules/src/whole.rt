@@ -60,7 +60,7 @@ fn make_beside(alloc: Global, name: &[u8], tree: &Typed) -> Result<Beside, Alloc
 }
 
 /// Names and a tree with their view and what stands beside them.
-fn assembled(view: View, names: Names, tree: Typed, parts: Beside) -> WholeModule
+fn assembled(alloc: Global, view: View, names: Names, tree: Typed, parts: Beside) -> WholeModule
     requires tree { parts.tree ≡ tree }
     requires links { parts.links ≡ list_map (λ h. None) tree.imports }
     ensures name { result.name ≡ parts.name }
@@ -71,7 +71,7 @@ fn assembled(view: View, names: Names, tree: Typed, parts: Beside) -> WholeModul
 {
     let loaded = LoadedModule {
         name: parts.name,
-        names,
+        names: names.without_lists(alloc),
         view,
         tree: parts.tree,
         links: parts.links,
@@ -98,7 +98,7 @@ impl WholeModule {
         ensures unbound { IfOk result (λ l. l.links ≡ list_map (λ h. None) l.tree.imports) }
     {
         match make_beside(alloc, name, &tree) {
-            Ok(parts) => Ok(assembled(view, names, tree, parts)),
+            Ok(parts) => Ok(assembled(alloc, view, names, tree, parts)),
             Err(error) => {
                 drop(tree);
                 drop(names);
