@@ -37,7 +37,7 @@ too_many l V ranks (a ∷ args) many = refl
 
 pub returns-then-params-args : goal.returns-then-params-args
 returns-then-params-args c =
-    record { ranked = sym (ap (in_front c.args.ranks.now.items) (no_host_ranks c.args.scope.now.ancestors c.args.scope.now.view c.args.params.now c.args.args.now c.if-params-args.true)); }
+    record { ranked = sym (ap (in_front c.args.ranks.now.items) (no_host_ranks c.args.scope.now.ancestors c.args.scope.now.view c.args.params.now c.args.args.now c.if-params-args.true)) }
 
 pub loop-param-preserved : goal.loop-param-preserved
 loop-param-preserved c =

@@ -36,7 +36,7 @@ too_many l ranks (a ∷ args) many = refl
 
 pub returns-then-params-args : goal.returns-then-params-args
 returns-then-params-args c =
-    record { ranked = sym (ap (in_front c.args.ranks.now.items) (no_ranks c.args.lineage.now c.args.params.now c.args.args.now c.if-params-args.true)); }
+    record { ranked = sym (ap (in_front c.args.ranks.now.items) (no_ranks c.args.lineage.now c.args.params.now c.args.args.now c.if-params-args.true)) }
 
 pub loop-param-preserved : goal.loop-param-preserved
 loop-param-preserved c =
