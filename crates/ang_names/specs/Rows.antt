@@ -1,14 +1,13 @@
 -- The members of a family by their names and slots: where each stands among those of its kind.
-use Rattle.std.specs.Prelude.{ℕ, ◌≡◌, ◌+◌, ◌==◌, Bool, false, ◌||◌, if◌then◌else◌, List, [], ◌∷◌, bytes_eq, find, map, Option, Some, None, option_map, slice_get}
-use Rattle.std.specs.List.{flat_map, list_any}
+use Rattle.std.specs.Prelude.{ℕ, ◌≡◌, ◌+◌, ◌==◌, Bool, true, false, ◌||◌, if◌then◌else◌, List, [], ◌∷◌, bytes_eq, find, Option, Some, None, option_map, slice_get, slice_index_or}
+use Rattle.std.specs.List.{list_any}
 use Rattle.std.specs.Option.{option_or}
 use Rattle.ang_index.specs.Rows.{Rows, items_at}
 use Rattle.ang_names_known.specs.declared.names.Family.{Family}
 use Rattle.ang_names_known.specs.declared.names.Field.{Field}
 use Rattle.ang_names_known.specs.declared.names.ScriptMethod.{ScriptMethod}
 use Rattle.ang_names_known.specs.Lookup.{FoundMethod, fields_in, method_in_slot}
-use Rattle.ang_names.specs.ByNumber.{methods_at, methods_in}
-use Rattle.ang_names.specs.Heirs.{in_slot}
+use Rattle.ang_names.specs.ByNumber.{methods_in}
 use Rattle.ang_names.specs.declared.indexed.MemberRows.{MemberRows}
 
 -- the places of those that pass, of some whose first has the place n
@@ -69,20 +68,35 @@ abbrev pub method_row_in : List ℕ → Option MemberRows → List ℕ
 method_row_in name None = []
 method_row_in name (Some r) = items_at 0 name r.methods
 
--- ---- the families of which one has methods
+-- ---- the nearest family that declares a method of a slot
 
--- a number for each of these methods that is of the slot
-abbrev pub each_in_slot : ℕ → ℕ → List ScriptMethod → List ℕ
-each_in_slot slot n ms = map (λ (m : ScriptMethod). n) (in_slot slot ms)
+-- family n declares a method of the slot itself
+abbrev pub has_slot : List Family → ℕ → ℕ → Bool
+has_slot fs slot n = list_any (λ (m : ScriptMethod). m.slot == slot) (methods_in (slice_get fs n))
 
--- the numbers of those of these families that declare a method of the slot
-abbrev pub numbers_in_slot : List Family → ℕ → List ℕ → List ℕ
-numbers_in_slot fs slot ns = flat_map (λ n. each_in_slot slot n (methods_in (slice_get fs n))) ns
+-- the first of these families that does
+abbrev pub first_with_slot : List Family → ℕ → List ℕ → Option ℕ
+first_with_slot fs slot ns = find (has_slot fs slot) ns
 
--- under each slot the numbers of families, the first method of which there is the one that family c has in the slot
-pub record HasKin (fs : List Family) (c : ℕ) (rows : Rows ℕ) : Type 0 where
-  pub nearest : (slot : ℕ) → find (λ (m : ScriptMethod). m.slot == slot) (methods_at fs (items_at slot [] rows))
-      ≡ option_map (λ (x : FoundMethod). x.method) (method_in_slot fs c slot)
+-- the number that is noted at a slot
+abbrev pub noted_at : List (Option ℕ) → ℕ → Option ℕ
+noted_at table slot = slice_index_or table slot None
+
+-- there is an entry, and nothing is noted
+abbrev pub is_free : Option (Option ℕ) → Bool
+is_free None = false
+is_free (Some None) = true
+is_free (Some (Some n)) = false
+
+-- the method of the slot that the family of this number declares itself
+abbrev pub noted_method : List Family → ℕ → Option ℕ → Option ScriptMethod
+noted_method fs slot None = None
+noted_method fs slot (Some n) = find (λ (m : ScriptMethod). m.slot == slot) (methods_in (slice_get fs n))
+
+-- at each slot that the table has, the number of the family from which family c has its method of the slot
+pub record HasNearest (fs : List Family) (c : ℕ) (table : List (Option ℕ)) : Type 0 where
+  pub nearest : (slot : ℕ) (o : Option ℕ) → slice_get table slot ≡ Some o
+      → noted_method fs slot o ≡ option_map (λ (x : FoundMethod). x.method) (method_in_slot fs c slot)
 
 -- ---- what is looked for at these places
 

@@ -9,9 +9,8 @@ ghost use Rattle.ang_names.specs.ByNumber as numbered;
 ghost use Rattle.ang_names.specs.Rows as rows;
 
 use crate::indexed::{Indexed, index_members};
-use crate::kin::kin_by_slot;
+use crate::kin::nearest_by_slot;
 use crate::rings::refused_at;
-use ang_index::Index;
 use ang_kinds::{ErrorKind, Place};
 use ang_names_known::{Access, Family, Field, ScriptMethod, same_type};
 use ang_names_listed::push_refused;
@@ -114,18 +113,47 @@ pub fn order_of(families: &[Family], number: usize) -> &[u8]
     }
 }
 
-/// The method that a class has in a slot, own or inherited: the nearest one. `kin` has the numbers of those that declare it.
+/// The method that a class has in a slot, own or inherited: the nearest one.
 fn method_in_slot<'f>(
     families: &'f Indexed<'_>,
-    kin: &Index<u8>,
+    number: usize,
+    slot: usize,
+) -> Option<&'f ScriptMethod>
+    ensures exact { option_copied result
+        ≡ option_map (λ x. x.method) (lookup.method_in_slot families.now number slot) }
+{
+    first_in_slot(families, order_of(families.families(), number), slot)
+}
+
+/// The method of this slot that the class or interface of a number declares itself, where a number is noted.
+fn noted_method<'f>(
+    families: &'f Indexed<'_>,
+    noted: Option<u8>,
+    slot: usize,
+) -> Option<&'f ScriptMethod>
+    ensures exact { option_copied result ≡ rows.noted_method families.now slot noted }
+{
+    match noted {
+        None => None,
+        Some(number) => in_slot(families, number as usize, slot),
+    }
+}
+
+/// The same by the numbers that are noted at slots. What has no entry there is looked for in each class.
+fn nearest_in_slot<'f>(
+    families: &'f Indexed<'_>,
+    nearest: &[Option<u8>],
     class: usize,
     slot: usize,
 ) -> Option<&'f ScriptMethod>
-    requires kin { rows.HasKin families.now class kin.now }
+    requires nearest { rows.HasNearest families.now class nearest.now }
     ensures exact { option_copied result
         ≡ option_map (λ x. x.method) (lookup.method_in_slot families.now class slot) }
 {
-    first_in_slot(families, kin.find(slot as u64, &[]), slot)
+    match nearest.get(slot) {
+        None => method_in_slot(families, class, slot),
+        Some(noted) => noted_method(families, *noted, slot),
+    }
 }
 
 fn is_public(access: Access) -> bool
@@ -141,14 +169,14 @@ fn is_public(access: Access) -> bool
 /// Whether a class has a method that an interface asks for, own or inherited.
 fn has_public_method(
     families: &Indexed<'_>,
-    kin: &Index<u8>,
+    nearest: &[Option<u8>],
     class: usize,
     wanted: &ScriptMethod,
 ) -> bool
-    requires kin { rows.HasKin families.now class kin.now }
+    requires nearest { rows.HasNearest families.now class nearest.now }
     ensures exact { result ≡ spec.has_public_method families.now class wanted.now }
 {
-    match method_in_slot(families, kin, class, wanted.slot) {
+    match nearest_in_slot(families, nearest, class, wanted.slot) {
         None => false,
         Some(method) => {
             is_public(method.access)
@@ -160,16 +188,16 @@ fn has_public_method(
 /// The first of some methods that a class has not.
 fn missing_among<'m>(
     families: &Indexed<'_>,
-    kin: &Index<u8>,
+    nearest: &[Option<u8>],
     class: usize,
     methods: &'m [ScriptMethod],
 ) -> Option<&'m ScriptMethod>
-    requires kin { rows.HasKin families.now class kin.now }
+    requires nearest { rows.HasNearest families.now class nearest.now }
     ensures exact { option_copied result
         ≡ spec.missing_among families.now class methods.now }
 {
     for method in methods {
-        if !has_public_method(families, kin, class, method) {
+        if !has_public_method(families, nearest, class, method) {
             return Some(method);
         }
     }
@@ -179,17 +207,17 @@ fn missing_among<'m>(
 /// The first method that a class has not, of the interfaces among these classes and interfaces.
 fn first_missing<'f>(
     families: &'f Indexed<'_>,
-    kin: &Index<u8>,
+    nearest: &[Option<u8>],
     class: usize,
     above: &[u8],
 ) -> Option<&'f ScriptMethod>
-    requires kin { rows.HasKin families.now class kin.now }
+    requires nearest { rows.HasNearest families.now class nearest.now }
     ensures exact { option_copied result ≡ spec.missing_among
         families.now class (numbered.interface_methods_at families.now above.now) }
 {
     for number in above {
         let methods = interface_methods(families.families(), *number as usize);
-        if let Some(method) = missing_among(families, kin, class, methods) {
+        if let Some(method) = missing_among(families, nearest, class, methods) {
             return Some(method);
         }
     }
@@ -204,6 +232,15 @@ fn asks_for_methods(families: &[Family], above: &[u8]) -> bool
     above.iter().any(|number| !interface_methods(families, *number as usize).is_empty())
 }
 
+/// How many methods these classes and interfaces ask for.
+fn asked_count(families: &[Family], above: &[u8]) -> usize {
+    let mut count: usize = 0;
+    for number in above {
+        count = count.saturating_add(interface_methods(families, *number as usize).len());
+    }
+    count
+}
+
 /// The error of a class that has not all methods of the interfaces above it.
 #[tactic(auto, using(crate::proofs::Inherited::interfaces_at))]
 fn missing_method(
@@ -215,11 +252,12 @@ fn missing_method(
     ensures exact { IfOk result (λ r. r ≡ spec.missing_method families.now class family.now) }
 {
     let above = family.above.as_slice();
-    if !asks_for_methods(families.families(), above) {
+    let all = families.families();
+    if !asks_for_methods(all, above) {
         return Ok(None);
     }
-    let kin = kin_by_slot(alloc, families, class)?;
-    match first_missing(families, &kin, class, above) {
+    let nearest = nearest_by_slot(alloc, families, class, asked_count(all, above))?;
+    match first_missing(families, &nearest, class, above) {
         None => Ok(None),
         Some(method) => {
             let name = method.function.name.as_slice();

@@ -1,11 +1,11 @@
-use Rattle.std.specs.Prelude.{List, ℕ, ◌==◌, find}
-use Rattle.std.proofs.Common.{ap, ◌∙◌}
-use Rattle.ang_names_known.specs.declared.names.ScriptMethod.{ScriptMethod}
-use Rattle.ang_names.specs.ByNumber.{methods_at}
+use Rattle.std.specs.Prelude.{◌≡◌}
+use Rattle.std.proofs.Common.{subst, ◌∙◌}
+use Rattle.ang_names_known.specs.Lookup.{families_at, kin_of}
+use Rattle.ang_names.proofs.Inherited.{slot_known}
 use Rattle.ang_names.proofs.heirs.method_in_slot.Goals as goal
 
 pub returns : goal.returns
 returns c =
-    let slot = c.args.slot in
-    let nearest : List ℕ → _ = λ ns. find (λ (m : ScriptMethod). m.slot == slot) (methods_at c.args.families.now ns) in
-    record { exact = c.first_in_slot.ensures.exact ∙ ap nearest c.find.ensures.exact ∙ c.requires.kin.nearest slot }
+    let order = c.order_of.result.now in
+    let kin = subst (λ gs. families_at gs order ≡ kin_of gs c.args.number) c.families.ensures.same c.order_of.ensures.exact in
+    record { exact = c.first_in_slot.ensures.exact ∙ slot_known c.args.families.now c.args.number c.args.slot order kin }
