@@ -6,3 +6,4 @@ pub mod Numbered
 pub mod Ranks
 pub mod Among
 pub mod Nearest
+pub mod Declared

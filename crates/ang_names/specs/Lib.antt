@@ -5,3 +5,4 @@ pub mod Refusals
 pub mod Phases
 pub mod Ranks
 pub mod Before
+pub mod Declarers

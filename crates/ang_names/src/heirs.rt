@@ -6,8 +6,10 @@ ghost use Rattle.ang_names_known.specs.Items.{is_empty};
 ghost use Rattle.ang_names_known.specs.Lookup as lookup;
 ghost use Rattle.ang_names.specs.Heirs as spec;
 ghost use Rattle.ang_names.specs.ByNumber as numbered;
+ghost use Rattle.ang_names.specs.Declarers as declaring;
 ghost use Rattle.ang_names.specs.Rows as rows;
 
+use crate::declarers::{marks_above, some_marked};
 use crate::indexed::{Indexed, index_members};
 use crate::kin::nearest_by_slot;
 use crate::rings::refused_at;
@@ -355,30 +357,62 @@ fn has_member(families: &Indexed<'_>, class: usize, name: &[u8]) -> bool
     declares_among(families, order_of(families.families(), class), name)
 }
 
+/// Whether a class has a member of this name, own or inherited, where it and those above it are marked: most names are declared
+/// by none of these.
+fn has_marked_member(families: &Indexed<'_>, marks: &[bool], class: usize, name: &[u8]) -> bool
+    requires marks { declaring.HasMarks families.now class marks.now }
+    ensures exact { result ≡ lookup.has_member families.now class name.now }
+{
+    some_marked(marks, families.declarers(name)) && has_member(families, class, name)
+}
+
 /// Whether the base class, if there is one, has a member of this name.
-fn inherits(families: &Indexed<'_>, base: Option<usize>, name: &[u8]) -> bool
+fn inherits(families: &Indexed<'_>, marks: &[bool], base: Option<usize>, name: &[u8]) -> bool
+    requires marks { declaring.MarksAbove families.now base marks.now }
     ensures exact { result ≡ spec.inherits families.now base name.now }
 {
     match base {
         None => false,
-        Some(base) => has_member(families, base, name),
+        Some(base) => has_marked_member(families, marks, base, name),
     }
 }
 
 fn field_refusal(
     alloc: Global,
     families: &Indexed<'_>,
+    marks: &[bool],
     family: &Family,
     field: &Field,
 ) -> Result<Option<Refused>, AllocError>
+    requires marks { declaring.MarksAbove families.now family.now.base marks.now }
     ensures exact { IfOk result (λ r. r ≡ spec.field_refusal families.now family.now field.now) }
 {
     let name = field.name.as_slice();
-    if !inherits(families, family.base, name) {
+    if !inherits(families, marks, family.base, name) {
         return Ok(None);
     }
     let refused = refused_at(alloc, ErrorKind::Duplicate, field.place, name)?;
     Ok(Some(refused))
+}
+
+/// The first of some fields of a class that is named as a member that it inherits.
+fn first_inherited(
+    alloc: Global,
+    families: &Indexed<'_>,
+    marks: &[bool],
+    family: &Family,
+    fields: &[Field],
+) -> Result<Option<Refused>, AllocError>
+    requires marks { declaring.MarksAbove families.now family.now.base marks.now }
+    ensures exact { IfOk result (λ r. r ≡ spec.first_refused
+        (spec.field_refusal families.now family.now) fields.now) }
+{
+    for field in fields {
+        if let Some(refused) = field_refusal(alloc, families, marks, family, field)? {
+            return Ok(Some(refused));
+        }
+    }
+    Ok(None)
 }
 
 /// The first field of a class that is named as a member that it inherits.
@@ -390,13 +424,8 @@ fn fields_refusal(
     ensures exact { IfOk result (λ r. r ≡ spec.first_refused
         (spec.field_refusal families.now family.now) family.now.fields) }
 {
-    let fields = family.fields.as_slice();
-    for field in fields {
-        if let Some(refused) = field_refusal(alloc, families, family, field)? {
-            return Ok(Some(refused));
-        }
-    }
-    Ok(None)
+    let marks = marks_above(alloc, families, family.base)?;
+    first_inherited(alloc, families, &marks, family, family.fields.as_slice())
 }
 
 // ---- methods

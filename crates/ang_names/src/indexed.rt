@@ -3,8 +3,10 @@
 ghost use Rattle.std.specs.Prelude.{◌≡◌, slice_get, IfOk};
 ghost use Rattle.ang_names_known.specs.Lookup as lookup;
 ghost use Rattle.ang_names.specs.ByNumber as numbered;
+ghost use Rattle.ang_names.specs.Declarers as declaring;
 ghost use Rattle.ang_names.specs.Rows as spec;
 
+use crate::declarers::declarers_of;
 use ang_index::Index;
 use ang_names_known::{Family, Field, ScriptMethod};
 use std::alloc::{AllocError, Global};
@@ -30,18 +32,22 @@ pub struct MemberRows {
 pub struct Indexed<'a> {
     families: &'a [Family],
     rows: Vec<MemberRows>,
+    /// The numbers of those that declare a member of a name, by the name.
+    named: Index<usize>,
 }
 
 impl<'a> Model for Indexed<'a> {
     ghost use Rattle.std.specs.Prelude.{List};
     ghost use Rattle.ang_names_known.specs.declared.names.Family.{Family};
+    ghost use Rattle.ang_names.specs.Declarers.{HasDeclarers};
     ghost use Rattle.ang_names.specs.Rows.{HasRows};
 
     ghost Value = { List Family };
 
     ghost view = { λ i. i.families.now };
 
-    ghost invariant = { λ i. HasRows i.families.now i.rows.items };
+    ghost invariant = { λ i. HasRows i.families.now i.rows.items
+        × HasDeclarers i.families.now i.named };
 }
 
 fn places_by_slot(alloc: Global, methods: &[ScriptMethod]) -> Result<Index<usize>, AllocError>
@@ -104,7 +110,12 @@ pub fn index_members<'a>(alloc: Global, families: &'a [Family]) -> Result<Indexe
     ensures exact { IfOk result (λ indexed. indexed ≡ families.now) }
 {
     let rows = all_rows(alloc, families)?;
-    Ok(Indexed { families, rows })
+    let named = declarers_of(alloc, families)?;
+    Ok(Indexed {
+        families,
+        rows,
+        named,
+    })
 }
 
 fn slot_row_at(rows: &[MemberRows], number: usize, slot: usize) -> &[usize]
@@ -142,6 +153,13 @@ impl<'a> Indexed<'a> {
         ensures same { result.now ≡ self.now }
     {
         self.families
+    }
+
+    /// The numbers of those that declare a member of this name.
+    pub fn declarers(&self, name: &[u8]) -> &[usize]
+        ensures exact { result.now ≡ declaring.declarers name.now 0 self.now }
+    {
+        self.named.find(NAMES, name)
     }
 
     /// The places of the methods of this slot, of those that the class or interface of this number

@@ -8,6 +8,7 @@
 #![tactic(auto)]
 
 mod before;
+mod declarers;
 mod declaring;
 mod families;
 mod headings;
