@@ -16,7 +16,7 @@ use crate::meanings::adds;
 use crate::named::is_known;
 use crate::sought::help_row;
 use crate::takers::can_help;
-use crate::told::{Told, is_sought, told_of, wins};
+use crate::told::{Told, told_of, wins};
 use ang_check_contest::{Scope, table_for};
 use ang_check_uses::type_named;
 use ang_index::Index;
@@ -139,6 +139,7 @@ fn kept(keeps: bool, number: u32) -> Option<u32>
 }
 
 /// A number of a row, where its entry resolves a refused use. `count` is how many entries there are.
+#[cold]
 #[inline(never)]
 #[tactic(auto, using(crate::proofs::ByName::past_helps_not))]
 fn helper_at(
@@ -225,7 +226,7 @@ fn helper_told(
         (telling.chosen masked.now.list masked.now.mask scope.now refused.now asks.now
         told.now.sought) (number ∷ [])) }
 {
-    if is_sought(masked.whole(), told.sought, number) {
+    if masked.is_sought(told.sought, number) {
         let won = wins(masked, &told.verdicts, number);
         return Ok(kept(won, number));
     }
@@ -290,7 +291,9 @@ fn helpers_beside(
     Ok(numbers)
 }
 
-/// The same, where `told` tells of some entries whether they do.
+/// The same, where `told` tells of some entries whether they do: mostly of all of the row. It stands apart, so that few values
+/// live in its loop.
+#[inline(never)]
 fn helpers_told(
     alloc: Global,
     masked: &Masked<'_>,
