@@ -197,6 +197,8 @@ const SINGLES: &[Single] = list! {
     (2, [5, 3, 0], 0, Step::LeaveAddBack32(true, 1, 0, 4, 3), Err(Dispatch::Leave)),
     (2, [5, 3, 0], 9, Step::LeaveAddBack32(true, 1, 0, 4, 3), Ok((8, (8, 1, 9, 3, 0)))),
     (3, [2, 9, 5], 9, Step::LeaveAddBack32(false, 2, 0, 4, 20), Ok((8, (0, 1, 6, 9, 5)))),
+    (2, [5, 3, 0], 9, Step::DropAddBack32(true, 0, 4, 3), Ok((8, (8, 1, 9, 3, 0)))),
+    (2, [5, 3, 0], 0, Step::DropAddBack32(true, 0, 4, 3), Err(Dispatch::Value)),
     (1, [5, 3, 0], 9, Step::MaskXor(U64, 0, 0, 4), Ok((9, (12, 2, 5, 1, 0)))),
     // no room
     (2, [5, 3, 0], 9, Step::MaskXor(U64, 1, 0, 2), Err(Dispatch::Value)),
@@ -332,7 +334,7 @@ const PAIRED: &[Instruction] = list! {
     Drop, DropUnder(2), DropUnder(3), Instruction::Swap { to: Some(Prim::I32), under: 0, with: 2 },
     DropUnder(1), Drop, DropUnder(2), Drop, DropUnder(3), Drop,
     DropUnder(1), Leave(2), PushBits(1), Changed(COUNTED, 1), Drop, LoopBack(9),
-    Instruction::Jump(5),
+    Instruction::Jump(5), Drop, PushBits(1), Changed(COUNTED, 1), Drop, LoopBack(9),
 };
 
 /// Each of them is one step. Three values and more are given up alone.
@@ -359,6 +361,7 @@ const PAIRS: Places = &[
     (61, Some(Step::DropUnder(1))),
     (62, Some(Step::LeaveAddBack32(true, 2, 1, 1, 9))),
     (67, Some(Step::Jump(5))),
+    (68, Some(Step::DropAddBack32(true, 1, 1, 9))),
 ];
 
 /// Values of `&out` arguments that change places with locals: of one, of two, of one of a rare type, of one at a place
