@@ -87,6 +87,10 @@ pub const KNOWN: &[Row] = &[
     (Step::SubtractAddKeep64(1, 0, 1, 0), (14, 2, 5, 7, 0)),
     (Step::MultiplyTestLessEqual32(1, 0, 1, 4), (17, 2, 5, 3, 0)),
     (Step::RemainderTestEqual32(1, 0, 2, 4), (13, 2, 5, 3, 0)),
+    (
+        Step::RemainderConstantTestEqual64(1, 3, 1, 4),
+        (17, 2, 5, 3, 0),
+    ),
     (Step::ShiftXorToLocalU32(true, 0, 1, 1), (12, 2, 5, 1, 0)),
     (Step::XorAddToLocal64(true, 1, 1, 0), (13, 2, 11, 3, 0)),
     (Step::MultiplyTopConstantU64(2), (9, 2, 5, 6, 0)),

@@ -335,6 +335,8 @@ const PAIRED: &[Instruction] = list! {
     DropUnder(1), Drop, DropUnder(2), Drop, DropUnder(3), Drop,
     DropUnder(1), Leave(2), PushBits(1), Changed(COUNTED, 1), Drop, LoopBack(9),
     Instruction::Jump(5), Drop, PushBits(1), Changed(COUNTED, 1), Drop, LoopBack(9),
+    Load(1), PushBits(2), Apply(Operation::Binary(Operator::Remainder, I64)), PushBits(0),
+    Apply(Operation::Compare(Comparison::Equal, true)), JumpIfFalse(4),
 };
 
 /// Each of them is one step. Three values and more are given up alone.
@@ -362,6 +364,7 @@ const PAIRS: Places = &[
     (62, Some(Step::LeaveAddBack32(true, 2, 1, 1, 9))),
     (67, Some(Step::Jump(5))),
     (68, Some(Step::DropAddBack32(true, 1, 1, 9))),
+    (73, Some(Step::RemainderConstantTestEqual64(1, 2, 0, 4))),
 ];
 
 /// Values of `&out` arguments that change places with locals: of one, of two, of one of a rare type, of one at a place
