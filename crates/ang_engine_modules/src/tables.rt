@@ -1,12 +1,18 @@
 //! The code of a module as the machine's table has it.
 ghost use Rattle.std.specs.Prelude.{◌≡◌, ◌<◌, ◌^◌, [], None, IfOk, length, map as list_map};
+ghost use Rattle.ang_typed.specs.View.{view_typed};
+ghost use Rattle.ang_view.specs.Registration.{RegistrationList};
+ghost use Rattle.ang_source.specs.Sound.{SoundProgram};
+ghost use Rattle.ang_source.specs.Meaning.{passings_in, results_in};
+ghost use Rattle.ang_gen.specs.Compiled.{IsCompiled};
 ghost use Rattle.ang_engine_modules.specs.Loaded as spec;
 ghost use Rattle.ang_engine_modules.specs.Trees.{headings_in, classes_from};
 
 use crate::classes::classes_of;
 use crate::entities::uses_of;
 use ang_code::RoutineCode;
-use ang_gen::Code;
+use ang_gen::{Code, LoweredTree, generate};
+use ang_kinds::List;
 use ang_lower::passings;
 use ang_meaning::Passing;
 use ang_typed::{Heading, Typed};
@@ -82,6 +88,62 @@ fn imports_of(alloc: Global, headings: &[Heading]) -> Result<Vec<LinkedImport>, 
         })?;
     }
     Ok(imports)
+}
+
+/// The same tree without bodies and globals, which are let go.
+fn without_bodies(alloc: Global, tree: Typed) -> Typed
+    ensures classes { result.classes ≡ tree.classes }
+    ensures methods { result.methods ≡ tree.methods }
+    ensures imports { result.imports ≡ tree.imports }
+{
+    let Typed {
+        functions,
+        globals,
+        classes,
+        methods,
+        imports,
+    } = tree;
+    drop(functions);
+    drop(globals);
+    Typed {
+        functions: List::from_vec(Vec::new(alloc)),
+        globals: List::from_vec(Vec::new(alloc)),
+        classes,
+        methods,
+        imports,
+    }
+}
+
+/// The code of a tree's bodies, and the tree without them: they are let go before there is any code.
+///
+/// # Errors
+/// Want of memory.
+pub fn compiled(alloc: Global, tree: Typed) -> Result<(Code, Typed), AllocError>
+    requires sound { (V : RegistrationList) × SoundProgram V (view_typed tree) }
+    ensures code { IfOk result (λ made. IsCompiled (view_typed tree) made.0) }
+    ensures params { IfOk result (λ made. list_map (λ c. c.params.items) made.0
+        ≡ passings_in (view_typed tree)) }
+    ensures results { IfOk result (λ made. list_map (λ c. c.result) made.0
+        ≡ results_in (view_typed tree)) }
+    ensures classes { IfOk result (λ made. made.1.classes ≡ tree.classes) }
+    ensures methods { IfOk result (λ made. made.1.methods ≡ tree.methods) }
+    ensures imports { IfOk result (λ made. made.1.imports ≡ tree.imports) }
+{
+    let lowered = match LoweredTree::of(alloc, &tree) {
+        Ok(lowered) => lowered,
+        Err(error) => {
+            drop(tree);
+            return Err(error);
+        }
+    };
+    let rest = without_bodies(alloc, tree);
+    match generate(alloc, lowered) {
+        Ok(code) => Ok((code, rest)),
+        Err(error) => {
+            drop(rest);
+            Err(error)
+        }
+    }
 }
 
 /// A module's code in the place `home` of the table: its bodies, the entities of its view, and what

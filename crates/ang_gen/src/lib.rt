@@ -15,8 +15,6 @@ ghost use Rattle.ang_source.specs.Meaning.{passings_in, results_in};
 ghost use Rattle.ang_gen.specs.Behaves.{MeansProgram};
 ghost use Rattle.ang_gen.specs.Compiled.{IsCompiled};
 
-use ang_lower::lower;
-use ang_typed::Typed;
 use code::code_of;
 use std::alloc::{AllocError, Global};
 
@@ -26,6 +24,7 @@ mod expression;
 mod height;
 mod kept;
 pub mod laws;
+mod lowered;
 mod marks;
 mod module_code;
 mod room;
@@ -35,6 +34,7 @@ mod tree_record;
 
 pub use code::Code;
 pub use kept::KeptTree;
+pub use lowered::LoweredTree;
 pub use module_code::generate_module;
 
 /// Generates the code of a module: of its functions and then of its initializers, each in the order of
@@ -43,16 +43,16 @@ pub use module_code::generate_module;
 ///
 /// # Errors
 /// Want of memory.
-pub fn generate(alloc: Global, program: &Typed) -> Result<Code, AllocError>
-    requires sound { (V : RegistrationList) × SoundProgram V (view_typed program.now) }
-    ensures means { IfOk result (λ code. MeansProgram (view_typed program.now) code) }
-    ensures code { IfOk result (λ code. IsCompiled (view_typed program.now) code) }
+pub fn generate(alloc: Global, program: LoweredTree) -> Result<Code, AllocError>
+    requires sound { (V : RegistrationList) × SoundProgram V (view_typed program) }
+    ensures means { IfOk result (λ code. MeansProgram (view_typed program) code) }
+    ensures code { IfOk result (λ code. IsCompiled (view_typed program) code) }
     ensures params { IfOk result (λ code. list_map (λ c. c.params.items) code
-        ≡ passings_in (view_typed program.now)) }
+        ≡ passings_in (view_typed program)) }
     ensures results { IfOk result (λ code. list_map (λ c. c.result) code
-        ≡ results_in (view_typed program.now)) }
+        ≡ results_in (view_typed program)) }
 {
-    let bodies = lower(alloc, program)?;
+    let bodies = program.into_bodies();
     let codes = generate_module(alloc, bodies)?;
     Ok(code_of(codes))
 }
