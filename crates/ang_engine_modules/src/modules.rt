@@ -27,7 +27,7 @@ use crate::runs::{body_count, run_initializers};
 use crate::tables::{code_of, no_code};
 use crate::traced::{TraceFrame, trace_frame};
 use crate::whole::WholeModule;
-use ang_gen::{KeptTree, generate};
+use ang_gen::{KeptTree, generate_dropping_bodies};
 use ang_host::{Driver, EventBuffer};
 use ang_kinds::{Fault, List, Value};
 use ang_meaning::{Routine, Slot};
@@ -183,11 +183,10 @@ impl Modules {
         ensures unchanged { OnErr result (self.new ≡ self.old) }
     {
         let (loaded, tree) = loaded.into_parts();
-        let generated = match generate(alloc, &tree) {
-            Ok(generated) => generated,
+        let (generated, tree) = match generate_dropping_bodies(alloc, tree) {
+            Ok(made) => made,
             Err(error) => {
                 drop(loaded);
-                drop(tree);
                 return Err(error);
             }
         };
