@@ -81,35 +81,21 @@ const BACK: &[Row] = &[
 
 /// Calls, returns, host calls, loads, fields, globals and handles are left to the run, and so is what faults, finds no
 /// value, brings it to a rare type or names no instructions. Each says which it is.
-const LEFT: &[(Step, Dispatch)] = &[
-    (Step::Other, Dispatch::Alone),
-    (Step::Ask(1), Dispatch::Alone),
-    (Step::Load(1), Dispatch::Load),
+const LEFT: &[(Step, Dispatch)] = list! {
+    (Step::Other, Dispatch::Alone), (Step::Ask(1), Dispatch::Alone), (Step::Load(1), Dispatch::Load),
     (Step::Move(2, 0), Dispatch::Move),
-    (
-        Step::Same(HandleOperand::Local(1), HandleOperand::Null),
-        Dispatch::Same,
-    ),
-    (Step::GetField(0, 0), Dispatch::GetField),
-    (Step::PutField(0, 0), Dispatch::PutField),
+    (Step::Same(HandleOperand::Local(1), HandleOperand::Null), Dispatch::Same),
+    (Step::GetField(0, 0), Dispatch::GetField), (Step::PutField(0, 0), Dispatch::PutField),
     (Step::ChangeField(LATER, 0, 0), Dispatch::ChangeField),
-    (Step::MoveField(0, 0, 1, 0), Dispatch::MoveField),
-    (Step::GetGlobal(0), Dispatch::GetGlobal),
-    (Step::PutGlobal(0), Dispatch::PutGlobal),
-    (Step::ChangeGlobal(LATER, 0), Dispatch::ChangeGlobal),
-    (Step::MoveGlobal(0, 1), Dispatch::MoveGlobal),
-    (Step::Enter(Callee::Own(0)), Dispatch::Enter),
-    (Step::Return(0), Dispatch::Return),
-    (Step::ReturnNothing(0), Dispatch::ReturnNothing),
-    (Step::Keep(2), Dispatch::Value),
-    (Step::DropUnder(2), Dispatch::Value),
-    (Step::KeepOut(None, 0), Dispatch::Value),
-    (Step::KeepLastOut(None, 0), Dispatch::Value),
-    (
-        Step::WorkTopConstant(Operator::Divide, I64, 0),
-        Dispatch::Value,
-    ),
-];
+    (Step::ChangeFieldByLocal(LATER, 1, 0, 0), Dispatch::ChangeFieldByLocal),
+    (Step::MoveField(0, 0, 1, 0), Dispatch::MoveField), (Step::GetGlobal(0), Dispatch::GetGlobal),
+    (Step::PutGlobal(0), Dispatch::PutGlobal), (Step::ChangeGlobal(LATER, 0), Dispatch::ChangeGlobal),
+    (Step::MoveGlobal(0, 1), Dispatch::MoveGlobal), (Step::Enter(Callee::Own(0)), Dispatch::Enter),
+    (Step::Return(0), Dispatch::Return), (Step::ReturnNothing(0), Dispatch::ReturnNothing),
+    (Step::Keep(2), Dispatch::Value), (Step::DropUnder(2), Dispatch::Value),
+    (Step::KeepOut(None, 0), Dispatch::Value), (Step::KeepLastOut(None, 0), Dispatch::Value),
+    (Step::WorkTopConstant(Operator::Divide, I64, 0), Dispatch::Value),
+};
 
 /// A place, and the numbers in the first three places of the stack.
 #[derive(Clone, Copy, PartialEq, Eq)]
@@ -425,6 +411,7 @@ const OBJECTS: &[Instruction] = list! {
     Load(5), Apply(Operation::FieldChange(LATER, 6)), Drop,
     Load(1), Apply(Operation::FieldGet(2)), Load(0), Apply(Operation::FieldSet(4)), Drop,
     Load(1), Apply(Operation::FieldGet(2)), Load(3), Apply(Operation::FieldSet(4)), Return(1),
+    Load(2), Load(5), Apply(Operation::FieldChange(LATER, 6)), Drop,
 };
 
 /// Each is one step, but where the object is the value that was pushed, or the value is kept.
@@ -437,6 +424,8 @@ const FIELDS: Places = &[
     (10, Some(Step::PutField(0, 4))),
     (13, Some(Step::GetField(1, 2))),
     (15, Some(Step::Load(3))),
+    (18, Some(Step::ChangeFieldByLocal(LATER, 2, 4, 6))),
+    (19, Some(Step::ChangeField(LATER, 5, 6))),
 ];
 
 /// A global is stored into another one, and is changed; at the end the stored value is kept.
@@ -463,23 +452,12 @@ const COMPARING: &[Instruction] = list! {
 };
 
 /// Each pair is one step, but where the second one is the value that the first one pushes.
-const COMPARED: Places = &[
-    (
-        0,
-        Some(Step::Same(HandleOperand::Local(1), HandleOperand::Local(0))),
-    ),
-    (
-        3,
-        Some(Step::Same(HandleOperand::Global(3), HandleOperand::Null)),
-    ),
-    (4, Some(Step::Other)),
-    (
-        6,
-        Some(Step::Same(HandleOperand::Null, HandleOperand::Local(2))),
-    ),
-    (9, Some(Step::Load(1))),
-    (10, Some(Step::Load(0))),
-];
+const COMPARED: Places = list! {
+    (0, Some(Step::Same(HandleOperand::Local(1), HandleOperand::Local(0)))),
+    (3, Some(Step::Same(HandleOperand::Global(3), HandleOperand::Null))), (4, Some(Step::Other)),
+    (6, Some(Step::Same(HandleOperand::Null, HandleOperand::Local(2)))),
+    (9, Some(Step::Load(1))), (10, Some(Step::Load(0))),
+};
 
 /// What a step comes to where 9, 7, 5 and 3 are in use, and there is room for four values more.
 fn ends(step: Step) -> Option<After> {
@@ -518,6 +496,9 @@ fn is_same_on_fields(step: Step, wanted: Step) -> bool {
         }
         (Step::ChangeField(by, place, field), Step::ChangeField(to, other, its)) => {
             by == to && place == other && field == its
+        }
+        (Step::ChangeFieldByLocal(by, a, b, i), Step::ChangeFieldByLocal(to, c, d, j)) => {
+            by == to && a == c && b == d && i == j
         }
         (Step::MoveField(from, field, to, into), Step::MoveField(other, its, at, its_into)) => {
             from == other && field == its && to == at && into == its_into
