@@ -139,6 +139,7 @@ fn kept(keeps: bool, number: u32) -> Option<u32>
 }
 
 /// A number of a row, where its entry resolves a refused use. `count` is how many entries there are.
+#[cold]
 #[inline(never)]
 #[tactic(auto, using(crate::proofs::ByName::past_helps_not))]
 fn helper_at(
@@ -290,7 +291,9 @@ fn helpers_beside(
     Ok(numbers)
 }
 
-/// The same, where `told` tells of some entries whether they do.
+/// The same, where `told` tells of some entries whether they do: mostly of all of the row. It stands apart, so that few values
+/// live in its loop.
+#[inline(never)]
 fn helpers_told(
     alloc: Global,
     masked: &Masked<'_>,
