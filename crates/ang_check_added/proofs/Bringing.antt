@@ -328,3 +328,28 @@ numbers_are R m n =
       | inl lt ↦ ap numbers_of_row (row_there (brought R m) 0 (length R) n lt) ∙ ap (brought R m) from_zero
       | inr le ↦ ap numbers_of_row (row_past (brought R m) 0 (length R) n le) ∙ nothing_past R m n le
     ]
+
+-- ---- marks of those that come alone
+
+flag_there : (f : ℕ → Bool) (a n k : ℕ) → k < n → slice_index_or (map f (range_with_len a n)) k false ≡ f (a + k)
+flag_there f a zero k lt = absurd (omega (arith, lt))
+flag_there f a (suc n) zero lt = let z : a ≡ a + 0 = omega arith in ap f z
+flag_there f a (suc n) (suc k) lt =
+    let up : (a + 1) + k ≡ a + suc k = omega arith in
+    flag_there f (a + 1) n k (omega (arith, lt)) ∙ ap f up
+
+flag_past : (f : ℕ → Bool) (a n k : ℕ) → n ≤ k → slice_index_or (map f (range_with_len a n)) k false ≡ false
+flag_past f a zero k le = refl
+flag_past f a (suc n) zero le = absurd (omega (arith, le))
+flag_past f a (suc n) (suc k) le = flag_past f (a + 1) n k (omega (arith, le))
+
+-- The mark at a place tells whether the entry there comes alone.
+pub alone_at : (R : RegistrationList) (m n : ℕ) (rows : Rows) → rows ≡ all_brought R m
+    → slice_index_or (map (λ k. is_only k (numbers_at rows k)) (numbers_of R)) n false ≡ is_alone R m n
+alone_at R m n rows are =
+    let from_zero : 0 + n ≡ n = omega arith in
+    let row : numbers_at rows n ≡ brought R m n = ap (λ rs. numbers_at rs n) are ∙ numbers_are R m n in
+    elim (range n (length R)) [
+      | inl lt ↦ flag_there (λ k. is_only k (numbers_at rows k)) 0 (length R) n lt ∙ ap (λ k. is_only k (numbers_at rows k)) from_zero ∙ ap (is_only n) row
+      | inr le ↦ flag_past (λ k. is_only k (numbers_at rows k)) 0 (length R) n le ∙ ap (is_only n) (nothing_past R m n le)
+    ]

@@ -1,6 +1,6 @@
 //! What comes with each entry where it is added, of that whose own mask does not meet a module's: the entry, and the types
 //! that its declaration names.
-ghost use Rattle.std.specs.Prelude.{◌≡◌, ◌++◌, ◌∷◌, [], if◌then◌else◌, IfOk, OnOk, Some, filter};
+ghost use Rattle.std.specs.Prelude.{◌≡◌, ◌++◌, ◌∷◌, [], if◌then◌else◌, IfOk, OnOk, Some, filter, map as list_map};
 ghost use Rattle.std.specs.List.{flat_map};
 ghost use Rattle.ang_view.specs.Hidden as views;
 ghost use Rattle.ang_view.specs.Named.{find, is_type_entry};
@@ -222,4 +222,28 @@ pub fn numbers_at(rows: &KindRows, number: u32) -> &[u32]
         None => &[],
         Some(numbers) => numbers,
     }
+}
+
+/// Whether a number is the only one of a row.
+fn is_only(number: u32, row: &[u32]) -> bool
+    ensures exact { result ≡ spec.is_only number row.now }
+{
+    match row {
+        [only] => *only == number,
+        _ => false,
+    }
+}
+
+/// For each entry of a list whether it is the only one of its row, of the rows of what comes with each. The only error is want
+/// of memory.
+pub fn alone_marks(alloc: Global, whole: &View, rows: &KindRows) -> Result<Vec<bool>, AllocError>
+    ensures exact { IfOk result (λ marks. marks.items ≡ list_map
+        (λ n. spec.is_only n (spec.numbers_at rows.now n)) (views.numbers_of whole.now)) }
+{
+    let mut marks = Vec::new(alloc);
+    for number in 0..whole.len() as u32 {
+        let is_alone = is_only(number, numbers_at(rows, number));
+        marks.push(is_alone)?;
+    }
+    Ok(marks)
 }

@@ -10,7 +10,7 @@ mod made;
 mod numbered;
 mod verdicts;
 
-pub use brought::{all_types, brought_rows, numbers_at, push_kept};
+pub use brought::{all_types, alone_marks, brought_rows, numbers_at, push_kept};
 pub use made::{all_made, candidate_among, made_at};
 pub use numbered::{Numbered, number_kinds};
 pub use verdicts::Verdicts;

@@ -2,6 +2,7 @@ pub mod ByName
 pub mod Helping
 pub mod Kept
 pub mod Making
+pub mod Masks
 pub mod Meaning
 pub mod NotMeant
 pub mod Places

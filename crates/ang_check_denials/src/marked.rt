@@ -10,23 +10,12 @@ use crate::masked::Masked;
 use ang_check_added::push_kept;
 use std::alloc::{AllocError, Global};
 
-/// Whether nothing else comes with an entry, and its own mask does not meet the module's.
-#[inline(always)]
-fn is_alone(masked: &Masked<'_>, number: u32) -> bool
-    ensures exact { result ≡ spec.is_alone masked.now.list masked.now.mask number }
-{
-    match masked.brought(number) {
-        [only] => *only == number,
-        _ => false,
-    }
-}
-
 /// Whether each of these entries comes alone.
 pub fn are_alone(masked: &Masked<'_>, numbers: &[u32]) -> bool
     ensures exact { result ≡ spec.are_alone masked.now.list masked.now.mask numbers.now }
 {
     for number in numbers {
-        if !is_alone(masked, *number) {
+        if !masked.is_alone(*number) {
             return false;
         }
     }

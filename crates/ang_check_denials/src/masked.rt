@@ -10,20 +10,54 @@ ghost use Rattle.ang_check_added.specs.Made as candidates;
 
 use crate::marked::is_marked;
 use ang_check_added::{
-    Numbered, all_made, all_types, brought_rows, candidate_among, made_at, number_kinds, numbers_at,
+    Numbered, all_made, all_types, alone_marks, brought_rows, candidate_among, made_at,
+    number_kinds, numbers_at,
 };
 use ang_check_contest::Wanted;
 use ang_kinds::{EntityNo, Mask, Pass};
 use ang_names_known::KindRows;
 use ang_types::{ArgType, Candidate};
-use ang_view::{View, names_entry};
+use ang_view::{Entry, View, names_entry};
 use std::alloc::{AllocError, Global};
 use std::marker::Model;
+
+/// The mask of an entry, or 0 where none is there.
+fn mask_in(entry: &Option<Entry>) -> Mask
+    ensures exact { result ≡ denials.mask_of entry.now }
+{
+    match entry {
+        None => Mask(0),
+        Some(entry) => entry.mask,
+    }
+}
+
+/// The masks of all entries of a list, 0 for a blank. The only error is want of memory.
+fn all_masks(alloc: Global, whole: &View) -> Result<Vec<Mask>, AllocError>
+    ensures exact { IfOk result (λ masks. masks.items ≡ list_map denials.mask_of whole.now) }
+{
+    let mut masks = Vec::new(alloc);
+    for entry in whole.entries() {
+        masks.push(mask_in(entry))?;
+    }
+    Ok(masks)
+}
+
+/// The mask at a place, 0 past the end.
+#[inline(always)]
+fn mask_at(masks: &[Mask], number: u32) -> Mask
+    ensures exact { result ≡ slice_index_or masks.now number (denials.mask_of None) }
+{
+    match masks.get(number as usize) {
+        None => Mask(0),
+        Some(mask) => *mask,
+    }
+}
 
 /// A registration list, and what a module of a mask does not see of it.
 ///
 /// Beside it stand its functions, factories and methods as candidates, so that none is made anew for each use that looks
-/// at it, the numbers of their parameters' kinds, of each entry the numbers of what comes with it, and the numbers of all types.
+/// at it, the numbers of their parameters' kinds, of each entry its mask, the numbers of what comes with it and whether it comes
+/// alone, and the numbers of all types.
 #[derive(Drop)]
 pub struct Masked<'a> {
     whole: &'a View,
@@ -32,14 +66,17 @@ pub struct Masked<'a> {
     made: Vec<Option<Candidate>>,
     numbered: Numbered,
     brought: KindRows,
+    alone: Vec<bool>,
+    masks: Vec<Mask>,
     types: Vec<u32>,
 }
 
 impl<'a> Model for Masked<'a> {
     ghost use Rattle.std.specs.Prelude.{◌≡◌, is_some, map};
     ghost use Rattle.ang_view.specs.Hidden as views;
-    ghost use Rattle.ang_check_added.specs.Brought.{all_brought, all_types};
+    ghost use Rattle.ang_check_added.specs.Brought.{all_brought, all_types, is_only, numbers_at};
     ghost use Rattle.ang_check_added.specs.Made as candidates;
+    ghost use Rattle.ang_check_denials.specs.Denials as denials;
     ghost use Rattle.ang_check_denials.specs.Masked as value;
     ghost use Rattle.ang_names_known.specs.Kinds.{AreRows};
 
@@ -56,7 +93,10 @@ impl<'a> Model for Masked<'a> {
         × AreRows r.numbered.kinds.items r.numbered.rows
         (λ t. candidates.params_made (candidates.made r.whole.now))
         × (r.brought ≡ all_brought r.whole.now r.mask.0)
-        × (r.types.items ≡ all_types r.whole.now) };
+        × (r.types.items ≡ all_types r.whole.now)
+        × (r.alone.items
+        ≡ map (λ n. is_only n (numbers_at r.brought n)) (views.numbers_of r.whole.now))
+        × (r.masks.items ≡ map denials.mask_of r.whole.now) };
 }
 
 impl<'a> Masked<'a> {
@@ -75,6 +115,8 @@ impl<'a> Masked<'a> {
         let made = all_made(alloc, whole)?;
         let numbered = number_kinds(alloc, made.as_slice())?;
         let brought = brought_rows(alloc, whole, mask)?;
+        let alone = alone_marks(alloc, whole, &brought)?;
+        let masks = all_masks(alloc, whole)?;
         let types = all_types(alloc, whole)?;
         Ok(Masked {
             whole,
@@ -83,6 +125,8 @@ impl<'a> Masked<'a> {
             made,
             numbered,
             brought,
+            alone,
+            masks,
             types,
         })
     }
@@ -155,6 +199,14 @@ impl<'a> Masked<'a> {
         numbers_at(&self.brought, number)
     }
 
+    /// Whether nothing else comes with the entry of this number, and its own mask does not meet the module's.
+    #[inline(always)]
+    pub fn is_alone(&self, number: u32) -> bool
+        ensures exact { result ≡ brought_spec.is_alone self.now.list self.now.mask number }
+    {
+        is_marked(self.alone.as_slice(), number)
+    }
+
     /// The numbers of all object types and enumerations, rising.
     pub fn types(&self) -> &[u32]
         ensures exact { result.now ≡ brought_spec.all_types self.now.list }
@@ -166,10 +218,7 @@ impl<'a> Masked<'a> {
     pub fn mask_of(&self, number: u32) -> Mask
         ensures exact { result ≡ denials.mask_of (entry_at self.now.list number) }
     {
-        match self.whole.get(EntityNo(number)) {
-            None => Mask(0),
-            Some(entry) => entry.mask,
-        }
+        mask_at(self.masks.as_slice(), number)
     }
 
     /// Whether an entry comes with another one that is added to what is seen: it is that entry, or a type that its

@@ -1,5 +1,5 @@
 //! The rows of denials.
-ghost use Rattle.std.specs.Prelude.{◌≡◌, ◌++◌, ◌&&◌, filter, map as list_map, IfOk, OnOk};
+ghost use Rattle.std.specs.Prelude.{◌≡◌, ◌+◌, ◌≤◌, ◌++◌, ◌&&◌, filter, length, map as list_map, vec_len, vec_capacity, IfOk, OnOk};
 ghost use Rattle.std.specs.List.{list_any, flat_map};
 ghost use Rattle.ang_view.specs.Hidden.{is_unmet, is_with, numbers_of};
 ghost use Rattle.ang_view.specs.Registration.{seen};
@@ -69,6 +69,17 @@ fn row(masked: &Masked<'_>, refused: &Refused, number: u32) -> Denial
     }
 }
 
+/// Puts the rows of these entries at the end, where there is room for them.
+fn append_rows(rows: &mut Vec<Denial>, masked: &Masked<'_>, refused: &Refused, numbers: &[u32])
+    requires room { vec_len rows.old + length numbers.now ≤ vec_capacity rows.old }
+    ensures items { rows.new.items ≡ rows.old.items
+        ++ list_map (spec.row masked.now.list masked.now.mask refused.now) numbers.now }
+{
+    for number in numbers {
+        rows.push_reserved(row(masked, refused, *number));
+    }
+}
+
 /// Puts the rows of these entries at the end.
 fn push_rows(
     rows: &mut Vec<Denial>,
@@ -80,9 +91,7 @@ fn push_rows(
         ++ list_map (spec.row masked.now.list masked.now.mask refused.now) numbers.now) }
 {
     rows.reserve(numbers.len())?;
-    for number in numbers {
-        rows.push(row(masked, refused, *number))?;
-    }
+    append_rows(rows, masked, refused, numbers);
     Ok(())
 }
 

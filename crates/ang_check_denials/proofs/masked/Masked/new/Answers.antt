@@ -12,4 +12,6 @@ invariant_of-result c =
           c.in_ok-numbered.ensures.rows,
       c.in_ok-brought.ensures.exact,
       c.in_ok-types.ensures.exact,
+      c.in_ok-alone.ensures.exact,
+      c.in_ok-masks.ensures.exact,
     )
