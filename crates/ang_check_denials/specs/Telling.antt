@@ -5,7 +5,10 @@ use Rattle.ang_types.specs.declared.asks.Asks.{Asks}
 use Rattle.ang_types.specs.declared.asks.Asks.TheVariants as asks
 use Rattle.ang_types.specs.declared.asks.Refused.{Refused}
 use Rattle.ang_types.specs.declared.candidate.Candidate.{Candidate}
+use Rattle.ang_kinds.specs.declared.mask.EntityNo.{EntityNo}
 use Rattle.ang_view.specs.declared.entry.Entry.{Entry}
+use Rattle.ang_view.specs.declared.entry.EntryKind.{EntryKind}
+use Rattle.ang_view.specs.declared.entry.EntryKind.TheVariants as entry
 use Rattle.ang_view.specs.Named.{is_factory}
 use Rattle.ang_view.specs.Registration.{RegistrationList, entry_at, is_function, is_number}
 use Rattle.ang_view.specs.Types.{is_type_named}
@@ -33,6 +36,40 @@ is_sought (sought.Factories n) None = false
 is_sought (sought.Factories n) (Some y) = is_factory y.kind && is_number n y.owner
 is_sought (sought.Methods n) None = false
 is_sought (sought.Methods n) (Some y) = is_method y.kind && is_number n y.owner
+
+-- which of those an entry is of, told by its kind and its owner
+abbrev pub owned : (ℕ → Sought) → Option EntityNo → Option Sought
+owned f None = None
+owned f (Some k) = Some (f k.0)
+
+abbrev pub sort_by : EntryKind → Option EntityNo → Option Sought
+sort_by entry.HostType o = None
+sort_by entry.Factory o = owned sought.Factories o
+sort_by entry.Method o = owned sought.Methods o
+sort_by entry.Property o = None
+sort_by entry.Function o = Some sought.Functions
+sort_by entry.Global o = None
+sort_by entry.Enumeration o = None
+sort_by (entry.EnumValue v) o = None
+
+abbrev pub sort_of : Option Entry → Option Sought
+sort_of None = None
+sort_of (Some y) = sort_by y.kind y.owner
+
+abbrev pub is_same_sort : Sought → Sought → Bool
+is_same_sort sought.Functions sought.Functions = true
+is_same_sort sought.Functions (sought.Factories k) = false
+is_same_sort sought.Functions (sought.Methods k) = false
+is_same_sort (sought.Factories n) sought.Functions = false
+is_same_sort (sought.Factories n) (sought.Factories k) = k == n
+is_same_sort (sought.Factories n) (sought.Methods k) = false
+is_same_sort (sought.Methods n) sought.Functions = false
+is_same_sort (sought.Methods n) (sought.Factories k) = false
+is_same_sort (sought.Methods n) (sought.Methods k) = k == n
+
+abbrev pub is_of_sort : Sought → Option Sought → Bool
+is_of_sort q None = false
+is_of_sort q (Some k) = is_same_sort q k
 
 -- the candidates that are seen of the same name or type
 abbrev pub rivals_for : Scope → List ℕ → Sought → List Candidate

@@ -16,7 +16,7 @@ use crate::meanings::adds;
 use crate::named::is_known;
 use crate::sought::help_row;
 use crate::takers::can_help;
-use crate::told::{Told, is_sought, told_of, wins};
+use crate::told::{Told, told_of, wins};
 use ang_check_contest::{Scope, table_for};
 use ang_check_uses::type_named;
 use ang_index::Index;
@@ -226,7 +226,7 @@ fn helper_told(
         (telling.chosen masked.now.list masked.now.mask scope.now refused.now asks.now
         told.now.sought) (number ∷ [])) }
 {
-    if is_sought(masked.whole(), told.sought, number) {
+    if masked.is_sought(told.sought, number) {
         let won = wins(masked, &told.verdicts, number);
         return Ok(kept(won, number));
     }

@@ -6,9 +6,11 @@ ghost use Rattle.ang_view.specs.Hidden as spec;
 ghost use Rattle.ang_view.specs.Registration.{entry_at};
 ghost use Rattle.ang_check_added.specs.Brought as brought_spec;
 ghost use Rattle.ang_check_denials.specs.Denials as denials;
+ghost use Rattle.ang_check_denials.specs.Telling as telling;
 ghost use Rattle.ang_check_added.specs.Made as candidates;
 
 use crate::marked::is_marked;
+use crate::told::{Sought, all_sorts, is_of_sort};
 use ang_check_added::{
     Numbered, all_made, all_types, alone_marks, brought_rows, candidate_among, made_at,
     number_kinds, numbers_at,
@@ -56,8 +58,8 @@ fn mask_at(masks: &[Mask], number: u32) -> Mask
 /// A registration list, and what a module of a mask does not see of it.
 ///
 /// Beside it stand its functions, factories and methods as candidates, so that none is made anew for each use that looks
-/// at it, the numbers of their parameters' kinds, of each entry its mask, the numbers of what comes with it and whether it comes
-/// alone, and the numbers of all types.
+/// at it, the numbers of their parameters' kinds, of each entry its mask, its sort, the numbers of what comes with it and whether
+/// it comes alone, and the numbers of all types.
 #[derive(Drop)]
 pub struct Masked<'a> {
     whole: &'a View,
@@ -68,6 +70,7 @@ pub struct Masked<'a> {
     brought: KindRows,
     alone: Vec<bool>,
     masks: Vec<Mask>,
+    sorts: Vec<Option<Sought>>,
     types: Vec<u32>,
 }
 
@@ -78,6 +81,7 @@ impl<'a> Model for Masked<'a> {
     ghost use Rattle.ang_check_added.specs.Made as candidates;
     ghost use Rattle.ang_check_denials.specs.Denials as denials;
     ghost use Rattle.ang_check_denials.specs.Masked as value;
+    ghost use Rattle.ang_check_denials.specs.Telling as telling;
     ghost use Rattle.ang_names_known.specs.Kinds.{AreRows};
 
     ghost Value = { value.Masked };
@@ -96,7 +100,8 @@ impl<'a> Model for Masked<'a> {
         × (r.types.items ≡ all_types r.whole.now)
         × (r.alone.items
         ≡ map (λ n. is_only n (numbers_at r.brought n)) (views.numbers_of r.whole.now))
-        × (r.masks.items ≡ map denials.mask_of r.whole.now) };
+        × (r.masks.items ≡ map denials.mask_of r.whole.now)
+        × (r.sorts.items ≡ map telling.sort_of r.whole.now) };
 }
 
 impl<'a> Masked<'a> {
@@ -117,6 +122,7 @@ impl<'a> Masked<'a> {
         let brought = brought_rows(alloc, whole, mask)?;
         let alone = alone_marks(alloc, whole, &brought)?;
         let masks = all_masks(alloc, whole)?;
+        let sorts = all_sorts(alloc, whole)?;
         let types = all_types(alloc, whole)?;
         Ok(Masked {
             whole,
@@ -127,6 +133,7 @@ impl<'a> Masked<'a> {
             brought,
             alone,
             masks,
+            sorts,
             types,
         })
     }
@@ -205,6 +212,14 @@ impl<'a> Masked<'a> {
         ensures exact { result ≡ brought_spec.is_alone self.now.list self.now.mask number }
     {
         is_marked(self.alone.as_slice(), number)
+    }
+
+    /// Whether the entry of this number is one of those.
+    #[inline(always)]
+    pub fn is_sought(&self, sought: Sought, number: u32) -> bool
+        ensures exact { result ≡ telling.is_sought sought (entry_at self.now.list number) }
+    {
+        is_of_sort(self.sorts.as_slice(), sought, number)
     }
 
     /// The numbers of all object types and enumerations, rising.

@@ -1,11 +1,11 @@
 //! Entries of which their rivals alone tell whether they help a use: functions, factories and methods, where the name of the
 //! use means the same whichever of them is added. Each helps where it is the best of all.
-ghost use Rattle.std.specs.Prelude.{◌≡◌, if◌then◌else◌, List, IfOk, IfSome, None, Some, slice_index_or};
+ghost use Rattle.std.specs.Prelude.{◌≡◌, if◌then◌else◌, List, IfOk, IfSome, None, Some, slice_index_or, map as list_map};
 ghost use Rattle.ang_types.specs.declared.arg_type.ArgType.{ArgType};
 ghost use Rattle.ang_types.specs.declared.candidate.Candidate.{Candidate};
 ghost use Rattle.ang_types.specs.Ranks.{Ancestors};
 ghost use Rattle.ang_names_known.specs.Kinds.{numbered};
-ghost use Rattle.ang_view.specs.Registration.{entry_at, seen};
+ghost use Rattle.ang_view.specs.Registration.{seen};
 ghost use Rattle.ang_check_contest.specs.Told.{IsTable, table_of};
 ghost use Rattle.ang_check_added.specs.Verdicts.{Judge, verdicts_in};
 ghost use Rattle.ang_check_denials.specs.Added as added;
@@ -20,10 +20,9 @@ use crate::masked::Masked;
 use crate::named::{is_known, is_type_named};
 use ang_check_added::Verdicts;
 use ang_check_contest::{Rivalry, Scope};
-use ang_kinds::EntityNo;
 use ang_names_known::family_of_type;
 use ang_types::{Asks, Refused};
-use ang_view::{Entry, EntryKind, View, belongs_to};
+use ang_view::{Entry, EntryKind, View};
 use std::alloc::{AllocError, Global};
 
 /// Which entries these are.
@@ -46,30 +45,68 @@ pub struct Told {
     pub verdicts: Verdicts,
 }
 
-#[inline(always)]
-fn is_of(entry: &Entry, sought: Sought) -> bool
-    ensures exact { result ≡ spec.is_sought sought (Some entry.now) }
+/// Which of these an entry is of.
+fn sort_by(entry: &Entry) -> Option<Sought>
+    ensures exact { result ≡ spec.sort_of (Some entry.now) }
 {
-    match sought {
-        Sought::Functions => matches!(entry.kind, EntryKind::Function),
-        Sought::Factories(number) => {
-            matches!(entry.kind, EntryKind::Factory) && belongs_to(entry.owner, number as usize)
-        }
-        Sought::Methods(number) => {
-            matches!(entry.kind, EntryKind::Method) && belongs_to(entry.owner, number as usize)
-        }
+    match entry.kind {
+        EntryKind::Function => Some(Sought::Functions),
+        EntryKind::Factory => Some(Sought::Factories(entry.owner?.0)),
+        EntryKind::Method => Some(Sought::Methods(entry.owner?.0)),
+        EntryKind::HostType
+        | EntryKind::Property
+        | EntryKind::Global
+        | EntryKind::Enumeration
+        | EntryKind::EnumValue(_) => None,
     }
 }
 
-/// Whether the entry of this number is one of those.
-#[inline(always)]
-pub fn is_sought(whole: &View, sought: Sought, number: u32) -> bool
-    ensures exact { result ≡ spec.is_sought sought (entry_at whole.now number) }
+fn sort_of(entry: &Option<Entry>) -> Option<Sought>
+    ensures exact { result ≡ spec.sort_of entry.now }
 {
-    let Some(entry) = whole.get(EntityNo(number)) else {
+    match entry {
+        None => None,
+        Some(entry) => sort_by(entry),
+    }
+}
+
+/// Which of these each entry of a list is of. The only error is want of memory.
+pub fn all_sorts(alloc: Global, whole: &View) -> Result<Vec<Option<Sought>>, AllocError>
+    ensures exact { IfOk result (λ sorts. sorts.items ≡ list_map spec.sort_of whole.now) }
+{
+    let mut sorts = Vec::new(alloc);
+    for entry in whole.entries() {
+        sorts.push(sort_of(entry))?;
+    }
+    Ok(sorts)
+}
+
+#[inline(always)]
+fn is_same_sort(sought: Sought, sort: Sought) -> bool
+    ensures exact { result ≡ spec.is_same_sort sought sort }
+{
+    match sought {
+        Sought::Functions => matches!(sort, Sought::Functions),
+        Sought::Factories(number) => match sort {
+            Sought::Factories(owner) => owner == number,
+            Sought::Functions | Sought::Methods(_) => false,
+        },
+        Sought::Methods(number) => match sort {
+            Sought::Methods(owner) => owner == number,
+            Sought::Functions | Sought::Factories(_) => false,
+        },
+    }
+}
+
+/// Whether what stands at a place is one of those.
+#[inline(always)]
+pub fn is_of_sort(sorts: &[Option<Sought>], sought: Sought, number: u32) -> bool
+    ensures exact { result ≡ spec.is_of_sort sought (slice_index_or sorts.now number None) }
+{
+    let Some(Some(sort)) = sorts.get(number as usize) else {
         return false;
     };
-    is_of(entry, sought)
+    is_same_sort(sought, *sort)
 }
 
 /// Whether the entry of this number, as a candidate, is the best of all.

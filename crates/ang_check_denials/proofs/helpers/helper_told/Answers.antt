@@ -18,7 +18,7 @@ returns-then-is_sought c =
     let best = is_won s.ancestors (rivals_for s r.error.name t.sought) (types_of a) (slice_index_or (made k.list) x None) in
     let help = helps k.list k.mask s r a x in
     let is : is_sought t.sought (entry_at k.list x) ≡ true =
-    sym (c.is_sought.ensures.exact ∙ ap (λ list. is_sought t.sought (entry_at list x)) c.whole.ensures.same) ∙ c.if-is_sought.true in
+    sym c.is_sought.ensures.exact ∙ c.if-is_sought.true in
     let won : c.wins-won.result ≡ best = c.wins-won.ensures.exact s.ancestors (rivals_for s r.error.name t.sought) (types_of a) c.requires.told.judge in
     record {
       exact =
@@ -37,7 +37,7 @@ returns c =
     let best = is_won s.ancestors (rivals_for s r.error.name t.sought) (types_of a) (slice_index_or (made k.list) x None) in
     let help = helps k.list k.mask s r a x in
     let is : is_sought t.sought (entry_at k.list x) ≡ false =
-    sym (c.is_sought.ensures.exact ∙ ap (λ list. is_sought t.sought (entry_at list x)) c.whole.ensures.same) ∙ c.if-is_sought.false in
+    sym c.is_sought.ensures.exact ∙ c.if-is_sought.false in
     record {
       exact =
           subst (λ b. IfOk c.helper_at.result (λ helper. option_to_list helper ≡ (if b then x ∷ [] else [])))

@@ -14,4 +14,5 @@ invariant_of-result c =
       c.in_ok-types.ensures.exact,
       c.in_ok-alone.ensures.exact,
       c.in_ok-masks.ensures.exact,
+      c.in_ok-sorts.ensures.exact,
     )
