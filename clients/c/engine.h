@@ -14,6 +14,7 @@ enum {
     LISTS = 2,              /* blocks for long lists: the events, and their arguments */
     MOST_RUNS = 128,        /* of posts that are kept */
     MOST_VALUES = 1024,     /* of all these */
+    FRONTS = 8,             /* of posts that are kept, so that functions in turn are not read anew */
     MOST_FRONT = 64,        /* bytes of an ask's line in front of its values: two numbers of 32 bits, a key, some 20 more */
     MOST_COMMAND = 16777216 /* bytes of a command */
 };
@@ -73,11 +74,12 @@ enum bb_stop {
     BB_AT_END
 };
 
-/* What the line of the post that was read last has in front of its values: most posts have the same as the one before. */
+/* What the line of a post has in front of its values: most posts have the same as one of the last. */
 struct bb_front {
     char text[MOST_FRONT];
-    size_t bytes; /* 0 for none, or one that is not kept */
+    size_t bytes; /* 0 for none */
     bb_ask ask;
+    size_t count; /* how many values the last call had */
 };
 
 /* What is posted, of which the host was not told all. */
@@ -86,8 +88,10 @@ struct bb_kept {
     bb_value values[MOST_VALUES];
     size_t runs_kept, values_kept;
     size_t room;            /* how many more calls of the last run are kept before the host is told all */
-    struct bb_front front;  /* that of the last run, if there is one */
-    bb_posts *plain;        /* the last run, if it has a short front (posts.c) and one value each; else NULL */
+    struct bb_front fronts[FRONTS];
+    struct bb_front *front; /* that of the last run */
+    size_t next_front;      /* the place of the one that is read next */
+    bb_posts *last;         /* that run, or NULL */
     size_t runs_told, left; /* the runs that the host was told, and how many calls of the last of these it was not */
     const bb_value *told;   /* the values of the call that is the ask, which has a copy of them */
     bool waits;             /* whether the ask is a call of that run, and the rest was not taken at once */

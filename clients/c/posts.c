@@ -1,5 +1,6 @@
 /* What scripts have posted: each line is read as the program writes it, and kept until the host was told it. */
 #include "engine.h"
+#include "plain.h"
 
 #include <stdlib.h>
 #include <string.h>
@@ -9,61 +10,44 @@ static const size_t none = SIZE_MAX;
 
 /* ---- Reading */
 
-/* Reads `7`, `-7` or `7u`, and gives where it ends; or NULL where there is something else. */
-static inline const char *read_integer(const char *text, bb_value *value)
-{
-    bool is_negative = *text == '-';
-    const char *from = text + is_negative, *at = from;
-    uint64_t number = 0;
-    for (unsigned digit; (digit = (unsigned)(unsigned char)*at - '0') < 10; at++)
-        number = number * 10 + digit;
-    bool is_unsigned = *at == 'u' && !is_negative;
-    value->kind = is_unsigned ? BB_UINT : BB_INT;
-    value->as.u64 = is_negative ? 0 - number : number;
-    return at > from ? at + is_unsigned : NULL;
-}
-
-/* Reads values that are all integers, `7,8)` with the end of the line, and gives how many these are; or 0 where they are
-   not. The parenthesis in front of the line's end ends digits, if nothing else does. */
-static inline size_t read_integers(const char *at, const char *end, bb_value *values)
-{
-    if (end[-2] != ')' || end[-1] != '\n')
-        return 0;
-    for (size_t count = 0; count < MOST_ARGUMENTS; at++) {
-        at = read_integer(at, &values[count]);
-        if (!at)
-            return 0;
-        count++;
-        if (*at != ',')
-            return at == end - 2 ? count : 0;
-    }
-    return 0;
-}
-
-/* Reads values, with the end of the line, and gives how many these are; or none where there is something else. */
-static inline size_t read_values(const char *text, const char *end, bb_value *values)
-{
-    size_t count = read_integers(text, end, values);
-    if (count)
-        return count;
-    bb_ask ask;
-    return bb_read_values(text, end, &ask, values) == end ? ask.count : none;
-}
-
-/* Whether a text begins with the front that was read last, and has values behind it. */
-static inline bool has_front(const struct bb_front *front, const char *text, const char *end)
-{
-    return front->bytes && front->bytes + 2 <= (size_t)(end - text) && memcmp(text, front->text, front->bytes) == 0;
-}
-
-/* Reads the front of a post, and gives where it ends; or NULL where a text does not begin with one. */
-static const char *read_front(struct bb_front *front, const char *text, const char *end)
+/* Reads the front of a post; or gives NULL where a text does not begin with one. */
+static struct bb_front *read_front(struct bb_front *front, const char *text, const char *end)
 {
     const char *values = bb_read_front(text, end, &front->ask);
-    bool is_post = values && end - values >= 2 && front->ask.posted && front->ask.kind == BB_CALL && !front->ask.has_object;
-    front->bytes = is_post && values - text <= MOST_FRONT ? (size_t)(values - text) : 0;
+    bool is_post = values && end - values >= 2 && front->ask.posted && front->ask.kind == BB_CALL && !front->ask.has_object &&
+                   values - text <= MOST_FRONT;
+    front->bytes = is_post ? (size_t)(values - text) : 0;
     memcpy(front->text, text, front->bytes);
-    return is_post ? values : NULL;
+    return is_post ? front : NULL;
+}
+
+/* Whether a text may have a front. The function's first digit tells most apart. */
+static inline bool may_have(const struct bb_front *front, const char *text, size_t bytes)
+{
+    return front->bytes && front->bytes < bytes && text[12] == front->text[12] && text[front->bytes - 1] == '(';
+}
+
+/* The front with which a text begins, one that was read before or not; or NULL where there is none. */
+static struct bb_front *front_of(struct bb_kept *kept, const char *text, size_t bytes)
+{
+    for (size_t at = 0; at < FRONTS; at++)
+        if (may_have(&kept->fronts[at], text, bytes) && is_post_with(&kept->fronts[at], text, bytes))
+            return &kept->fronts[at];
+    return read_front(&kept->fronts[kept->next_front++ % FRONTS], text, text + bytes);
+}
+
+/* Reads the values behind a front, with the end of the line, and gives how many these are, or none where there is something
+   else. Most often there are as many as the function had before. */
+static size_t read_values(struct bb_front *front, const char *text, const char *end, bb_value *values)
+{
+    const char *at = text + front->bytes, *last = end - 2;
+    if (memcmp(last, ")\n", 2) == 0 && read_plains(at, last, values, front->count) == last)
+        return front->count;
+    bb_ask ask;
+    if (bb_read_values(at, end, &ask, values) != end)
+        return none;
+    front->count = ask.count;
+    return ask.count;
 }
 
 /* ---- Keeping */
@@ -77,34 +61,36 @@ static size_t room_of_run(const struct bb_kept *kept, size_t count)
     return (most - kept->values_kept) / (count ? count : 1);
 }
 
-/* Whether a front is `post 0 call 12 - (`, with one digit for the driver, and up to four for the function. */
-static bool is_short(const struct bb_front *front)
+/* Begins a run with a call of a front's function, whose values stand behind those that are kept. */
+static bb_posts *begin_run(struct bb_kept *kept, const struct bb_front *front, size_t count)
 {
-    return front->bytes && front->ask.driver <= 9 && front->ask.function <= 9999;
-}
-
-/* Begins a run with a call of the function of the front, whose values stand behind those that are kept. */
-static void begin_run(struct bb_kept *kept, size_t count)
-{
-    const bb_ask *ask = &kept->front.ask;
     bb_posts *run = &kept->runs[kept->runs_kept++];
-    *run = (bb_posts){ask->driver, ask->function, 1, count, kept->values + kept->values_kept};
+    *run = (bb_posts){front->ask.driver, front->ask.function, 1, count, kept->values + kept->values_kept};
     kept->values_kept += count;
     kept->room = room_of_run(kept, count);
-    kept->plain = count == 1 && is_short(&kept->front) ? run : NULL;
+    return run;
 }
 
-/* Keeps a call of the function of the front, with so many values: in the last run, if that has this front and as many. */
-static void keep(struct bb_kept *kept, size_t count, bool is_same_front)
+/* Puts a call of a front's function, with so many values, onto the last run, if that is one of such calls; or gives NULL. */
+static bb_posts *go_on(struct bb_kept *kept, const struct bb_front *front, size_t count)
 {
-    bb_posts *run = is_same_front && kept->runs_kept ? &kept->runs[kept->runs_kept - 1] : NULL;
-    if (!run || run->count != count) {
-        begin_run(kept, count);
-        return;
-    }
+    bb_posts *run = kept->runs_kept ? &kept->runs[kept->runs_kept - 1] : NULL;
+    if (!run || run->driver != front->ask.driver || run->function != front->ask.function || run->count != count)
+        return NULL;
     run->calls++;
     kept->values_kept += count;
     kept->room--;
+    return run;
+}
+
+/* Keeps a call of a front's function, with so many values. */
+static void keep(struct bb_kept *kept, struct bb_front *front, size_t count)
+{
+    bb_posts *run = go_on(kept, front, count);
+    if (!run)
+        run = begin_run(kept, front, count);
+    kept->front = front;
+    kept->last = run;
 }
 
 enum bb_keeping bb_keep_post(bb_engine *engine, const char *text, size_t bytes)
@@ -112,16 +98,13 @@ enum bb_keeping bb_keep_post(bb_engine *engine, const char *text, size_t bytes)
     if (!engine->posts && !(engine->posts = calloc(1, sizeof *engine->posts)))
         return BB_NO_MEMORY;
     struct bb_kept *kept = engine->posts;
-    const char *end = text + bytes;
-    bool is_same_front = has_front(&kept->front, text, end);
-    const char *values = is_same_front ? text + kept->front.bytes : read_front(&kept->front, text, end);
-    size_t count = values ? read_values(values, end, kept->values + kept->values_kept) : none;
+    struct bb_front *front = front_of(kept, text, bytes);
+    size_t count = front ? read_values(front, text, text + bytes, kept->values + kept->values_kept) : none;
     if (count == none) {
-        kept->front.bytes = 0;
-        kept->plain = NULL;
+        kept->last = NULL; /* whose front may be read over */
         return BB_NO_POST;
     }
-    keep(kept, count, is_same_front);
+    keep(kept, front, count);
     return BB_KEPT;
 }
 
@@ -152,7 +135,7 @@ void bb_forget_posts(bb_engine *engine)
     if (!kept)
         return;
     kept->runs_kept = kept->values_kept = kept->room = kept->runs_told = kept->left = 0;
-    kept->plain = NULL;
+    kept->last = NULL;
     kept->waits = false;
 }
 

@@ -5,6 +5,7 @@
    library for the program. The streams are a profile, standard input and standard output; there are no others. */
 #define _GNU_SOURCE
 #include "engine.h"
+#include "plain.h"
 
 #include <errno.h>
 #include <malloc.h>
@@ -32,8 +33,8 @@ enum { UNWATCHED = 64 };
 
 int bb_program_main(void);
 
-/* The engine whose program runs in this thread. */
-static _Thread_local bb_engine *now;
+/* The engine whose program runs in this thread. By this model no call is needed to find it in a shared library either. */
+static _Thread_local bb_engine *now __attribute__((tls_model("initial-exec")));
 
 /* ---- Running, on the engine's stack */
 
@@ -395,54 +396,6 @@ __attribute__((noinline)) static ssize_t write_apart(bb_engine *engine, int stre
     return is_post(bytes, count) ? write_post(engine, bytes, count) : write_text(engine, bytes, count);
 }
 
-static inline uint32_t four_at(const char *text)
-{
-    uint32_t four;
-    memcpy(&four, text, sizeof four);
-    return four;
-}
-
-/* Whether a text has a short front of so many bytes, `post 0 call 12 - (`. It is read in such pieces as the program has just
-   written it in: a processor hands on what was stored to a load that wants no more than one store has, and else the load
-   waits. */
-static inline bool has_short_front(const char *text, const char *front, size_t bytes)
-{
-    uint32_t words = (four_at(text) ^ four_at(front)) | (four_at(text + 7) ^ four_at(front + 7)) |
-                     (four_at(text + bytes - 4) ^ four_at(front + bytes - 4));
-    uint8_t rest = (uint8_t)((text[4] ^ front[4]) | (text[5] ^ front[5]) | (text[6] ^ front[6]) | (text[11] ^ front[11]));
-    for (size_t at = 12; at < bytes - 4; at++)
-        rest |= (uint8_t)(text[at] ^ front[at]);
-    return !(words | rest);
-}
-
-/* Reads a text that is `7)` and the end of a line. The parenthesis ends the digits, if nothing else does. */
-static inline bool read_last_number(const char *text, const char *end, uint64_t *number)
-{
-    if (memcmp(end - 2, ")\n", 2) != 0)
-        return false;
-    uint64_t sum = 0;
-    for (unsigned digit; (digit = (unsigned)(unsigned char)*text - '0') < 10; text++)
-        sum = sum * 10 + digit;
-    *number = sum;
-    return text == end - 2;
-}
-
-/* Keeps a post that is as the one before, with one number. False, with nothing done, where that is not so. */
-static inline bool keeps_number(struct bb_kept *kept, const char *text, size_t bytes)
-{
-    uint64_t number;
-    size_t front = kept->front.bytes;
-    if (bytes < front + 3 || !has_short_front(text, kept->front.text, front) ||
-        !read_last_number(text + front, text + bytes, &number))
-        return false;
-    bb_value *value = &kept->values[kept->values_kept++];
-    value->kind = BB_INT;
-    value->as.u64 = number;
-    kept->plain->calls++;
-    kept->room--;
-    return true;
-}
-
 /* Whether a post that is as the one before may be where the command ends. At the clock is looked for some of these alone. */
 static inline bool may_end(bb_engine *engine)
 {
@@ -450,15 +403,45 @@ static inline bool may_end(bb_engine *engine)
            atomic_load_explicit(&engine->cancelled, memory_order_relaxed);
 }
 
-/* The program writes a post as one line, by one call. */
+/* Whether a text is a post of the function that was posted last, so that its values are to be read alone. */
+static inline bool is_as_before(bb_engine *engine, const char *text, size_t bytes)
+{
+    struct bb_kept *kept = engine->posts;
+    return kept && kept->last && !may_end(engine) && is_post_with(kept->front, text, bytes);
+}
+
+/* Keeps the values that were put behind the others, as those of one call more of the last run. */
+static inline ssize_t keep_call(bb_engine *engine, size_t values, size_t count)
+{
+    struct bb_kept *posts = engine->posts;
+    posts->values_kept += values;
+    posts->last->calls++;
+    return --posts->room ? (ssize_t)count : kept(engine, count);
+}
+
+/* Keeps a post that is as the one before, if its values are plain ones. */
+__attribute__((noinline)) static ssize_t write_as_before(bb_engine *engine, const char *text, size_t count)
+{
+    struct bb_kept *kept = engine->posts;
+    const char *last = text + count - 2;
+    bb_value *values = &kept->values[kept->values_kept];
+    if (read_plains(text + kept->front->bytes, last, values, kept->last->count) != last)
+        return write_apart(engine, OUTPUT, text, count);
+    return keep_call(engine, kept->last->count, count);
+}
+
+/* The program writes a post as one line, by one call. Most have one value, and most of these no sign. */
 ssize_t bb_write(int stream, const void *bytes, size_t count)
 {
     bb_engine *engine = now;
-    bool is_plain = stream == OUTPUT && engine->posts && engine->posts->plain && !may_end(engine) &&
-                    keeps_number(engine->posts, bytes, count);
-    if (!is_plain)
+    const char *text = bytes;
+    if (stream != OUTPUT || !is_as_before(engine, text, count))
         return write_apart(engine, stream, bytes, count);
-    return engine->posts->room ? (ssize_t)count : kept(engine, count);
+    struct bb_kept *kept = engine->posts;
+    const char *at = text + kept->front->bytes;
+    bool is_natural = kept->last->count == 1 && digit_at(at) < 10 &&
+                      read_natural(at, &kept->values[kept->values_kept]) == text + count - 2;
+    return is_natural ? keep_call(engine, 1, count) : write_as_before(engine, text, count);
 }
 
 /* What the program's start calls, to say that the processor lacks what it was built for. */
