@@ -15,7 +15,7 @@
 #                at random moments; timeouts; scripts that use up the memory of their engine; long lists of events; exceptions out of
 #                callbacks
 #     posts      functions that are posted, by the callback, by steps and many at once: in their order, and before what is
-#                asked after them
+#                asked after them; and around each size at which the library goes another way with them
 #     growths    each growth of the heap is refused in turn, in each command of the examples
 #     deep       the deepest sections of trials/hostile.sh, on the least stack that the library takes
 #     checked    the hosts and the engines, with fewer of each, under valgrind, and with the library's C under gcc's address and
@@ -46,6 +46,7 @@ built() {
     gcc -std=gnu11 $flags $in/engines.c "$library" -o "$to/engines" -lpthread
     g++ -std=c++17 $flags $in/throws.cpp "$library" -o "$to/throws"
     gcc -std=gnu11 $flags $in/posts.c "$library" -o "$to/posts"
+    gcc -std=gnu11 $flags $in/runs.c "$library" -o "$to/runs"
     case $2 in *-DBB_TRIAL*) gcc -std=gnu11 $flags $in/growths.c $in/drivers.c $in/commands.c "$library" -o "$to/growths" ;; esac
 }
 
@@ -77,6 +78,7 @@ engines() {
 posts() {
     built plain -O2
     "$folder/plain/posts" || bad=1
+    "$folder/plain/runs" || bad=1
 }
 
 # A session of long lines, and of a long section.
@@ -114,10 +116,12 @@ checked() {
     "$folder/sanitized/engines" forms threads waits some cancels timeouts memory lists || bad=1
     "$folder/sanitized/throws" || bad=1
     "$folder/sanitized/posts" || bad=1
+    "$folder/sanitized/runs" few || bad=1
     "$folder/sanitized/growths" crates/examples/data/objects.profile crates/examples/data/objects.session || bad=1
     $valgrind "$folder/watched/engines" forms threads waits some || bad=1
     $valgrind "$folder/watched/throws" || bad=1
     $valgrind "$folder/watched/posts" || bad=1
+    $valgrind "$folder/watched/runs" few || bad=1
 }
 
 try_parts "game sessions engines posts growths deep checked" "$@"
