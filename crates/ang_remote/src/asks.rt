@@ -118,7 +118,7 @@ fn copied(alloc: Global, line: &[u8]) -> Result<Vec<u8>, AllocError>
     Ok(out)
 }
 
-/// The line of two values at most.
+/// The line of three values at most.
 fn short_line(
     alloc: Global,
     posted: bool,
@@ -128,7 +128,7 @@ fn short_line(
     object: Option<u64>,
     values: &[Value],
 ) -> Result<Vec<u8>, AllocError>
-    requires few { length values.now ≤ 2 }
+    requires few { length values.now ≤ 3 }
     ensures exact { IfOk result
         (λ r. r.items ≡ line_text posted driver kind f object values.now) }
 {

@@ -34,7 +34,7 @@ fn read_answer<R: Read>(alloc: Global, reader: &mut R) -> Said
     heard_as(heard, &line)
 }
 
-/// Writes the line of two values at most, for which it takes no memory. False where that failed: a front of it is written then.
+/// Writes the line of three values at most, for which it takes no memory. False where that failed: a front of it is written then.
 #[inline(always)]
 fn write_short<W: Write>(
     writer: &mut W,
@@ -45,7 +45,7 @@ fn write_short<W: Write>(
     object: Option<u64>,
     values: &[Value],
 ) -> bool
-    requires few { length values.now ≤ 2 }
+    requires few { length values.now ≤ 3 }
     ensures written { IsWritten (W.contents writer.old) (W.contents writer.new)
         (line_text posted driver kind f object values.now) result }
 {

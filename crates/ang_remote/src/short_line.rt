@@ -9,11 +9,11 @@ use ang_kinds::Value;
 use itoa::{Buffer, write_digits};
 
 /// The most values in a short line.
-pub const FEW: usize = 2;
+pub const FEW: usize = 3;
 
-/// Room for a short line: 25 bytes up to its driver's number, 51 from there to its values, 43 of these and 2 behind them at
+/// Room for a short line: 25 bytes up to its driver's number, 51 from there to its values, 65 of these and 2 behind them at
 /// most.
-pub const SHORT: usize = 128;
+pub const SHORT: usize = 144;
 
 /// Writes bytes so that they end at `end`, and gives where they start.
 #[inline(always)]
@@ -146,21 +146,37 @@ fn write_two(line: &mut [u8], first: Value, second: Value, end: usize) -> usize
     write_value(line, first, at)
 }
 
-/// Writes two values at most, with a comma between two.
-#[tactic(auto, unfolding(crate::specs::Asks::values_text))]
-#[inline(always)]
-fn write_values(line: &mut [u8], values: &[Value], end: usize) -> usize
-    requires few { length values.now ≤ 2 }
-    requires room { 43 ≤ end }
+/// Writes three values with a comma between two.
+#[inline(never)]
+fn write_three(line: &mut [u8], first: Value, second: Value, third: Value, end: usize) -> usize
+    requires room { 65 ≤ end }
     requires within { end ≤ length line.old }
     ensures before { result ≤ end }
-    ensures short { end ≤ result + 43 }
+    ensures short { end ≤ result + 65 }
+    ensures written { drop result line.new ≡ value_text first ++ codes "," ++ value_text second
+        ++ codes "," ++ value_text third ++ drop end line.old }
+{
+    let at = write_two(line, second, third, end);
+    let at = write_bytes(line, b",", at);
+    write_value(line, first, at)
+}
+
+/// Writes three values at most, with a comma between two.
+#[tactic(auto, using(crate::proofs::Texts::texts), unfolding(crate::specs::Asks::values_text))]
+#[inline(always)]
+fn write_values(line: &mut [u8], values: &[Value], end: usize) -> usize
+    requires few { length values.now ≤ 3 }
+    requires room { 65 ≤ end }
+    requires within { end ≤ length line.old }
+    ensures before { result ≤ end }
+    ensures short { end ≤ result + 65 }
     ensures written { drop result line.new ≡ values_text values.now ++ drop end line.old }
 {
     match values {
         [] => end,
         [only] => write_value(line, *only, end),
         [first, second] => write_two(line, *first, *second, end),
+        [first, second, third] => write_three(line, *first, *second, *third, end),
         _ => unreachable!(),
     }
 }
@@ -168,10 +184,10 @@ fn write_values(line: &mut [u8], values: &[Value], end: usize) -> usize
 /// Writes the values, at the end of the line.
 #[inline(always)]
 fn write_last(line: &mut [u8], values: &[Value]) -> usize
-    requires few { length values.now ≤ 2 }
-    requires long { length line.old ≡ 128 }
-    ensures before { result ≤ 128 }
-    ensures short { 83 ≤ result }
+    requires few { length values.now ≤ 3 }
+    requires long { length line.old ≡ 144 }
+    ensures before { result ≤ 144 }
+    ensures short { 77 ≤ result }
     ensures written { drop result line.new ≡ values_text values.now ++ codes ")\n" }
 {
     let at = write_bytes(line, b")\n", SHORT);
@@ -231,7 +247,7 @@ fn write_word(line: &mut [u8], posted: bool, end: usize) -> usize
     }
 }
 
-/// Writes the line of two values at most, and gives where it starts.
+/// Writes the line of three values at most, and gives where it starts.
 #[tactic(auto, unfolding(crate::specs::Asks::line_text))]
 #[inline(always)]
 pub fn write_line(
@@ -243,9 +259,9 @@ pub fn write_line(
     object: Option<u64>,
     values: &[Value],
 ) -> usize
-    requires few { length values.now ≤ 2 }
-    requires long { length line.old ≡ 128 }
-    ensures before { result ≤ 128 }
+    requires few { length values.now ≤ 3 }
+    requires long { length line.old ≡ 144 }
+    ensures before { result ≤ 144 }
     ensures written { drop result line.new
         ≡ line_text posted driver kind f object values.now }
 {

@@ -7,4 +7,4 @@ pub returns-clause-written : goal.returns-clause-written
 returns-clause-written c =
     c.write_values.ensures.written
     ∙ ap (λ l. values_text c.args.values.now ++ l)
-    (c.write_bytes-at.ensures.written ∙ ap (λ l. codes ")\n" ++ l) (drop_all 128 c.args.line.now (omega (arith, c.requires.long))))
+    (c.write_bytes-at.ensures.written ∙ ap (λ l. codes ")\n" ++ l) (drop_all 144 c.args.line.now (omega (arith, c.requires.long))))
