@@ -1,8 +1,9 @@
 -- Parts of a line that is written from its end.
 use Rattle.std.specs.Prelude.{Result, Ok, Err, OnOk, is_ok, if◌then◌else◌, codes, decimal}
-use Rattle.std.proofs.Common.{◌≡◌, ℕ, ◌+◌, ◌<◌, ◌≤◌, ◌^◌, List, [], ◌∷◌, ◌++◌, length, take, drop, refl, sym, ap, ◌∙◌, arith, append_assoc}
+use Rattle.std.proofs.Common.{◌≡◌, ℕ, ◌+◌, ◌-◌, ◌<◌, ◌≤◌, ◌^◌, List, [], ◌∷◌, ◌++◌, length, take, drop, refl, sym, ap, ◌∙◌, arith, append_assoc}
 use Rattle.std.proofs.lemmas.Fmt.{length-decimal-le}
-use Rattle.std.proofs.lemmas.List.{take-append-drop, length-take-le, take-take, take_at, drop-drop, drop_at, drop-append-le, drop-take, drop_all}
+use Rattle.std.proofs.Math.Seq.{take-append-add, drop-append-add}
+use Rattle.std.proofs.lemmas.List.{length-append, length-drop, take-append-drop, length-take-le, take-take, take_at, drop-drop, drop_at, drop-append-le, drop-take, drop_all}
 use Rattle.ang_kinds.specs.declared.error.Denial.{Denial}
 use Rattle.asrun_text.specs.Denied.{front_text, masks_text}
 use Rattle.std.specs.Prelude.{Option}
@@ -11,7 +12,8 @@ use Rattle.ang_host.specs.declared.event.HostEvent.TheVariants.{Called}
 use Rattle.ang_kinds.specs.declared.mask.EntityNo.{EntityNo}
 use Rattle.ang_kinds.specs.declared.value.Value.{Value}
 use Rattle.asrun_lines.specs.Texts.{object_text}
-use Rattle.asrun_text.specs.Text.{newline, values_text, host_reply_text, event_text, denial_text}
+use Rattle.ang_kinds.specs.declared.place.Place.{Place}
+use Rattle.asrun_text.specs.Text.{newline, place_text, values_text, host_reply_text, event_text, denial_text}
 
 -- what stands from a place on, in two parts
 cut : (xs : List ℕ) (i j : ℕ) → i ≤ j → j ≤ length xs → drop i xs ≡ drop i (take j xs) ++ drop j xs
@@ -66,6 +68,44 @@ pub parts_are : (d : Denial)
     → front_text d.place ++ (decimal d.entity.0 ++ masks_text d.entity_mask.0 d.module_mask.0) ≡ denial_text d
 unfolding denial_text
 parts_are d = simp append_assoc
+
+-- what stands in front of an entity's number has ten bytes at least
+front_long : (p : Place) → 10 ≤ length (front_text p)
+front_long p =
+    let line = decimal p.sect ++ codes ":" ++ decimal p.line in
+    let whole : length (front_text p) ≡ length (codes "denied " ++ place_text p) + 1 = length-append (codes "denied " ++ place_text p) (codes " ") in
+    let word : length (codes "denied " ++ place_text p) ≡ 7 + length (place_text p) = length-append (codes "denied ") (place_text p) in
+    let place : length (place_text p) ≡ length (line ++ codes ":") + length (decimal p.column) = length-append (line ++ codes ":") (decimal p.column) in
+    let second : length (line ++ codes ":") ≡ length line + 1 = length-append line (codes ":") in
+    let both : length line ≡ length (decimal p.sect ++ codes ":") + length (decimal p.line) = length-append (decimal p.sect ++ codes ":") (decimal p.line) in
+    let first : length (decimal p.sect ++ codes ":") ≡ length (decimal p.sect) + 1 = length-append (decimal p.sect) (codes ":") in
+    omega (arith, whole, word, place, second, both, first)
+
+-- so it starts as early
+pub front_early : (line : List ℕ) (p : Place) (start number : ℕ)
+    → number ≤ length line → drop start (take number line) ≡ front_text p → start + 10 ≤ number
+front_early line p start number within e =
+    omega (arith, front_long p, ap (λ l. length l) e, length-drop start (take number line), length-take-le number line within)
+
+-- a copy of a line, with another number of as many digits
+pub renumbered : (old line text : List ℕ) (start number at : ℕ) (d : Denial)
+    → start ≤ number → number ≤ 50
+    → drop start (take number line) ≡ front_text d.place
+    → drop 50 line ≡ masks_text d.entity_mask.0 d.module_mask.0
+    → at ≡ length old + (number - start)
+    → take at text ≡ take at (old ++ drop start line)
+    → drop at text ≡ decimal d.entity.0 ++ drop (length old + (50 - start)) (old ++ drop start line)
+    → text ≡ old ++ denial_text d
+renumbered old line text start number at d ordered within front masks place before written =
+    let rest = drop start line in
+    let digits : start + (number - start) ≡ number = omega (arith, ordered) in
+    let end : start + (50 - start) ≡ 50 = omega (arith, ordered, within) in
+    let first = before ∙ ap (λ k. take k (old ++ rest)) place ∙ take-append-add old rest (number - start)
+        ∙ ap (λ l. old ++ l) (sym (drop-take start (number - start) line) ∙ ap (λ k. drop start (take k line)) digits ∙ front) in
+    let last = written ∙ ap (λ l. decimal d.entity.0 ++ l) (drop-append-add old rest (50 - start) ∙ drop-drop (50 - start) start line
+        ∙ ap (λ k. drop k line) end ∙ masks) in
+    sym (take-append-drop at text) ∙ ap (λ l. l ++ drop at text) first ∙ append_assoc old (front_text d.place) (drop at text)
+    ∙ ap (λ l. old ++ (front_text d.place ++ l)) last ∙ ap (λ l. old ++ l) (parts_are d)
 
 -- a number of 64 bits has twenty digits at most
 pub long_number : (n : ℕ) → n < 2 ^ 64 → length (decimal n) ≤ 20

@@ -16,5 +16,6 @@ masks_text entity_mask module_mask = codes " " ++ mask_text entity_mask ++ codes
 -- behind the places of the number.
 pub record HasParts (line : List ℕ) (start number : ℕ) (d : Denial) : Type 0 where
   pub ordered : start ≤ number
+  pub within : number ≤ 50
   pub front : drop start (take number line) ≡ front_text d.place
   pub masks : drop 50 line ≡ masks_text d.entity_mask.0 d.module_mask.0

@@ -1,5 +1,5 @@
 //! The lines of denials: what a line has in common with the one before it is not written again.
-ghost use Rattle.std.specs.Prelude.{◌≡◌, ◌+◌, ◌<◌, ◌≤◌, ◌++◌, length, take, drop, OnOk, IsTrue, decimal, flat_map};
+ghost use Rattle.std.specs.Prelude.{◌≡◌, ◌+◌, ◌<◌, ◌≤◌, ◌++◌, length, take, drop, IfOk, OnOk, IsTrue, false, decimal, flat_map};
 ghost use Rattle.asrun_text.specs.Denied.{front_text, masks_text};
 ghost use Rattle.asrun_text.specs.Text.{mask_text, hex_digit, denial_text};
 
@@ -13,6 +13,9 @@ const LINE: usize = 69;
 
 /// Where the number of the entity ends.
 const NUMBER_END: usize = 50;
+
+/// The bytes behind it.
+const BEHIND: usize = LINE - NUMBER_END;
 
 fn hex_digit(d: u8) -> u8
     requires digit { d < 16 }
@@ -170,6 +173,64 @@ fn turn_front(
     write_front(line, denial.place, number)
 }
 
+/// Whether two denials have the same place and masks.
+#[inline(always)]
+fn is_alike(one: &Denial, other: &Denial) -> bool
+    ensures place { IsTrue result → one.now.place ≡ other.now.place }
+    ensures entity_mask { IsTrue result → one.now.entity_mask.0 ≡ other.now.entity_mask.0 }
+    ensures module_mask { IsTrue result → one.now.module_mask.0 ≡ other.now.module_mask.0 }
+{
+    one.place.column == other.place.column
+        && one.place.line == other.place.line
+        && one.place.sect == other.place.sect
+        && has_same_masks(one, other)
+}
+
+/// Writes a number in decimal digits over what stands in a text, so that they end at `end`, and gives where they start.
+#[inline(always)]
+fn put_number(out: &mut Vec<u8>, n: u32, end: usize) -> usize
+    requires room { 10 ≤ end }
+    requires within { end ≤ length out.old.items }
+    ensures short { length (decimal n) ≤ 10 }
+    ensures start { result + length (decimal n) ≡ end }
+    ensures written { drop result out.new.items ≡ decimal n ++ drop end out.old.items }
+    ensures before { take result out.new.items ≡ take result out.old.items }
+{
+    write_number(out.as_mut_slice(), n, end)
+}
+
+/// Puts the line of a denial as a copy of one of the same place and masks, whose number starts at `number`, and its own number
+/// over that: a number that was written into the line first would have to be waited for by the copy. False where the two
+/// numbers differ in their digits' count: nothing is put then.
+#[inline(always)]
+fn push_alike(
+    out: &mut Vec<u8>,
+    line: &[u8],
+    start: usize,
+    number: usize,
+    denial: &Denial,
+) -> Result<bool, AllocError>
+    requires long { length line.now ≡ 69 }
+    requires ordered { start ≤ number }
+    requires within { number ≤ 50 }
+    requires front { drop start (take number line.now) ≡ front_text denial.now.place }
+    requires masks { drop 50 line.now
+        ≡ masks_text denial.now.entity_mask.0 denial.now.module_mask.0 }
+    ensures added { IfOk result (λ put. IsTrue put
+        → out.new.items ≡ out.old.items ++ denial_text denial.now) }
+    ensures same { IfOk result (λ put. put ≡ false → out.new.items ≡ out.old.items) }
+{
+    let old = out.len();
+    out.extend_from_slice(&line[start..])?;
+    let end = out.len() - BEHIND;
+    let at = put_number(out, denial.entity.0, end);
+    if at == old + (number - start) {
+        return Ok(true);
+    }
+    out.truncate(old);
+    Ok(false)
+}
+
 /// The line of the denial that was put last, so that the next one is written only where it differs. `last` has its place and
 /// its masks.
 #[derive(Drop)]
@@ -213,6 +274,19 @@ impl DenialLine {
     /// A growth of memory was refused. Nothing is promised of `out` then.
     #[inline(always)]
     pub fn push(&mut self, out: &mut Vec<u8>, denial: &Denial) -> Result<(), AllocError>
+        ensures added { OnOk result (out.new.items ≡ out.old.items ++ denial_text denial.now) }
+    {
+        if is_alike(&self.last, denial)
+            && push_alike(out, &self.line, self.start, self.number, denial)?
+        {
+            return Ok(());
+        }
+        self.push_turned(out, denial)
+    }
+
+    /// The same of one that may have another place, other masks or more digits than the last.
+    #[inline(never)]
+    fn push_turned(&mut self, out: &mut Vec<u8>, denial: &Denial) -> Result<(), AllocError>
         ensures added { OnOk result (out.new.items ≡ out.old.items ++ denial_text denial.now) }
     {
         turn_masks(&mut self.line, &mut self.last, denial);

@@ -9,6 +9,7 @@ invariant_of-result c =
     let w = c.write_front-start.ensures in
     record {
       ordered = omega (arith, w.start);
+      within = omega arith;
       front = up_to _ place _ _ 50 w.written w.start;
       masks = behind _ place _ _ 50 w.written w.start ∙ c.write_masks.ensures.masks;
     }

@@ -2,7 +2,7 @@ use Rattle.std.proofs.Common.{◌++◌, take, drop, arith, sym, ap, ◌∙◌, d
 use Rattle.std.proofs.lemmas.Slice.{between_to_end}
 use Rattle.asrun_text.specs.Denied.{front_text}
 use Rattle.asrun_text.proofs.Parts.{behind, same_before, two_parts, on_ok_items, parts_are}
-use Rattle.asrun_text.proofs.denials.DenialLine.push.Goals as goal
+use Rattle.asrun_text.proofs.denials.DenialLine.push_turned.Goals as goal
 
 pub turn_front-self-inside-requires-clause-front : goal.turn_front-self-inside-requires-clause-front
 turn_front-self-inside-requires-clause-front c = λ e.
@@ -22,6 +22,7 @@ invariant_of-self c =
     let number = t.behind ∙ w.written ∙ ap (λ l. text ++ l) m.masks in
     record {
       ordered = t.ordered;
+      within = omega (arith, w.start);
       front = t.front ∙ ap front_text (sym t.place);
       masks = rw (t.entity_mask, t.module_mask, m.entity_mask, m.module_mask) (behind c.turn_front-self-inside.new.line text _ c.write_number-number.result 50 number w.start);
     }
