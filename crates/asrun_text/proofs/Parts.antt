@@ -101,9 +101,9 @@ renumbered old line text start number at d ordered within front masks place befo
     let digits : start + (number - start) ≡ number = omega (arith, ordered) in
     let end : start + (50 - start) ≡ 50 = omega (arith, ordered, within) in
     let first = before ∙ ap (λ k. take k (old ++ rest)) place ∙ take-append-add old rest (number - start)
-        ∙ ap (λ l. old ++ l) (sym (drop-take start (number - start) line) ∙ ap (λ k. drop start (take k line)) digits ∙ front) in
+    ∙ ap (λ l. old ++ l) (sym (drop-take start (number - start) line) ∙ ap (λ k. drop start (take k line)) digits ∙ front) in
     let last = written ∙ ap (λ l. decimal d.entity.0 ++ l) (drop-append-add old rest (50 - start) ∙ drop-drop (50 - start) start line
-        ∙ ap (λ k. drop k line) end ∙ masks) in
+    ∙ ap (λ k. drop k line) end ∙ masks) in
     sym (take-append-drop at text) ∙ ap (λ l. l ++ drop at text) first ∙ append_assoc old (front_text d.place) (drop at text)
     ∙ ap (λ l. old ++ (front_text d.place ++ l)) last ∙ ap (λ l. old ++ l) (parts_are d)
 
