@@ -87,6 +87,7 @@ struct bb_kept {
     bb_posts runs[MOST_RUNS];
     bb_value values[MOST_VALUES];
     size_t runs_kept, values_kept;
+    size_t empty_calls;     /* of runs before the last one: those without values, each of which takes the room of a value */
     size_t room;            /* how many more calls of the last run are kept before the host is told all */
     struct bb_front fronts[FRONTS];
     struct bb_front *front; /* that of the last run */

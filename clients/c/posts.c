@@ -55,16 +55,18 @@ static size_t read_values(struct bb_front *front, const char *text, const char *
 /* How many more calls of the last run may be kept, so that there is room for any post as long as there is for one of these. */
 static size_t room_of_run(const struct bb_kept *kept, size_t count)
 {
-    size_t most = MOST_VALUES - MOST_ARGUMENTS;
-    if (kept->runs_kept == MOST_RUNS || kept->values_kept > most)
+    size_t most = MOST_VALUES - MOST_ARGUMENTS, used = kept->values_kept + kept->empty_calls;
+    if (kept->runs_kept == MOST_RUNS || used > most)
         return 0;
-    return (most - kept->values_kept) / (count ? count : 1);
+    return (most - used) / (count ? count : 1);
 }
 
 /* Begins a run with a call of a front's function, whose values stand behind those that are kept. */
 static bb_posts *begin_run(struct bb_kept *kept, const struct bb_front *front, size_t count)
 {
     bb_posts *run = &kept->runs[kept->runs_kept++];
+    if (run > kept->runs && !run[-1].count)
+        kept->empty_calls += run[-1].calls;
     *run = (bb_posts){front->ask.driver, front->ask.function, 1, count, kept->values + kept->values_kept};
     kept->values_kept += count;
     kept->room = room_of_run(kept, count);
@@ -134,7 +136,7 @@ void bb_forget_posts(bb_engine *engine)
     struct bb_kept *kept = engine->posts;
     if (!kept)
         return;
-    kept->runs_kept = kept->values_kept = kept->room = kept->runs_told = kept->left = 0;
+    kept->runs_kept = kept->values_kept = kept->empty_calls = kept->room = kept->runs_told = kept->left = 0;
     kept->last = NULL;
     kept->waits = false;
 }

@@ -189,14 +189,15 @@ static bb_state at_once(bb_engine *engine, const char *text)
 {
     bb_state state = bb_begin(engine, text, strlen(text));
     for (; state == BB_ASKS; state = bb_resume(engine, NULL)) {
-        size_t runs, values = 0;
+        size_t runs, values = 0, calls = 0;
         const bb_posts *posts = bb_take_posts(engine, &runs);
         wants(posts && runs, "posts are taken where some wait", text);
-        for (size_t at = 0; at < runs; at++)
+        for (size_t at = 0; at < runs; calls += posts[at++].calls)
             values += hear_run(&posts[at]);
         most_values = values > most_values ? values : most_values;
         most_runs = runs > most_runs ? runs : most_runs;
-        wants(values <= MOST_VALUES && runs <= MOST_RUNS, "no more than is kept is taken at once", text);
+        bool few = calls <= MOST_VALUES && values <= MOST_VALUES && runs <= MOST_RUNS;
+        wants(few, "no more than is kept is taken at once", text);
     }
     return state;
 }
@@ -292,6 +293,8 @@ static void all_sizes(bool few)
     sizes(two, by_steps, few);
     sizes(two, at_once, few);
     sizes(two, half_at_once, few);
+    does(two, at_once, (struct part){NONE, LAST_ROOM - 1}, (struct part){ONE, LAST_ROOM});
+    does(two, at_once, (struct part){ONE, 1}, (struct part){NONE, 2 * LAST_ROOM});
     wants(most_values > LAST_ROOM || few, "more values are kept than leave room for any call", "sizes\n");
     wants(most_values == MOST_VALUES - 1 || few, "as many values as can be are kept at once", "sizes\n");
     wants(most_runs == MOST_RUNS, "as many runs as there is room for are kept at once", "sizes\n");
