@@ -156,6 +156,7 @@ fn local_named(
 /// use of the name as a value: `UnknownName` where nothing has it. `Memory` where a growth was
 /// refused.
 #[tactic(auto, unfolding(crate::specs::Names::name_typing))]
+#[inline(never)]
 pub fn named(
     alloc: Global,
     context: &BodyContext<'_>,

@@ -122,6 +122,7 @@ fn scoped_name_use(
 /// `UnknownName`: at the enumeration's name where the module sees none of that name, else at the
 /// value's where it has none of that name. `Memory` where a growth was refused.
 #[tactic(auto, unfolding(crate::specs::Names::scoped_name_typing))]
+#[inline(never)]
 pub fn scoped_name(
     alloc: Global,
     context: &BodyContext<'_>,

@@ -188,6 +188,7 @@ fn assignment_by(
 /// `NoAssign` at the `=` in front of which an object or a handle stands without `@`; then `BadConversion` at the first
 /// token of the first operand that can't stand there. `Memory` where a growth was refused.
 #[tactic(auto, unfolding(crate::specs::Operations::assignment_typing))]
+#[inline(never)]
 pub fn assignment(
     alloc: Global,
     lineage: &Lineage,

@@ -228,6 +228,7 @@ fn form_of(operator: TokenKind) -> Option<OperatorForm>
 /// `BadConversion` or, for `&&`, `||` and `xor`, `NotBool` at the first token of the first operand that can't
 /// stand there. `Memory` where a growth was refused.
 #[tactic(auto, unfolding(crate::specs::Operations::binary_typing))]
+#[inline(never)]
 pub fn binary(
     alloc: Global,
     lineage: &Lineage,

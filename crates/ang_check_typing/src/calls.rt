@@ -123,6 +123,7 @@ fn method_of_this(
 /// to the enumeration or what makes an object of the type of the name, else functions. Locals and
 /// fields of the name play no part.
 #[tactic(auto, unfolding(crate::specs::Calls::call_typing))]
+#[inline(never)]
 pub fn call(
     alloc: Global,
     context: &BodyContext<'_>,
@@ -195,6 +196,7 @@ fn method_above(
 
 /// A method of a class above the body's, as that class has it, called on `this`.
 #[tactic(auto, unfolding(crate::specs::Calls::scoped_typing))]
+#[inline(never)]
 pub fn scoped_call(
     alloc: Global,
     context: &BodyContext<'_>,

@@ -1,4 +1,7 @@
 //! The typing of expressions.
+//!
+//! What nests 250 deep has as many frames of `typing` and of one function below it on the stack. So what names, calls and
+//! operators need for themselves stands in frames that are gone when the next operand is typed: those functions are marked.
 ghost use Rattle.std.specs.Prelude.{◌≡◌, IfOk, true, ◌++◌, ◌∷◌, []};
 ghost use Rattle.ang_tree.specs.View as trees;
 ghost use Rattle.ang_check_operators.specs.Refusals.{Gives};
@@ -30,6 +33,7 @@ fn with_operand(first: Vec<Operand>, operand: Operand) -> Result<Vec<Operand>, A
 }
 
 /// A number, `true`, `false`, `null` or `this`.
+#[inline(never)]
 fn word(alloc: Global, context: &BodyContext<'_>, token: &Token) -> Result<Operand, TypingError>
     ensures exact { Gives view_operand result
         (spec.word_by context.now token.now token.now.kind) }
@@ -133,6 +137,7 @@ pub fn typing(
 
 /// The typing of a cast, a member or a call of a method.
 #[cycle(typing)]
+#[inline(never)]
 fn typing_over_object(
     alloc: Global,
     context: &BodyContext<'_>,
@@ -169,6 +174,7 @@ fn typing_over_object(
 
 /// The typing of an expression with one operand.
 #[cycle(typing)]
+#[inline(never)]
 fn typing_over_one(
     alloc: Global,
     context: &BodyContext<'_>,
@@ -206,6 +212,7 @@ fn typing_over_one(
 
 /// The typing of an operation on two operands, or of an assignment.
 #[cycle(typing)]
+#[inline(never)]
 fn typing_over_two(
     alloc: Global,
     context: &BodyContext<'_>,
@@ -241,6 +248,7 @@ fn typing_over_two(
 
 /// The typing of `?:`.
 #[cycle(typing)]
+#[inline(never)]
 fn typing_over_three(
     alloc: Global,
     context: &BodyContext<'_>,

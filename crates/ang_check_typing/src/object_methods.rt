@@ -61,6 +61,7 @@ fn script_method(
 /// `Ambiguous` where none of its methods is the best, `Private` or `Protected` of one that the body may not use,
 /// besides the refusals of the arguments. `Memory` where a growth was refused.
 #[tactic(auto, unfolding(crate::specs::Calls::method_call_typing))]
+#[inline(never)]
 pub fn method_call(
     alloc: Global,
     context: &BodyContext<'_>,
