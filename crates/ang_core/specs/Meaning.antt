@@ -29,7 +29,7 @@ abbrev mutual
   eval z m c (Assign' i p e) ls t w = assigned i (eval z m c e ls t w)
   eval z m c (Update' i by p e) ls t w = altered i by (eval z m c e ls t w)
   eval z m c (Apply' o shape args) ls t w = applied (perform z m o) (eval_args z m c args [] ls t w)
-  eval z m c (Call' f shape args outs) ls t w = called m (c f) outs.items (eval_args z m c args [] ls t w)
+  eval z m c (Call' f shape args outs) ls t w = called m (c f) outs.value.items (eval_args z m c args [] ls t w)
   eval z m c (Choose' p a q b s d) ls t w = chosen (eval z m c a ls t w) (eval z m c b) (eval z m c d)
 
   pub eval_args : {k : _} → Environment → ℕ → Callees → Row_of-CoreExpression k → List Slot → List Slot → ℕ → World → Gathered

@@ -65,7 +65,7 @@ abbrev mutual
   Sound z m n (Assign' i p e) = (i < n) × Sound z m n e
   Sound z m n (Update' i by p e) = (i < n) × Sound z m n e
   Sound z m n (Apply' o shape args) = (row_count args ≡ operands z m o) × (is_fit z m o ≡ true) × SoundArgs z m n args
-  Sound z m n (Call' f shape args outs) = Fits z m f (row_count args) (length outs.items) × AreSpots n outs.items × SoundArgs z m n args
+  Sound z m n (Call' f shape args outs) = Fits z m f (row_count args) (length outs.value.items) × AreSpots n outs.value.items × SoundArgs z m n args
   Sound z m n (Choose' p a q b s c) = Sound z m n a × Sound z m n b × Sound z m n c
 
   pub SoundArgs : {k : _} → Environment → ℕ → ℕ → Row_of-CoreExpression k → Type 0

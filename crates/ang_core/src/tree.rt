@@ -20,7 +20,7 @@ pub enum CoreExpression {
     /// A call of a script function with all its arguments, in order, and the variables that its `&out`
     /// parameters' values move into, the last one first. The argument of an `&out` parameter is 0, false
     /// or null.
-    Call(Callee, Vec<CoreExpression>, Vec<Target>),
+    Call(Callee, Vec<CoreExpression>, Box<Vec<Target>>),
     /// The second where the first is true, and else the third.
     Choose(Box<CoreExpression>, Box<CoreExpression>, Box<CoreExpression>),
 }

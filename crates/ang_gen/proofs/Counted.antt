@@ -3,6 +3,7 @@ use Rattle.std.proofs.Common.{◌≡◌, ℕ, suc, ◌+◌, ◌<◌, ◌≤◌, 
 use Rattle.std.specs.Prelude.{max, map, reverse}
 use Rattle.std.proofs.Math.Nat.{mod-eq_of_lt}
 use Rattle.std.proofs.lemmas.List.{length-map, length-reverse}
+use Rattle.std.specs.declared.boxed.Box.{Box}
 use Rattle.std.specs.declared.vec.Vec.{Vec}
 use Rattle.std.specs.declared.alloc.Global.{Global}
 use denote.Ref.{Bor}
@@ -85,9 +86,9 @@ apply_room d o v e xs xs_is e_is few =
     let parts : peak d e ≡ max (d + 1) (list_peak d xs) = ap (λ x. peak d x) e_is ∙ apply_peak d o v ∙ ap (λ l. max (d + 1) (list_peak d l)) (sym xs_is) in
     omega arith
 
-pub call_room : (d : ℕ) (f : Callee) (v : Vec CoreExpression Global) (ts : Vec Target Global) (e : CoreExpression) (xs : List CoreExpression) → xs ≡ v.items → e ≡ Call f v ts → peak d e < 2 ^ 64 → list_peak d xs < 2 ^ 64
+pub call_room : (d : ℕ) (f : Callee) (v : Vec CoreExpression Global) (ts : Box (Vec Target Global) Global) (e : CoreExpression) (xs : List CoreExpression) → xs ≡ v.items → e ≡ Call f v ts → peak d e < 2 ^ 64 → list_peak d xs < 2 ^ 64
 call_room d f v ts e xs xs_is e_is few =
-    let own = length ts.items + d + 1 in
+    let own = length ts.value.items + d + 1 in
     let parts : peak d e ≡ max own (list_peak d xs) = ap (λ x. peak d x) e_is ∙ call_peak d f v ts ∙ ap (λ l. max own (list_peak d l)) (sym xs_is) in
     omega arith
 

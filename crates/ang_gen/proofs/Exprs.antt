@@ -240,11 +240,11 @@ module _ (z : Environment) (code : Texts) (r : Running) where
             (args_runs args pc [] s ls t w (has_front (code.text r.of) pc ca _ has) ok.2 low.1 le))
         eval_runs (Call' f shape args outs) pc s ls t w has ok low le =
             let ca = args_code (length s) args in
-            let co = outs_code (length s) outs.items in
+            let co = outs_code (length s) outs.value.items in
             let len : pc + length ca + 1 + length co ≡ pc + length (ca ++ Enter f ∷ co) = omega (arith, length-append ca (Enter f ∷ co)) in
             let same : row_count args ≡ row_count args + 0 = omega arith in
             eval_ends _ _ _ s (length ls) t _ len
-            (call_goes _ (pc + length ca) f outs.items s (length ls) (row_count args + 0) t (eval_args z r.of.home calls args [] ls t w) (has_back (code.text r.of) pc ca _ has) (subst (λ j. Fits z r.of.home f j (length outs.items)) same ok.0) ok.1 low.0 le
+            (call_goes _ (pc + length ca) f outs.value.items s (length ls) (row_count args + 0) t (eval_args z r.of.home calls args [] ls t w) (has_back (code.text r.of) pc ca _ has) (subst (λ j. Fits z r.of.home f j (length outs.value.items)) same ok.0) ok.1 low.0 le
             (args_runs args pc [] s ls t w (has_front (code.text r.of) pc ca _ has) ok.2 low.1 le))
         eval_runs (Choose' p1 a p2 c p3 d) pc s ls t w has ok low le =
             let ca = expr_code (length s) a in let cc = expr_code (length s) c in let cd = expr_code (length s) d in

@@ -1,6 +1,7 @@
 -- A row of children in a tree and the list of its elements.
 use Rattle.std.proofs.Common.{◌≡◌, ℕ, suc, ◌+◌, [], ◌∷◌, ◌++◌, length, refl, ap, ◌∙◌}
 use Rattle.std.specs.Prelude.{max}
+use Rattle.std.specs.declared.boxed.Box.{Box}
 use Rattle.std.specs.declared.vec.Vec.{Vec}
 use Rattle.std.specs.declared.alloc.Global.{Global}
 use Rattle.ang_meaning.specs.declared.operation.Operation.{Operation}
@@ -29,8 +30,8 @@ args_code_is d v =
 pub apply_code : (d : ℕ) (o : Operation) (v : Vec CoreExpression Global) → expr_code d (Apply o v) ≡ list_code d v.items ++ InstructionApply o ∷ []
 apply_code d o v = ap (λ l. l ++ InstructionApply o ∷ []) (args_code_is d v)
 
-pub call_code : (d : ℕ) (f : Callee) (v : Vec CoreExpression Global) (xs : Vec Target Global) → expr_code d (Call f v xs) ≡ list_code d v.items ++ (Enter f ∷ outs_code d xs.items)
-call_code d f v xs = ap (λ l. l ++ (Enter f ∷ outs_code d xs.items)) (args_code_is d v)
+pub call_code : (d : ℕ) (f : Callee) (v : Vec CoreExpression Global) (xs : Box (Vec Target Global) Global) → expr_code d (Call f v xs) ≡ list_code d v.items ++ (Enter f ∷ outs_code d xs.value.items)
+call_code d f v xs = ap (λ l. l ++ (Enter f ∷ outs_code d xs.value.items)) (args_code_is d v)
 
 args_peak_list : {m : _} → (d : ℕ) (k : Row_of-CoreExpression m) → args_peak d k ≡ list_peak d (items-the_row-CoreExpression m k)
 args_peak_list d end_of-CoreExpression = refl
@@ -43,8 +44,8 @@ args_peak_is d v =
 pub apply_peak : (d : ℕ) (o : Operation) (v : Vec CoreExpression Global) → peak d (Apply o v) ≡ max (d + 1) (list_peak d v.items)
 apply_peak d o v = ap (λ n. max (d + 1) n) (args_peak_is d v)
 
-pub call_peak : (d : ℕ) (f : Callee) (v : Vec CoreExpression Global) (xs : Vec Target Global) → peak d (Call f v xs) ≡ max (length xs.items + d + 1) (list_peak d v.items)
-call_peak d f v xs = ap (λ n. max (length xs.items + d + 1) n) (args_peak_is d v)
+pub call_peak : (d : ℕ) (f : Callee) (v : Vec CoreExpression Global) (xs : Box (Vec Target Global) Global) → peak d (Call f v xs) ≡ max (length xs.value.items + d + 1) (list_peak d v.items)
+call_peak d f v xs = ap (λ n. max (length xs.value.items + d + 1) n) (args_peak_is d v)
 
 -- ---- statements
 

@@ -59,7 +59,7 @@ abbrev mutual
   expr_code d (Assign' i p e) = expr_code d e ++ Store (place_above d i) ∷ []
   expr_code d (Update' i by p e) = expr_code d e ++ Update by (place_above d i) ∷ []
   expr_code d (Apply' o shape args) = args_code d args ++ Apply o ∷ []
-  expr_code d (Call' f shape args outs) = args_code d args ++ (Enter f ∷ outs_code d outs.items)
+  expr_code d (Call' f shape args outs) = args_code d args ++ (Enter f ∷ outs_code d outs.value.items)
   expr_code d (Choose' p a q b s c) = if_code (expr_code d a) (expr_code d b) (expr_code d c)
 
   pub args_code : {k : _} → ℕ → Row_of-CoreExpression k → List Instruction

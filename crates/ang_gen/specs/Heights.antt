@@ -15,7 +15,7 @@ abbrev mutual
   Below h d (Assign' i p e) = Below h d e
   Below h d (Update' i by p e) = Below h d e
   Below h d (Apply' o shape args) = (d < h) × BelowArgs h d args
-  Below h d (Call' f shape args outs) = (length outs.items + d < h) × BelowArgs h d args
+  Below h d (Call' f shape args outs) = (length outs.value.items + d < h) × BelowArgs h d args
   Below h d (Choose' p a q b s c) = Below h d a × Below h d b × Below h d c
 
   pub BelowArgs : {k : _} → ℕ → ℕ → Row_of-CoreExpression k → Type 0

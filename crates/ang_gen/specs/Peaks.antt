@@ -15,7 +15,7 @@ abbrev mutual
   peak d (Assign' i p e) = peak d e
   peak d (Update' i by p e) = peak d e
   peak d (Apply' o shape args) = max (d + 1) (args_peak d args)
-  peak d (Call' f shape args outs) = max (length outs.items + d + 1) (args_peak d args)
+  peak d (Call' f shape args outs) = max (length outs.value.items + d + 1) (args_peak d args)
   peak d (Choose' p a q b s c) = max (peak d a) (max (peak d b) (peak d c))
 
   pub args_peak : {k : _} → ℕ → Row_of-CoreExpression k → ℕ

@@ -1,5 +1,6 @@
 -- A row of operands in a core tree, and the list of its items.
 use Rattle.std.proofs.Common.{◌≡◌, refl, ap, ◌∙◌, map as list_map}
+use Rattle.std.specs.declared.boxed.Box.{Box}
 use Rattle.std.specs.declared.vec.Vec.{Vec}
 use Rattle.std.specs.declared.alloc.Global.{Global}
 use Rattle.ang_meaning.specs.declared.operation.Operation.{Operation}
@@ -22,5 +23,5 @@ operands_are v =
 pub applied : (o : Operation) (v : Vec CoreExpression Global) → plain_expr (Apply o v) ≡ c.apply o (c.exprs (list_map plain_expr v.items))
 applied o v = ap (λ es. c.apply o es) (operands_are v)
 
-pub called : (f : Callee) (v : Vec CoreExpression Global) (xs : Vec Target Global) → plain_expr (Call f v xs) ≡ c.call f (c.exprs (list_map plain_expr v.items)) xs.items
-called f v xs = ap (λ es. c.call f es xs.items) (operands_are v)
+pub called : (f : Callee) (v : Vec CoreExpression Global) (xs : Box (Vec Target Global) Global) → plain_expr (Call f v xs) ≡ c.call f (c.exprs (list_map plain_expr v.items)) xs.value.items
+called f v xs = ap (λ es. c.call f es xs.value.items) (operands_are v)

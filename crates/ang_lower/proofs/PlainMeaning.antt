@@ -84,7 +84,7 @@ mutual
   eval_is z m k (Assign' i p e) ls t w = λ j. assigned i (eval_is z m k e ls t w j)
   eval_is z m k (Update' i by p e) ls t w = λ j. altered i by (eval_is z m k e ls t w j)
   eval_is z m k (Apply' o shape args) ls t w = λ j. applied (perform z m o) (eval_args_is z m k args [] ls t w j)
-  eval_is z m k (Call' f shape args outs) ls t w = λ j. called m (k f) outs.items (eval_args_is z m k args [] ls t w j)
+  eval_is z m k (Call' f shape args outs) ls t w = λ j. called m (k f) outs.value.items (eval_args_is z m k args [] ls t w j)
   eval_is z m k (Choose' p a q b s d) ls t w =
       λ j. chosen (eval_is z m k a ls t w j) (λ ls' t' w'. eval_is z m k b ls' t' w' j) (λ ls' t' w'. eval_is z m k d ls' t' w' j)
 

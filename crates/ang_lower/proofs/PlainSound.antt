@@ -80,7 +80,7 @@ module _ (z : Environment) (m : ℕ) where
     sound_is n (Assign' i p e) h = (h.0, sound_is n e h.1)
     sound_is n (Update' i by p e) h = (h.0, sound_is n e h.1)
     sound_is n (Apply' o shape args) h = (sym (count_is args) ∙ h.0, h.1, args_are n args h.2)
-    sound_is n (Call' f shape args outs) h = (subst (λ i. Fits z m f i (length outs.items)) (count_is args) h.0, h.1, args_are n args h.2)
+    sound_is n (Call' f shape args outs) h = (subst (λ i. Fits z m f i (length outs.value.items)) (count_is args) h.0, h.1, args_are n args h.2)
     sound_is n (Choose' p a q b s d) h = (sound_is n a h.0, sound_is n b h.1, sound_is n d h.2)
 
     args_are : {r : _} → (n : ℕ) (args : Row_of-CoreExpression r) → AreSoundArgs z m n (plain_row args) → SoundArgs z m n args

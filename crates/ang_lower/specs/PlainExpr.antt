@@ -13,7 +13,7 @@ abbrev mutual
   plain_expr (Assign' i p e) = c.assign i (plain_expr e)
   plain_expr (Update' i by p e) = c.change i by (plain_expr e)
   plain_expr (Apply' o shape args) = c.apply o (plain_row args)
-  plain_expr (Call' f shape args outs) = c.call f (plain_row args) outs.items
+  plain_expr (Call' f shape args outs) = c.call f (plain_row args) outs.value.items
   plain_expr (Choose' p a q b s d) = c.choose (plain_expr a) (plain_expr b) (plain_expr d)
 
   pub plain_row : {k : _} → Row_of-CoreExpression k → c.Exprs

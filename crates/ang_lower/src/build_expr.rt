@@ -16,12 +16,30 @@ pub fn apply(operation: Operation, operands: Vec<CoreExpression>) -> CoreExpress
     CoreExpression::Apply(operation, operands)
 }
 
-/// A call with these arguments and targets.
-pub fn call(callee: Callee, arguments: Vec<CoreExpression>, targets: Vec<Target>) -> CoreExpression
+/// A call with these arguments, and targets in a box.
+fn call_of(
+    callee: Callee,
+    arguments: Vec<CoreExpression>,
+    targets: Box<Vec<Target>>,
+) -> CoreExpression
     ensures exact { plain_expr result
-        ≡ tree.call callee (tree.exprs (list_map plain_expr arguments.items)) targets.items }
+        ≡ tree.call callee (tree.exprs (list_map plain_expr arguments.items)) targets.value.items }
 {
     CoreExpression::Call(callee, arguments, targets)
+}
+
+/// A call with these arguments and targets.
+pub fn call(
+    alloc: Global,
+    callee: Callee,
+    arguments: Vec<CoreExpression>,
+    targets: Vec<Target>,
+) -> Result<CoreExpression, AllocError>
+    ensures exact { IfOk result (λ x. plain_expr x
+        ≡ tree.call callee (tree.exprs (list_map plain_expr arguments.items)) targets.items) }
+{
+    let targets = Box::new(alloc, targets)?;
+    Ok(call_of(callee, arguments, targets))
 }
 
 /// The list with one more operand at its end.

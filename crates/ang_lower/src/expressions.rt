@@ -312,7 +312,7 @@ fn lower_call(
             let called = code_callee(*callee);
             let values = lower_arguments(alloc, alive, arguments.as_slice())?;
             let targets = targets(alloc, alive, arguments.as_slice())?;
-            Ok(call(called, values, targets))
+            call(alloc, called, values, targets)
         }
         typed::TypedExpression::HostCall {
             host,
@@ -361,7 +361,7 @@ fn lower_make(
             add_operand(&mut values, object)?;
             add_arguments(alloc, alive, arguments, &mut values)?;
             let targets = targets(alloc, alive, arguments)?;
-            Ok(call(Callee::Own(body), values, targets))
+            call(alloc, Callee::Own(body), values, targets)
         }
     }
 }

@@ -1,9 +1,12 @@
 use Rattle.std.proofs.Common.{rules, ◌≡◌, ◌+◌, ◌-◌, [], ◌∷◌, ◌++◌, length, OnOk, suc, ap, sym, subst, ◌∙◌, arith, append_assoc}
 use Rattle.std.specs.Prelude.{map}
+use Rattle.std.specs.declared.alloc.Global.{Global}
+use Rattle.std.specs.declared.vec.Vec.{Vec}
 use Rattle.std.proofs.lemmas.Grind.{common_steps}
 use Rattle.std.proofs.lemmas.List.{length_push, length-reverse}
 use Rattle.std.proofs.lemmas.Iterator.Adapters.{YieldsList-from_rev_slice}
 use Rattle.std.proofs.lemmas.Iterator.Consumers.{YieldsList-turn, YieldsList-so_far}
+use Rattle.ang_meaning.specs.declared.routine.Target.{Target}
 use Rattle.ang_code.specs.declared.instruction.Instruction.TheVariants.{Apply, Enter}
 use Rattle.ang_gen.specs.Code.{expr_code, outs_code}
 use Rattle.ang_core.specs.declared.tree.CoreExpression.TheFolds.{the_lemmas}
@@ -25,7 +28,7 @@ write_expression-write_operands-requires t c = (
 pub write_expression-write_operands-requires-in-Call : goal.write_expression-write_operands-requires-in-Call
 write_expression-write_operands-requires-in-Call t c = (
   first_of (search (rules, the_lemmas), grind (the_lemmas, arith, common_steps)),
-  call_room c.args.above c.in-Call.callee c.in-Call.operands c.in-Call.targets c.args.e.now c.deref-in-Call-2.result.now c.deref-in-Call-2.ensures.value c.in-Call.is c.requires.room,
+  call_room c.args.above c.in-Call.callee c.in-Call.operands c.in-Call.targets c.args.e.now c.deref-in-Call-3.result.now c.deref-in-Call-3.ensures.value c.in-Call.is c.requires.room,
 )
 
 pub write_operands-overflow_add-next : goal.write_operands-overflow_add-next
@@ -57,11 +60,11 @@ write_expression-returns-in_ok-put-in-Apply t c =
 
 pub write_expression-returns-in_ok-put-in-Call : goal.write_expression-returns-in_ok-put-in-Call
 write_expression-returns-in_ok-put-in-Call t c =
-    let d = c.args.above in let old = c.args.text.now in let items = c.in-Call.operands.items in let outs = c.in-Call.targets.items in
-    let same : list_code d c.deref-in-Call-2.result.now ++ c.put-in-Call.new.self ≡ expr_code d c.args.e.now ++ old =
-    ap (λ l. list_code d l ++ c.put-in-Call.new.self) c.deref-in-Call-2.ensures.value
+    let d = c.args.above in let old = c.args.text.now in let items = c.in-Call.operands.items in let outs = c.in-Call.targets.value.items in
+    let same : list_code d c.deref-in-Call-3.result.now ++ c.put-in-Call.new.self ≡ expr_code d c.args.e.now ++ old =
+    ap (λ l. list_code d l ++ c.put-in-Call.new.self) c.deref-in-Call-3.ensures.value
     ∙ ap (λ l. list_code d items ++ l) c.in_ok-put-in-Call.ensures.before
-    ∙ ap (λ l. list_code d items ++ (Enter c.in-Call.callee ∷ l)) (c.in_ok-write_outs-in-Call.ensures.code ∙ ap (λ l. outs_code d l ++ old) c.deref-in-Call.ensures.value)
+    ∙ ap (λ l. list_code d items ++ (Enter c.in-Call.callee ∷ l)) (c.in_ok-write_outs-in-Call.ensures.code ∙ ap (λ l. outs_code d l ++ old) (c.deref-in-Call-2.ensures.value ∙ ap (λ (v : Vec Target Global). v.items) c.deref-in-Call.ensures))
     ∙ sym (append_assoc (list_code d items) (Enter c.in-Call.callee ∷ outs_code d outs) old)
     ∙ ap (λ l. l ++ old) (sym (call_code d c.in-Call.callee c.in-Call.operands c.in-Call.targets))
     ∙ ap (λ x. expr_code d x ++ old) (sym c.in-Call.is) in

@@ -1,5 +1,9 @@
 use Rattle.std.proofs.Common.{◌≡◌, ◌+◌, length, ap, sym, ◌∙◌, arith}
 use Rattle.std.specs.Prelude.{max}
+use Rattle.std.specs.Vec.{vec_len}
+use Rattle.std.specs.declared.alloc.Global.{Global}
+use Rattle.std.specs.declared.vec.Vec.{Vec}
+use Rattle.ang_meaning.specs.declared.routine.Target.{Target}
 use Rattle.ang_gen.specs.Peaks.{peak, list_peak}
 use Rattle.ang_gen.proofs.Lists.{apply_peak, call_peak}
 use Rattle.ang_gen.proofs.Turns.{greater_is, peak_turn, peak_end}
@@ -20,13 +24,13 @@ expression_peak-returns-in_ok-inner-in-Apply t c =
 pub expression_peak-returns-in_ok-inner-in-Call : goal.expression_peak-returns-in_ok-inner-in-Call
 expression_peak-returns-in_ok-inner-in-Call t c =
     let d = c.args.below in
-    let count : c.len.result ≡ length c.in-Call.targets.items = c.len.ensures ∙ c.in-Call.targets.ok.0 in
-    let own : c.in_ok-own-in-Call.own ≡ length c.in-Call.targets.items + d + 1 = omega (arith, c.in_ok-own-in-Call.ensures.exact, c.in_ok-outs-in-Call.ensures.exact) in
+    let count : c.len.result ≡ length c.in-Call.targets.value.items = c.len.ensures ∙ ap (λ (v : Vec Target Global). vec_len v) c.deref-in-Call.ensures ∙ c.in-Call.targets.value.ok.0 in
+    let own : c.in_ok-own-in-Call.own ≡ length c.in-Call.targets.value.items + d + 1 = omega (arith, c.in_ok-own-in-Call.ensures.exact, c.in_ok-outs-in-Call.ensures.exact) in
     record {
       exact =
           c.max-in-Call.ensures
           ∙ ap (λ n. max n c.in_ok-inner-in-Call.inner) own
-          ∙ ap (λ n. max (length c.in-Call.targets.items + d + 1) n) (c.in_ok-inner-in-Call.ensures.exact ∙ ap (λ l. list_peak d l) c.deref-in-Call.ensures.value)
+          ∙ ap (λ n. max (length c.in-Call.targets.value.items + d + 1) n) (c.in_ok-inner-in-Call.ensures.exact ∙ ap (λ l. list_peak d l) c.deref-in-Call-2.ensures.value)
           ∙ sym (call_peak d c.in-Call.field-0 c.in-Call.operands c.in-Call.targets)
           ∙ ap (λ x. peak d x) (sym c.in-Call.is);
     }
