@@ -7,7 +7,7 @@
 //! `laws` says that it does, and that a module's code behaves as its source.
 #![tactic(auto)]
 
-ghost use Rattle.std.specs.Prelude.{◌≡◌, IfOk, map as list_map};
+ghost use Rattle.std.specs.Prelude.{◌≡◌, IfOk, [], map as list_map};
 ghost use Rattle.ang_typed.specs.View.{view_typed};
 ghost use Rattle.ang_view.specs.Registration.{RegistrationList};
 ghost use Rattle.ang_source.specs.Sound.{SoundProgram};
@@ -79,11 +79,14 @@ fn generate_lowered(alloc: Global, program: LoweredTree) -> Result<Code, AllocEr
 /// Want of memory.
 pub fn generate_dropping_bodies(alloc: Global, tree: Typed) -> Result<(Code, Typed), AllocError>
     requires sound { (V : RegistrationList) × SoundProgram V (view_typed tree) }
+    ensures means { IfOk result (λ made. MeansProgram (view_typed tree) made.0) }
     ensures code { IfOk result (λ made. IsCompiled (view_typed tree) made.0) }
     ensures params { IfOk result (λ made. list_map (λ c. c.params.items) made.0
         ≡ passings_in (view_typed tree)) }
     ensures results { IfOk result (λ made. list_map (λ c. c.result) made.0
         ≡ results_in (view_typed tree)) }
+    ensures functions_let_go { IfOk result (λ made. made.1.functions ≡ []) }
+    ensures globals_let_go { IfOk result (λ made. made.1.globals ≡ []) }
     ensures classes { IfOk result (λ made. made.1.classes ≡ tree.classes) }
     ensures methods { IfOk result (λ made. made.1.methods ≡ tree.methods) }
     ensures imports { IfOk result (λ made. made.1.imports ≡ tree.imports) }

@@ -1,5 +1,5 @@
 //! The bodies of a module between its resolved tree and its code.
-ghost use Rattle.std.specs.Prelude.{◌≡◌, IfOk};
+ghost use Rattle.std.specs.Prelude.{◌≡◌, IfOk, []};
 ghost use Rattle.ang_typed.specs.View.{view_typed};
 
 use crate::tree_record::TreeRecord;
@@ -70,6 +70,8 @@ impl LoweredTree {
 
 /// The same tree without bodies and globals, which are let go.
 pub fn without_bodies(alloc: Global, tree: Typed) -> Typed
+    ensures functions_let_go { result.functions ≡ [] }
+    ensures globals_let_go { result.globals ≡ [] }
     ensures classes { result.classes ≡ tree.classes }
     ensures methods { result.methods ≡ tree.methods }
     ensures imports { result.imports ≡ tree.imports }
