@@ -1,9 +1,11 @@
 //! The numbers of the kinds of all candidates' parameters.
-ghost use Rattle.std.specs.Prelude.{◌≡◌, ◌++◌, ◌∷◌, ℕ, List, Option, IfOk, OnOk, Some, slice_get, map as list_map};
+ghost use Rattle.std.specs.Prelude.{◌≡◌, ◌++◌, ◌∷◌, ℕ, List, Option, IfOk, IfSome, OnOk, Some, slice_get, map as list_map};
 ghost use Rattle.ang_types.specs.Overloads.{Params};
 ghost use Rattle.ang_names_known.specs.Kinds as spec;
 ghost use Rattle.ang_check_added.specs.Made.{params_in, params_made};
+ghost use Rattle.ang_check_added.specs.Sets.{AreSets};
 
+use crate::kind_sets::{KindSets, sets_of};
 use ang_kinds::Pass;
 use ang_names_known::{KindRows, KindTable};
 use ang_types::{ArgType, Candidate};
@@ -14,6 +16,8 @@ use std::alloc::{AllocError, Global};
 pub struct Numbered {
     pub kinds: Vec<(ArgType, Pass)>,
     pub rows: KindRows,
+    /// The candidates by count and kinds, unless there are too many of them.
+    pub sets: Option<KindSets>,
 }
 
 /// The number of a kind, a new one where none is found. The only error is want of memory.
@@ -76,6 +80,7 @@ fn push_row(
 pub fn number_kinds(alloc: Global, all: &[Option<Candidate>]) -> Result<Numbered, AllocError>
     ensures rows { IfOk result (λ n. spec.AreRows n.kinds.items n.rows
         (λ t. params_made all.now)) }
+    ensures sets { IfOk result (λ n. IfSome n.sets (λ sets. AreSets n.rows sets)) }
 {
     let mut table = KindTable::new(alloc, all.len())?;
     let mut rows = KindRows::new(alloc);
@@ -84,5 +89,6 @@ pub fn number_kinds(alloc: Global, all: &[Option<Candidate>]) -> Result<Numbered
         push_row(&mut table, &mut rows, candidate, &mut row)?;
     }
     let kinds = table.into_kinds();
-    Ok(Numbered { kinds, rows })
+    let sets = sets_of(alloc, kinds.len(), &rows, all.len())?;
+    Ok(Numbered { kinds, rows, sets })
 }

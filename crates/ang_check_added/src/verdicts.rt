@@ -14,9 +14,9 @@ use std::alloc::{AllocError, Global};
 /// The rank is the least one, or there is no least one.
 const LEVEL: u8 = 0;
 /// The rank is below the least one.
-const BELOW: u8 = 1;
+pub(crate) const BELOW: u8 = 1;
 /// The rank is above the least one, or there is none.
-const LOST: u8 = 2;
+pub(crate) const LOST: u8 = 2;
 
 /// The verdicts on all kinds of parameters, for each argument of a use.
 #[derive(Drop)]
@@ -95,15 +95,23 @@ fn verdicts_beside(
     Ok(all)
 }
 
+/// The verdict on a kind, by its number as a place.
+#[inline(always)]
+pub(crate) fn verdict_of_kind(verdicts: &[u8], kind: usize) -> u8
+    ensures exact { result ≡ spec.verdict_at verdicts.now kind }
+{
+    match verdicts.get(kind) {
+        None => LOST,
+        Some(verdict) => *verdict,
+    }
+}
+
 /// The verdict on the kind of a number.
 #[inline(always)]
 fn verdict_at(verdicts: &[u8], number: u32) -> u8
     ensures exact { result ≡ spec.verdict_at verdicts.now number }
 {
-    match verdicts.get(number as usize) {
-        None => LOST,
-        Some(verdict) => *verdict,
-    }
+    verdict_of_kind(verdicts, number as usize)
 }
 
 #[inline(always)]
