@@ -58,6 +58,10 @@ in_kind sets k n = in_set (option_flatten (slice_get sets k)) n
 abbrev pub IsOnlyIn : List (Option EntrySet) → ℕ → ℕ → Type 0
 IsOnlyIn sets k n = (j : ℕ) → in_kind sets j n ≡ (k == j)
 
+-- entry n is at each place in the sets of these numbers, and in no other ones
+abbrev pub StandsBy : List (Vec (Option EntrySet) Global) → List ℕ → ℕ → Type 0
+StandsBy places ns n = (p k : ℕ) → in_kind (sets_in places p) k n ≡ is_number (slice_get ns p) k
+
 -- Of rows of numbers, one for each entry: an entry is in the set of a count where its row has so many numbers, and in that of a kind at a place where its
 -- row has the number of this kind there.
 pub record AreSets (rows : Rows) (s : KindSets) : Type 0 where

@@ -1,5 +1,5 @@
 //! For each place the entries whose parameter there is of each kind, and those with so many parameters.
-ghost use Rattle.std.specs.Prelude.{◌≡◌, ◌==◌, ◌<◌, ◌&&◌, ◌||◌, ℕ, false, true, IfOk, IfSome, length, slice_get};
+ghost use Rattle.std.specs.Prelude.{◌≡◌, ◌==◌, ◌<◌, ◌&&◌, ◌||◌, ℕ, false, true, IfOk, IfSome, length, option_map, slice_get};
 ghost use Rattle.ang_names_known.specs.KindRows.{row_at};
 ghost use Rattle.ang_check_added.specs.Sets as spec;
 
@@ -61,7 +61,7 @@ fn no_counts(alloc: Global, counts: usize) -> Result<Vec<EntrySet>, AllocError>
 fn insert_count(counts: &mut Vec<EntrySet>, count: usize, number: u32) -> bool
     requires room { number < 1024 }
     ensures added { result ≡ true → (c n : ℕ) → spec.in_set (slice_get counts.new.items c) n
-        ≡ (spec.in_set (slice_get counts.old.items c) n || ((count == c) && (number == n))) }
+        ≡ (spec.in_set (slice_get counts.old.items c) n || ((number == n) && (count == c))) }
 {
     if count < counts.len() {
         counts[count].insert(number);
@@ -137,6 +137,14 @@ fn insert_row(places: &mut Vec<Vec<Option<EntrySet>>>, row: &[u32], number: u32)
 /// Puts the entry of this number in, which has this row, if any. Whether there is room for it.
 fn insert_entry(sets: &mut KindSets, row: Option<&[u32]>, number: u32) -> bool
     requires room { number < 1024 }
+    ensures counts { result ≡ true → (c n : ℕ) → spec.in_set (slice_get sets.new.counts.items c) n
+        ≡ (spec.in_set (slice_get sets.old.counts.items c) n
+        || ((number == n) && spec.has_count (option_map (λ r. r.now) row.entry) c)) }
+    ensures places { result ≡ true → (p k n : ℕ) →
+        spec.in_kind (spec.sets_in sets.new.places.items p) k n
+        ≡ (spec.in_kind (spec.sets_in sets.old.places.items p) k n
+        || ((number == n)
+        && spec.is_number (spec.kind_at (option_map (λ r. r.now) row.entry) p) k)) }
 {
     match row {
         None => true,
@@ -157,6 +165,7 @@ fn sets_of_all(
 ) -> Result<Option<KindSets>, AllocError>
     requires same { length rows.now ≡ count }
     requires room { count < 1025 }
+    requires few { most < 4097 }
     ensures sets { IfOk result (λ found. IfSome found (λ sets. spec.AreSets rows.now sets)) }
 {
     let counts = no_counts(alloc, most + 1)?;
@@ -183,8 +192,11 @@ pub(crate) fn sets_of(
     requires same { length rows.now ≡ count }
     ensures sets { IfOk result (λ found. IfSome found (λ sets. spec.AreSets rows.now sets)) }
 {
+    if count > ROOM || kinds > MOST_SETS {
+        return Ok(None);
+    }
     let most = longest(rows, count);
-    if count > ROOM || kinds > MOST_SETS || most > MOST_SETS / (kinds + 2) {
+    if most > MOST_SETS || most > MOST_SETS / (kinds + 2) {
         return Ok(None);
     }
     sets_of_all(alloc, kinds + 2, most, rows, count)
@@ -198,5 +210,16 @@ pub(crate) fn sets_at(places: &[Vec<Option<EntrySet>>], place: usize) -> &[Optio
     match places.get(place) {
         None => &[],
         Some(sets) => sets.as_slice(),
+    }
+}
+
+/// The entries with so many parameters.
+#[inline(always)]
+pub(crate) fn entries_of(counts: &[EntrySet], count: usize) -> EntrySet
+    ensures exact { (n : ℕ) → spec.has result.words n ≡ spec.in_set (slice_get counts.now count) n }
+{
+    match counts.get(count) {
+        None => EntrySet::empty(),
+        Some(entries) => *entries,
     }
 }

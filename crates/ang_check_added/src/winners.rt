@@ -1,11 +1,11 @@
 //! All entries that win by the verdicts of a use, at once.
-ghost use Rattle.std.specs.Prelude.{◌≡◌, ◌==◌, ◌&&◌, ◌||◌, ℕ, List, Option, length, Some};
+ghost use Rattle.std.specs.Prelude.{◌≡◌, ◌==◌, ◌&&◌, ◌||◌, ℕ, List, false, length};
 ghost use Rattle.ang_names_known.specs.Kinds.{Rows};
 ghost use Rattle.ang_names_known.specs.KindRows.{row_at};
 ghost use Rattle.ang_check_added.specs.Sets as spec;
-ghost use Rattle.ang_check_added.specs.Verdicts.{verdict_at, verdicts_in};
+ghost use Rattle.ang_check_added.specs.Verdicts.{verdict_at, verdicts_in, wins_by};
 
-use crate::kind_sets::{KindSets, sets_at};
+use crate::kind_sets::{KindSets, entries_of, sets_at};
 use crate::sets::EntrySet;
 use crate::verdicts::{BELOW, LOST, Verdicts, verdict_of_kind};
 
@@ -67,11 +67,11 @@ fn winners_among(
     among: &EntrySet,
     is_ahead: bool,
 ) -> EntrySet
-    ensures exact { (all : Rows) (n : ℕ) (ns : List ℕ) → row_at all n ≡ Some ns →
-        ((p k : ℕ) → spec.in_kind (spec.sets_in places.now p) k n
-        ≡ spec.is_number (spec.kind_at (row_at all n) p) k) →
-        spec.has among.now.words n ≡ spec.has_count (row_at all n) (length rows.now) →
-        spec.has result.words n ≡ spec.is_winner (verdicts_in rows.now) is_ahead (row_at all n) }
+    ensures exact { (n : ℕ) (ns : List ℕ) → spec.StandsBy places.now ns n →
+        spec.has among.now.words n ≡ (length ns == length rows.now) →
+        spec.has result.words n ≡ wins_by (verdicts_in rows.now) ns is_ahead }
+    ensures none { (n : ℕ) → spec.has among.now.words n ≡ false →
+        spec.has result.words n ≡ false }
 {
     let mut standings = Standings {
         lost: EntrySet::empty(),
@@ -91,14 +91,10 @@ impl Verdicts {
             spec.has result.words n
             ≡ spec.is_winner (verdicts_in self.now.rows.items) self.now.ahead (row_at rows n) }
     {
-        match sets.counts.get(self.rows.len()) {
-            None => EntrySet::empty(),
-            Some(among) => winners_among(
-                self.rows.as_slice(),
-                sets.places.as_slice(),
-                among,
-                self.ahead,
-            ),
-        }
+        let rows = self.rows.as_slice();
+        let counts = sets.counts.as_slice();
+        let places = sets.places.as_slice();
+        let among = entries_of(counts, rows.len());
+        winners_among(rows, places, &among, self.ahead)
     }
 }
