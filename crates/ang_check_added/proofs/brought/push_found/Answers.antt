@@ -2,7 +2,6 @@ use Rattle.std.specs.Prelude.{ℕ, Bool, [], ◌∷◌, ◌++◌, if◌then◌el
 use Rattle.std.proofs.Common.{◌≡◌, ◌≤◌, ◌+◌, List, drop, get_or, length, rules, sym, ap, ◌∙◌}
 use Rattle.std.proofs.lemmas.List.{append-nil, drop_all, drop_more}
 use Rattle.ang_kinds.specs.declared.mask.EntityNo.{EntityNo}
-use Rattle.ang_view.specs.Named.{find}
 use Rattle.ang_check_added.specs.Brought.{is_unmet_type}
 use Rattle.ang_check_added.proofs.Bringing.{one_kept}
 use Rattle.ang_check_added.proofs.brought.push_found.Goals as goal

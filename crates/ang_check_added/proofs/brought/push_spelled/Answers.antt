@@ -1,5 +1,5 @@
 use Rattle.std.specs.Prelude.{[], ◌++◌, filter, OnOk}
-use Rattle.std.proofs.Common.{inl, inr, ◌≡◌, true, List, ℕ, Option, subst, sym, ap, ◌∙◌, append-nil}
+use Rattle.std.proofs.Common.{inl, inr, ◌≡◌, true, Option, subst, sym, ap, ◌∙◌, append-nil}
 use Rattle.ang_view.specs.declared.entry.Entry.{Entry}
 use Rattle.ang_view.specs.Named.{find, has_name}
 use Rattle.ang_view.specs.SeenTypes.{is_spelled_type}

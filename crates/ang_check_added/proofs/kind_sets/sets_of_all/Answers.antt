@@ -1,6 +1,6 @@
 use Rattle.std.specs.Prelude.{false, ◌==◌, ◌||◌, ◌&&◌, slice_get}
 use Rattle.std.specs.Option.{option_flatten}
-use Rattle.std.proofs.Common.{◌≡◌, ◌≤◌, length, ap, ◌∙◌, arith}
+use Rattle.std.proofs.Common.{◌≤◌, length, ap, ◌∙◌, arith}
 use Rattle.std.proofs.lemmas.Option.{slice_get_past}
 use Rattle.ang_names_known.specs.KindRows.{row_at}
 use Rattle.ang_check_added.specs.Sets.{has_count, in_kind, in_set, is_number, kind_at, sets_in}

@@ -1,4 +1,4 @@
-use Rattle.std.proofs.Common.{◌≡◌, ◌<◌, length, get_or, arith}
+use Rattle.std.proofs.Common.{◌<◌, length, get_or, arith}
 use Rattle.ang_check_added.specs.Sets.{IsOnlyIn, has}
 use Rattle.ang_check_added.specs.Verdicts.{verdicts_in, wins_by}
 use Rattle.ang_check_added.proofs.WinnerLaws.{only_there, place_more, places_end}

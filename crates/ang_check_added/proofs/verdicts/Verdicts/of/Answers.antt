@@ -1,6 +1,6 @@
 use Rattle.std.specs.Prelude.{not}
 use Rattle.std.proofs.Common.{◌≡◌, ap, ◌∙◌}
-use Rattle.ang_check_contest.specs.Told.{rows_of, told_ranks}
+use Rattle.ang_check_contest.specs.Told.{rows_of}
 use Rattle.ang_check_added.specs.Verdicts.{verdicts_beside, verdicts_in, wins_by}
 use Rattle.ang_check_added.proofs.Judging.{judged}
 use Rattle.ang_check_added.proofs.verdicts.Verdicts.of.Goals as goal

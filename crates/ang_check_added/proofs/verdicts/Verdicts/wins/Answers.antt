@@ -1,4 +1,4 @@
-use Rattle.std.proofs.Common.{◌≡◌, ap, ◌∙◌}
+use Rattle.std.proofs.Common.{ap, ◌∙◌}
 use Rattle.ang_check_added.specs.Verdicts.{verdicts_in, wins_by}
 use Rattle.ang_check_added.proofs.verdicts.Verdicts.wins.Goals as goal
 
