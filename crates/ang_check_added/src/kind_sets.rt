@@ -18,6 +18,20 @@ pub struct KindSets {
     pub(crate) places: Vec<Vec<Option<EntrySet>>>,
 }
 
+/// How many sets are looked at in the time of one row.
+const SETS_A_ROW: usize = 6;
+
+impl KindSets {
+    /// Whether so many candidates are sooner judged all at once than each by its row: each of them wins the same either way.
+    pub fn pays_for(&self, candidates: usize) -> bool {
+        let mut sets = 0usize;
+        for place in self.places.as_slice() {
+            sets = sets.saturating_add(place.len());
+        }
+        sets / SETS_A_ROW <= candidates
+    }
+}
+
 /// How many numbers the longest row has.
 fn longest(rows: &KindRows, count: usize) -> usize {
     let mut most = 0;
