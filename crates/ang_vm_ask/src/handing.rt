@@ -1,5 +1,6 @@
 //! The operands of a host call, as they stand on the stack.
-ghost use Rattle.std.specs.Prelude.{◌≡◌, ◌≤◌, ◌∷◌, List, length, reverse, slice_get};
+ghost use Rattle.std.specs.Prelude.{◌≡◌, ◌≤◌, ◌∷◌, List, length, reverse, slice_get, Some, IfSome};
+ghost use Rattle.ang_meaning.specs.declared.slot.Slot.TheVariants.{Host as HostSlot};
 ghost use Rattle.ang_code.specs.Machine.{take_some};
 ghost use Rattle.ang_meaning.specs.Perform.{key_at, receiver_of, behind_first as behind_first_of, arguments_of as arguments_in};
 ghost use Rattle.ang_vm_stack.specs.Stacks.{values};
@@ -32,7 +33,19 @@ pub(crate) fn behind_first(slots: &[Slot]) -> &[Slot]
     if slots.is_empty() { slots } else { &slots[1..] }
 }
 
-/// The key of an object of this driver that a handle names.
+/// The key of an object of this driver that a handle names. None where it names none.
+#[inline(always)]
+pub fn key_named(driver: u32, handle: Slot) -> Option<u64>
+    ensures named { IfSome result (λ key. handle ≡ HostSlot driver (Some key)) }
+{
+    match handle {
+        Slot::Host(owner, named) => { if owner == driver { named } else { None } }
+        Slot::Bits(_) => None,
+        Slot::Script(_) => None,
+    }
+}
+
+/// The same.
 ///
 /// # Errors
 /// `Null` where it names none.

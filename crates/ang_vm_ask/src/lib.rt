@@ -18,5 +18,9 @@ mod replies;
 mod rooms;
 
 pub use arguments::{FEW, argument_from};
-pub use fitting::{called_among, entry_of, given_count, operands, operands_of, receivers};
+pub use fitting::{
+    called_among, called_at, entry_of, given_count, operands, operands_of, operation_at, receivers,
+    takes_few,
+};
+pub use handing::key_named;
 pub use operation::{ask, ask_called, ask_entry, call_entry};
