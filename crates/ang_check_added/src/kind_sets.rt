@@ -1,6 +1,5 @@
 //! For each place the entries whose parameter there is of each kind, and those with so many parameters.
 ghost use Rattle.std.specs.Prelude.{◌≡◌, ◌==◌, ◌<◌, ◌&&◌, ◌||◌, ℕ, false, true, IfOk, IfSome, length, option_map, slice_get};
-ghost use Rattle.ang_names_known.specs.KindRows.{row_at};
 ghost use Rattle.ang_check_added.specs.Sets as spec;
 
 use crate::sets::{EntrySet, ROOM};
