@@ -18,7 +18,7 @@ pub struct KindSets {
 }
 
 /// How many sets are looked at in the time of one row.
-const SETS_A_ROW: usize = 6;
+const SETS_A_ROW: usize = 4;
 
 impl KindSets {
     /// Whether so many candidates are sooner judged all at once than each by its row: each of them wins the same either way.
