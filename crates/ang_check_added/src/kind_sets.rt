@@ -1,5 +1,6 @@
 //! For each place the entries whose parameter there is of each kind, and those with so many parameters.
 ghost use Rattle.std.specs.Prelude.{◌≡◌, ◌==◌, ◌<◌, ◌&&◌, ◌||◌, ℕ, false, true, IfOk, IfSome, length, option_map, slice_get};
+ghost use Rattle.ang_names_known.specs.KindRows.{row_at};
 ghost use Rattle.ang_check_added.specs.Sets as spec;
 
 use crate::sets::{EntrySet, ROOM};
@@ -15,20 +16,6 @@ const MOST_SETS: usize = 4096;
 pub struct KindSets {
     pub(crate) counts: Vec<EntrySet>,
     pub(crate) places: Vec<Vec<Option<EntrySet>>>,
-}
-
-/// How many sets are looked at in the time of one row.
-const SETS_A_ROW: usize = 4;
-
-impl KindSets {
-    /// Whether so many candidates are sooner judged all at once than each by its row: each of them wins the same either way.
-    pub fn pays_for(&self, candidates: usize) -> bool {
-        let mut sets = 0usize;
-        for place in self.places.as_slice() {
-            sets = sets.saturating_add(place.len());
-        }
-        sets / SETS_A_ROW <= candidates
-    }
 }
 
 /// How many numbers the longest row has.
