@@ -12,3 +12,4 @@ pub mod Taking
 pub mod Telling
 pub mod Types
 pub mod Values
+pub mod Winners

@@ -1,6 +1,7 @@
 -- What is noted of the entries of a list once, beside their numbers: their masks, and which of those that are told of they are of.
-use Rattle.std.specs.Prelude.{ℕ, zero, suc, ◌≡◌, ◌==◌, Bool, false, ◌&&◌, [], ◌∷◌, map, Option, Some, None, slice_index_or}
-use Rattle.std.proofs.Common.{refl}
+use Rattle.std.specs.Prelude.{ℕ, zero, suc, ◌≡◌, ◌==◌, ◌+◌, ◌*◌, Bool, false, ◌&&◌, [], ◌∷◌, map, Option, Some, None, slice_index_or}
+use Rattle.std.proofs.Common.{arith, inl, inr, refl, sym, ap, ◌∙◌}
+use Rattle.std.proofs.lemmas.Bool.Decides.{eqb_tells}
 use Rattle.ang_kinds.specs.declared.mask.EntityNo.{EntityNo}
 use Rattle.ang_view.specs.declared.entry.Entry.{Entry}
 use Rattle.ang_view.specs.declared.entry.EntryKind.{EntryKind}
@@ -11,7 +12,8 @@ use Rattle.ang_check_contest.specs.Host.{is_method}
 use Rattle.ang_check_denials.specs.declared.told.Sought.{Sought}
 use Rattle.ang_check_denials.specs.declared.told.Sought.TheVariants as sought
 use Rattle.ang_check_denials.specs.Denials.{mask_of}
-use Rattle.ang_check_denials.specs.Telling.{is_of_sort, is_sought, owned, sort_by, sort_of}
+use Rattle.ang_check_denials.specs.Telling.{is_sought, key_of, owned, sort_by, sort_key, sort_of}
+use Rattle.ang_check_denials.proofs.Values.{is_itself, is_other}
 
 -- what is noted at a place is the mask of the entry there
 pub mask_there : (R : RegistrationList) (n : ℕ) → slice_index_or (map mask_of R) n (mask_of None) ≡ mask_of (entry_at R n)
@@ -21,52 +23,77 @@ mask_there (x ∷ xs) (suc n) = mask_there xs n
 
 -- ---- sorts
 
-functions_are : (k : EntryKind) (o : Option EntityNo) → is_of_sort sought.Functions (sort_by k o) ≡ is_function k
+same_key : (i a b : ℕ) → (4 * a + i == 4 * b + i) ≡ (a == b)
+same_key i a b =
+    elim (eqb_tells a b) [
+      | inl t ↦ is_itself (4 * a + i) (4 * b + i) (ap (λ n. 4 * n + i) t.1) ∙ sym t.0
+      | inr t ↦ is_other (4 * a + i) (4 * b + i) (λ e. t.1 (omega (arith, e))) ∙ sym t.0
+    ]
+
+function_key : (a i : ℕ) → (4 * a + (i + 1) == 0) ≡ false
+function_key a i = is_other (4 * a + (i + 1)) 0 (λ e. omega (arith, e))
+
+no_key : (a : ℕ) → (3 == 4 * a + 1) ≡ false
+no_key a = is_other 3 (4 * a + 1) (λ e. omega (arith, e))
+
+no_method : (a : ℕ) → (3 == 4 * a + 2) ≡ false
+no_method a = is_other 3 (4 * a + 2) (λ e. omega (arith, e))
+
+none_first : (a i : ℕ) → (0 == 4 * a + (i + 1)) ≡ false
+none_first a i = is_other 0 (4 * a + (i + 1)) (λ e. omega (arith, e))
+
+apart : (a b : ℕ) → (4 * a + 1 == 4 * b + 2) ≡ false
+apart a b = is_other (4 * a + 1) (4 * b + 2) (λ e. omega (arith, e))
+
+parted : (a b : ℕ) → (4 * a + 2 == 4 * b + 1) ≡ false
+parted a b = is_other (4 * a + 2) (4 * b + 1) (λ e. omega (arith, e))
+
+functions_are : (k : EntryKind) (o : Option EntityNo) → (key_of (sort_by k o) == 0) ≡ is_function k
 functions_are entry.HostType o = refl
 functions_are entry.Factory None = refl
-functions_are entry.Factory (Some e) = refl
+functions_are entry.Factory (Some e) = function_key e.0 0
 functions_are entry.Method None = refl
-functions_are entry.Method (Some e) = refl
+functions_are entry.Method (Some e) = function_key e.0 1
 functions_are entry.Property o = refl
 functions_are entry.Function o = refl
 functions_are entry.Global o = refl
 functions_are entry.Enumeration o = refl
 functions_are (entry.EnumValue v) o = refl
 
-factories_are : (n : ℕ) (k : EntryKind) (o : Option EntityNo) → is_of_sort (sought.Factories n) (sort_by k o) ≡ (is_factory k && is_number n o)
-factories_are n entry.HostType o = refl
-factories_are n entry.Factory None = refl
-factories_are n entry.Factory (Some e) = refl
-factories_are n entry.Method None = refl
-factories_are n entry.Method (Some e) = refl
-factories_are n entry.Property o = refl
-factories_are n entry.Function o = refl
-factories_are n entry.Global o = refl
-factories_are n entry.Enumeration o = refl
-factories_are n (entry.EnumValue v) o = refl
+factories_are : (n : ℕ) (k : EntryKind) (o : Option EntityNo) → (key_of (sort_by k o) == 4 * n + 1) ≡ (is_factory k && is_number n o)
+factories_are n entry.HostType o = no_key n
+factories_are n entry.Factory None = no_key n
+factories_are n entry.Factory (Some e) = same_key 1 e.0 n
+factories_are n entry.Method None = no_key n
+factories_are n entry.Method (Some e) = parted e.0 n
+factories_are n entry.Property o = no_key n
+factories_are n entry.Function o = none_first n 0
+factories_are n entry.Global o = no_key n
+factories_are n entry.Enumeration o = no_key n
+factories_are n (entry.EnumValue v) o = no_key n
 
-methods_are : (n : ℕ) (k : EntryKind) (o : Option EntityNo) → is_of_sort (sought.Methods n) (sort_by k o) ≡ (is_method k && is_number n o)
-methods_are n entry.HostType o = refl
-methods_are n entry.Factory None = refl
-methods_are n entry.Factory (Some e) = refl
-methods_are n entry.Method None = refl
-methods_are n entry.Method (Some e) = refl
-methods_are n entry.Property o = refl
-methods_are n entry.Function o = refl
-methods_are n entry.Global o = refl
-methods_are n entry.Enumeration o = refl
-methods_are n (entry.EnumValue v) o = refl
+methods_are : (n : ℕ) (k : EntryKind) (o : Option EntityNo) → (key_of (sort_by k o) == 4 * n + 2) ≡ (is_method k && is_number n o)
+methods_are n entry.HostType o = no_method n
+methods_are n entry.Factory None = no_method n
+methods_are n entry.Factory (Some e) = apart e.0 n
+methods_are n entry.Method None = no_method n
+methods_are n entry.Method (Some e) = same_key 2 e.0 n
+methods_are n entry.Property o = no_method n
+methods_are n entry.Function o = none_first n 1
+methods_are n entry.Global o = no_method n
+methods_are n entry.Enumeration o = no_method n
+methods_are n (entry.EnumValue v) o = no_method n
 
-sort_tells : (q : Sought) (o : Option Entry) → is_of_sort q (sort_of o) ≡ is_sought q o
-sort_tells sought.Functions None = refl
-sort_tells sought.Functions (Some y) = functions_are y.kind y.owner
-sort_tells (sought.Factories n) None = refl
-sort_tells (sought.Factories n) (Some y) = factories_are n y.kind y.owner
-sort_tells (sought.Methods n) None = refl
-sort_tells (sought.Methods n) (Some y) = methods_are n y.kind y.owner
+key_tells : (q : Sought) (o : Option Entry) → (sort_key o == key_of (Some q)) ≡ is_sought q o
+key_tells sought.Functions None = refl
+key_tells sought.Functions (Some y) = functions_are y.kind y.owner
+key_tells (sought.Factories n) None = no_key n
+key_tells (sought.Factories n) (Some y) = factories_are n y.kind y.owner
+key_tells (sought.Methods n) None = no_method n
+key_tells (sought.Methods n) (Some y) = methods_are n y.kind y.owner
 
 -- what is noted at a place tells whether the entry there is one of those
-pub sort_there : (q : Sought) (R : RegistrationList) (n : ℕ) → is_of_sort q (slice_index_or (map sort_of R) n None) ≡ is_sought q (entry_at R n)
-sort_there q [] n = sort_tells q None
-sort_there q (x ∷ xs) zero = sort_tells q x
+pub sort_there : (q : Sought) (R : RegistrationList) (n : ℕ) → (slice_index_or (map sort_key R) n 3 == key_of (Some q)) ≡ is_sought q (entry_at R n)
+sort_there q [] n = key_tells q None
+sort_there q (x ∷ xs) zero = key_tells q x
 sort_there q (x ∷ xs) (suc n) = sort_there q xs n

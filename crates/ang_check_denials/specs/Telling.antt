@@ -1,10 +1,12 @@
 -- Entries of a use's row of which their rivals alone tell whether they help: functions, factories and methods, where the name of the use means the same
 -- whichever of them is added.
-use Rattle.std.specs.Prelude.{ℕ, ◌≡◌, ◌<◌, ◌==◌, Bool, true, false, not, ◌&&◌, ◌||◌, if◌then◌else◌, is_some, List, [], ◌∷◌, Option, Some, None, slice_index_or}
+use Rattle.std.specs.Prelude.{ℕ, ◌≡◌, ◌<◌, ◌==◌, ◌+◌, ◌*◌, Bool, true, false, not, ◌&&◌, ◌||◌, if◌then◌else◌, is_some, IfSome, List, [], ◌∷◌, Option, Some, None, slice_index_or}
 use Rattle.ang_types.specs.declared.asks.Asks.{Asks}
 use Rattle.ang_types.specs.declared.asks.Asks.TheVariants as asks
 use Rattle.ang_types.specs.declared.asks.Refused.{Refused}
 use Rattle.ang_types.specs.declared.candidate.Candidate.{Candidate}
+use Rattle.ang_types.specs.declared.arg_type.ArgType.{ArgType}
+use Rattle.ang_types.specs.Ranks.{Ancestors}
 use Rattle.ang_kinds.specs.declared.mask.EntityNo.{EntityNo}
 use Rattle.ang_view.specs.declared.entry.Entry.{Entry}
 use Rattle.ang_view.specs.declared.entry.EntryKind.{EntryKind}
@@ -13,7 +15,8 @@ use Rattle.ang_view.specs.Named.{is_factory}
 use Rattle.ang_view.specs.Registration.{RegistrationList, entry_at, is_function, is_number}
 use Rattle.ang_view.specs.Types.{is_type_named}
 use Rattle.ang_names_known.specs.declared.space.Named.{Named}
-use Rattle.ang_names_known.specs.Kinds.{Kind, numbered}
+use Rattle.ang_names_known.specs.KindRows.{row_at}
+use Rattle.ang_names_known.specs.Kinds.{Kind, Rows, Says, numbered}
 use Rattle.ang_names_known.specs.Spaces.{family_of_type}
 use Rattle.ang_check_contest.specs.declared.rivalry.Rivalry.{Rivalry}
 use Rattle.ang_check_contest.specs.Host.{is_method}
@@ -25,7 +28,10 @@ use Rattle.ang_check_denials.specs.declared.told.Sought.TheVariants as sought
 use Rattle.ang_check_denials.specs.declared.told.Told.{Told}
 use Rattle.ang_check_denials.specs.Added.{factories, types_of}
 use Rattle.ang_check_denials.specs.Denials.{helps, is_known}
-use Rattle.ang_check_added.specs.Made.{is_won, made}
+use Rattle.ang_check_added.specs.declared.kind_sets.KindSets.{KindSets}
+use Rattle.ang_check_added.specs.Made.{is_won, made, params_in}
+use Rattle.ang_check_added.specs.declared.sets.EntrySet.{EntrySet}
+use Rattle.ang_check_added.specs.Sets.{AreSets, has}
 use Rattle.ang_check_denials.specs.Names.{is_hidden_named, name_sought}
 
 -- an entry is one of those
@@ -56,20 +62,15 @@ abbrev pub sort_of : Option Entry → Option Sought
 sort_of None = None
 sort_of (Some y) = sort_by y.kind y.owner
 
-abbrev pub is_same_sort : Sought → Sought → Bool
-is_same_sort sought.Functions sought.Functions = true
-is_same_sort sought.Functions (sought.Factories k) = false
-is_same_sort sought.Functions (sought.Methods k) = false
-is_same_sort (sought.Factories n) sought.Functions = false
-is_same_sort (sought.Factories n) (sought.Factories k) = k == n
-is_same_sort (sought.Factories n) (sought.Methods k) = false
-is_same_sort (sought.Methods n) sought.Functions = false
-is_same_sort (sought.Methods n) (sought.Factories k) = false
-is_same_sort (sought.Methods n) (sought.Methods k) = k == n
+-- the number of a sort: no two have the same
+abbrev pub key_of : Option Sought → ℕ
+key_of None = 3
+key_of (Some sought.Functions) = 0
+key_of (Some (sought.Factories n)) = 4 * n + 1
+key_of (Some (sought.Methods n)) = 4 * n + 2
 
-abbrev pub is_of_sort : Sought → Option Sought → Bool
-is_of_sort q None = false
-is_of_sort q (Some k) = is_same_sort q k
+abbrev pub sort_key : Option Entry → ℕ
+sort_key o = key_of (sort_of o)
 
 -- the candidates that are seen of the same name or type
 abbrev pub rivals_for : Scope → List ℕ → Sought → List Candidate
@@ -115,6 +116,18 @@ rivals_kept rivals makers q (asks.Default n) = rivals
 rivals_kept rivals makers q (asks.Property n) = rivals
 rivals_kept rivals makers q (asks.Method n c args) = rivals
 
+-- ---- sets of the candidates
+
+-- these are sets of a list's candidates: those of rows that say the kinds of their parameters by number
+pub record AreCandidateSets (R : RegistrationList) (kinds : List Kind) (sets : KindSets) : Type 0 where
+  pub rows : Rows
+  pub are : AreSets rows sets
+  pub says : (n : ℕ) → Says 0 kinds (row_at rows n) (params_in (slice_index_or (made R) n None))
+
+-- in a set are just the entries that are the best of all beside these others
+abbrev pub AreWinners : RegistrationList → Ancestors → List Candidate → List ArgType → EntrySet → Type 0
+AreWinners R l cs args set = (x : ℕ) → has set.words x ≡ is_won l cs args (slice_index_or (made R) x None)
+
 -- ---- what is told
 
 -- of those that are sought, in the row of the use, just those help that are the best of all
@@ -126,6 +139,7 @@ Tells R m s r a q =
 pub record IsTold (R : RegistrationList) (m : ℕ) (kinds : List Kind) (s : Scope) (r : Refused) (a : Asks) (t : Told) : Type 0 where
   pub tells : Tells R m s r a t.sought
   pub judge : Judge s.ancestors (numbered 0 kinds) (rivals_for s r.error.name t.sought) (types_of a) (verdicts_in t.verdicts.rows.items) t.verdicts.ahead
+  pub winners : IfSome t.winners (AreWinners R s.ancestors (rivals_for s r.error.name t.sought) (types_of a))
 
 -- entry x helps, as it is told of those that are sought
 abbrev pub chosen : RegistrationList → ℕ → Scope → Refused → Asks → Sought → ℕ → Bool

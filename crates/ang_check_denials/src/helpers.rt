@@ -1,8 +1,10 @@
 //! The hidden entries that would resolve a refused use.
 ghost use Rattle.std.specs.Prelude.{◌≡◌, ◌<◌, ◌≤◌, ◌||◌, ◌&&◌, ◌++◌, [], ◌∷◌, false, if◌then◌else◌, filter, length, option_to_list, IfOk, OnOk};
+ghost use Rattle.std.specs.List.{list_all};
 ghost use Rattle.ang_view.specs.Hidden.{numbers_of};
 ghost use Rattle.ang_view.specs.Registration.{entry_at, seen};
 ghost use Rattle.ang_names_known.specs.Kinds.{numbered};
+ghost use Rattle.ang_check_added.specs.Sets.{has};
 ghost use Rattle.ang_check_denials.specs.Added as added;
 ghost use Rattle.ang_check_denials.specs.Denials as spec;
 ghost use Rattle.ang_check_contest.specs.Told.{IsTable, table_of};
@@ -16,7 +18,8 @@ use crate::meanings::adds;
 use crate::named::is_known;
 use crate::sought::help_row;
 use crate::takers::can_help;
-use crate::told::{Told, told_of, wins};
+use crate::told::{Sought, Told, told_of, wins};
+use ang_check_added::EntrySet;
 use ang_check_contest::{Scope, table_for};
 use ang_check_uses::type_named;
 use ang_index::Index;
@@ -29,15 +32,7 @@ use std::alloc::{AllocError, Global};
 fn is_bare(asks: &Asks) -> bool
     ensures exact { result ≡ spec.is_bare asks.now }
 {
-    match asks {
-        Asks::Value
-        | Asks::Type
-        | Asks::Enumeration
-        | Asks::Call(_)
-        | Asks::Make(_, _)
-        | Asks::Default(_) => true,
-        Asks::Property(_) | Asks::Method(_, _, _) => false,
-    }
+    !matches!(asks, Asks::Property(_) | Asks::Method(_, _, _))
 }
 
 /// Whether the use means a type that is seen, whatever local or member has its name too.
@@ -227,7 +222,7 @@ fn helper_told(
         told.now.sought) (number ∷ [])) }
 {
     if masked.is_sought(told.sought, number) {
-        let won = wins(masked, &told.verdicts, number);
+        let won = wins(masked, told, number);
         return Ok(kept(won, number));
     }
     helper_at(
@@ -291,8 +286,29 @@ fn helpers_beside(
     Ok(numbers)
 }
 
-/// The same, where `told` tells of some entries whether they do: mostly of all of the row. It stands apart, so that few values
-/// live in its loop.
+/// Whether all entries of a row are of those of which it is told.
+fn are_sought(masked: &Masked<'_>, sought: Sought, row: &[u32]) -> bool
+    ensures exact { result
+        ≡ list_all (λ x. telling.is_sought sought (entry_at masked.now.list x)) row.now }
+{
+    row.iter().all(|number| masked.is_sought(sought, *number))
+}
+
+/// The numbers of a row that are in a set, in order.
+fn numbers_in(alloc: Global, set: &EntrySet, row: &[u32]) -> Result<Vec<u32>, AllocError>
+    ensures exact { IfOk result (λ numbers. numbers.items ≡ filter (has set.now.words) row.now) }
+{
+    let mut numbers = Vec::with_capacity(alloc, row.len())?;
+    for number in row {
+        if set.has(*number) {
+            numbers.push_reserved(*number);
+        }
+    }
+    Ok(numbers)
+}
+
+/// The numbers of a row whose entries resolve a refused use, where `told` tells of some entries whether they do: mostly of all of
+/// the row, and then at once. It stands apart, so that few values live in its loop.
 #[inline(never)]
 fn helpers_told(
     alloc: Global,
@@ -332,6 +348,11 @@ fn helpers_told(
         (telling.chosen masked.now.list masked.now.mask scope.now refused.now asks.now
         told.now.sought) row.now) }
 {
+    if let Some(winners) = &told.winners {
+        if are_sought(masked, told.sought, row) {
+            return numbers_in(alloc, winners, row);
+        }
+    }
     let mut numbers = Vec::with_capacity(alloc, row.len())?;
     for number in row {
         let helper = helper_told(

@@ -1,6 +1,5 @@
 //! A registration list, and what a module of a mask does not see of it.
-ghost use Rattle.std.specs.Prelude.{◌≡◌, ◌≤◌, is_some, length, None, option_copied, option_map, slice_index_or, IfOk};
-ghost use Rattle.std.specs.Prelude.{map as list_map};
+ghost use Rattle.std.specs.Prelude.{◌≡◌, ◌≤◌, is_some, length, None, option_copied, option_map, slice_index_or, map as list_map, IfOk, IfSome};
 ghost use Rattle.ang_names_known.specs.Kinds.{Says};
 ghost use Rattle.ang_view.specs.Hidden as spec;
 ghost use Rattle.ang_view.specs.Registration.{entry_at};
@@ -10,9 +9,9 @@ ghost use Rattle.ang_check_denials.specs.Telling as telling;
 ghost use Rattle.ang_check_added.specs.Made as candidates;
 
 use crate::marked::is_marked;
-use crate::told::{Sought, all_sorts, is_of_sort};
+use crate::told::{Sought, all_sorts, is_of_sort, key_of};
 use ang_check_added::{
-    Numbered, all_made, all_types, alone_marks, brought_rows, candidate_among, made_at,
+    KindSets, Numbered, all_made, all_types, alone_marks, brought_rows, candidate_among, made_at,
     number_kinds, numbers_at,
 };
 use ang_check_contest::Wanted;
@@ -55,11 +54,9 @@ fn mask_at(masks: &[Mask], number: u32) -> Mask
     }
 }
 
-/// A registration list, and what a module of a mask does not see of it.
-///
-/// Beside it stand its functions, factories and methods as candidates, so that none is made anew for each use that looks
-/// at it, the numbers of their parameters' kinds, of each entry its mask, its sort, the numbers of what comes with it and whether
-/// it comes alone, and the numbers of all types.
+/// A registration list, and what a module of a mask does not see of it. Beside it stand its functions, factories and methods as
+/// candidates, so that none is made anew for each use that looks at it, their sets by the kinds of their parameters, of each entry
+/// its mask, the number of its sort, what comes with it and whether it comes alone, and the numbers of all types.
 #[derive(Drop)]
 pub struct Masked<'a> {
     whole: &'a View,
@@ -70,15 +67,16 @@ pub struct Masked<'a> {
     brought: KindRows,
     alone: Vec<bool>,
     masks: Vec<Mask>,
-    sorts: Vec<Option<Sought>>,
+    sorts: Vec<u64>,
     types: Vec<u32>,
 }
 
 impl<'a> Model for Masked<'a> {
-    ghost use Rattle.std.specs.Prelude.{◌≡◌, is_some, map};
+    ghost use Rattle.std.specs.Prelude.{◌≡◌, is_some, map, IfSome};
     ghost use Rattle.ang_view.specs.Hidden as views;
     ghost use Rattle.ang_check_added.specs.Brought.{all_brought, all_types, is_only, numbers_at};
     ghost use Rattle.ang_check_added.specs.Made as candidates;
+    ghost use Rattle.ang_check_added.specs.Sets.{AreSets};
     ghost use Rattle.ang_check_denials.specs.Denials as denials;
     ghost use Rattle.ang_check_denials.specs.Masked as value;
     ghost use Rattle.ang_check_denials.specs.Telling as telling;
@@ -101,7 +99,8 @@ impl<'a> Model for Masked<'a> {
         × (r.alone.items
         ≡ map (λ n. is_only n (numbers_at r.brought n)) (views.numbers_of r.whole.now))
         × (r.masks.items ≡ map denials.mask_of r.whole.now)
-        × (r.sorts.items ≡ map telling.sort_of r.whole.now) };
+        × (r.sorts.items ≡ map telling.sort_key r.whole.now)
+        × IfSome r.numbered.sets (AreSets r.numbered.rows) };
 }
 
 impl<'a> Masked<'a> {
@@ -198,6 +197,14 @@ impl<'a> Masked<'a> {
         self.numbered.rows.row(number as usize)
     }
 
+    /// For the kinds of parameters the candidates that have them, where these are kept.
+    pub fn sets(&self) -> Option<&KindSets>
+        ensures tell { IfSome (option_copied result)
+            (telling.AreCandidateSets self.now.list self.now.kinds) }
+    {
+        self.numbered.sets.as_ref()
+    }
+
     /// What comes with the entry of this number, of that whose own mask does not meet the module's: in any order, and some of it
     /// more than once. It takes no memory.
     pub fn brought(&self, number: u32) -> &[u32]
@@ -219,7 +226,7 @@ impl<'a> Masked<'a> {
     pub fn is_sought(&self, sought: Sought, number: u32) -> bool
         ensures exact { result ≡ telling.is_sought sought (entry_at self.now.list number) }
     {
-        is_of_sort(self.sorts.as_slice(), sought, number)
+        is_of_sort(self.sorts.as_slice(), key_of(Some(sought)), number)
     }
 
     /// The numbers of all object types and enumerations, rising.

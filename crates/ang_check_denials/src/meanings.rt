@@ -342,9 +342,7 @@ fn call_means(
 }
 
 /// Whether a use of this name would mean the entry that is added to what a module sees, where `beside` is what is kept
-/// for that use.
-///
-/// The only error is want of memory.
+/// for that use. The only error is want of memory.
 pub fn adds(
     alloc: Global,
     masked: &Masked<'_>,

@@ -189,10 +189,9 @@ fn denied_after(
 }
 
 /// The rows of these refused uses, where `scope` has what the module sees of the list and what its scripts declare: of each
-/// in turn one row for each entry that is denied, in the order of entries.
-///
-/// Uses that follow one another and ask the same are looked at once; each of the others looks at each hidden entry by whose
-/// name it could mean that. A row has 24 bytes. The only error is want of memory.
+/// in turn one row for each entry that is denied, in the order of entries. A row has 24 bytes. Uses that follow one another and
+/// ask the same are looked at once; each of the others looks at each hidden entry by whose name it could mean that. The only
+/// error is want of memory.
 pub fn denied(
     alloc: Global,
     masked: &Masked<'_>,

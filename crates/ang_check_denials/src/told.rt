@@ -1,6 +1,6 @@
 //! Entries of which their rivals alone tell whether they help a use: functions, factories and methods, where the name of the
 //! use means the same whichever of them is added. Each helps where it is the best of all.
-ghost use Rattle.std.specs.Prelude.{◌≡◌, if◌then◌else◌, List, IfOk, IfSome, None, Some, slice_index_or, map as list_map};
+ghost use Rattle.std.specs.Prelude.{◌≡◌, ◌==◌, if◌then◌else◌, List, IfOk, IfSome, None, Some, slice_index_or, map as list_map};
 ghost use Rattle.ang_types.specs.declared.arg_type.ArgType.{ArgType};
 ghost use Rattle.ang_types.specs.declared.candidate.Candidate.{Candidate};
 ghost use Rattle.ang_types.specs.Ranks.{Ancestors};
@@ -18,7 +18,7 @@ ghost use Rattle.ang_check_denials.specs.Telling as spec;
 use crate::beside::Beside;
 use crate::masked::Masked;
 use crate::named::{is_known, is_type_named};
-use ang_check_added::Verdicts;
+use ang_check_added::{EntrySet, Verdicts};
 use ang_check_contest::{Rivalry, Scope};
 use ang_names_known::family_of_type;
 use ang_types::{Asks, Refused};
@@ -43,6 +43,8 @@ pub struct Told {
     pub sought: Sought,
     /// The verdicts beside their rivals.
     pub verdicts: Verdicts,
+    /// The entries that win by them, where it is kept which candidates have which kinds of parameters.
+    pub winners: Option<EntrySet>,
 }
 
 /// Which of these an entry is of.
@@ -70,58 +72,71 @@ fn sort_of(entry: &Option<Entry>) -> Option<Sought>
     }
 }
 
-/// Which of these each entry of a list is of. The only error is want of memory.
-pub fn all_sorts(alloc: Global, whole: &View) -> Result<Vec<Option<Sought>>, AllocError>
-    ensures exact { IfOk result (λ sorts. sorts.items ≡ list_map spec.sort_of whole.now) }
+/// The number of a sort: no two have the same.
+#[inline(always)]
+pub fn key_of(sort: Option<Sought>) -> u64
+    ensures exact { result ≡ spec.key_of sort }
+{
+    match sort {
+        None => 3,
+        Some(Sought::Functions) => 0,
+        Some(Sought::Factories(owner)) => 4 * (owner as u64) + 1,
+        Some(Sought::Methods(owner)) => 4 * (owner as u64) + 2,
+    }
+}
+
+/// The number of the sort of each entry of a list. The only error is want of memory.
+pub fn all_sorts(alloc: Global, whole: &View) -> Result<Vec<u64>, AllocError>
+    ensures exact { IfOk result (λ sorts. sorts.items ≡ list_map spec.sort_key whole.now) }
 {
     let mut sorts = Vec::new(alloc);
     for entry in whole.entries() {
-        sorts.push(sort_of(entry))?;
+        sorts.push(key_of(sort_of(entry)))?;
     }
     Ok(sorts)
 }
 
+/// Whether what stands at a place is of the sort of this number.
 #[inline(always)]
-fn is_same_sort(sought: Sought, sort: Sought) -> bool
-    ensures exact { result ≡ spec.is_same_sort sought sort }
+pub fn is_of_sort(sorts: &[u64], key: u64, number: u32) -> bool
+    ensures exact { result ≡ (slice_index_or sorts.now number 3 == key) }
 {
-    match sought {
-        Sought::Functions => matches!(sort, Sought::Functions),
-        Sought::Factories(number) => match sort {
-            Sought::Factories(owner) => owner == number,
-            Sought::Functions | Sought::Methods(_) => false,
-        },
-        Sought::Methods(number) => match sort {
-            Sought::Methods(owner) => owner == number,
-            Sought::Functions | Sought::Factories(_) => false,
-        },
+    match sorts.get(number as usize) {
+        None => key_of(None) == key,
+        Some(sort) => *sort == key,
     }
-}
-
-/// Whether what stands at a place is one of those.
-#[inline(always)]
-pub fn is_of_sort(sorts: &[Option<Sought>], sought: Sought, number: u32) -> bool
-    ensures exact { result ≡ spec.is_of_sort sought (slice_index_or sorts.now number None) }
-{
-    let Some(Some(sort)) = sorts.get(number as usize) else {
-        return false;
-    };
-    is_same_sort(sought, *sort)
 }
 
 /// Whether the entry of this number, as a candidate, is the best of all.
 #[inline(always)]
-pub fn wins(masked: &Masked<'_>, verdicts: &Verdicts, number: u32) -> bool
+pub fn wins(masked: &Masked<'_>, told: &Told, number: u32) -> bool
     ensures exact { (ancestors : Ancestors) (cs : List Candidate) (args : List ArgType) →
         Judge ancestors (numbered 0 masked.now.kinds) cs args
-        (verdicts_in verdicts.now.rows.items) verdicts.now.ahead →
+        (verdicts_in told.now.verdicts.rows.items) told.now.verdicts.ahead →
+        IfSome told.now.winners (spec.AreWinners masked.now.list ancestors cs args) →
         result ≡ candidates.is_won ancestors cs args
         (slice_index_or (candidates.made masked.now.list) number None) }
 {
+    if let Some(winners) = &told.winners {
+        return winners.has(number);
+    }
     let Some(numbers) = masked.row(number) else {
         return false;
     };
-    verdicts.wins(numbers)
+    told.verdicts.wins(numbers)
+}
+
+/// The entries that, as candidates, are the best of all, where it is kept which candidates have which kinds of parameters.
+fn winners_of(masked: &Masked<'_>, verdicts: &Verdicts) -> Option<EntrySet>
+    ensures exact { IfSome result (λ winners. (ancestors : Ancestors) (cs : List Candidate)
+        (args : List ArgType) → Judge ancestors (numbered 0 masked.now.kinds) cs args
+        (verdicts_in verdicts.now.rows.items) verdicts.now.ahead →
+        spec.AreWinners masked.now.list ancestors cs args winners) }
+{
+    let Some(sets) = masked.sets() else {
+        return None;
+    };
+    Some(verdicts.winners(sets))
 }
 
 fn if_so(is: bool, sought: Sought) -> Option<Sought>
@@ -205,9 +220,8 @@ fn rivals_of<'b>(beside: &'b Beside, sought: Sought, asks: &Asks) -> &'b Rivalry
     }
 }
 
-/// What tells of the entries of a use's row, where the ranks of its arguments are known for all kinds of parameters.
-///
-/// The only error is want of memory.
+/// What tells of the entries of a use's row, where the ranks of its arguments are known for all kinds of parameters. The only
+/// error is want of memory.
 pub fn told_of(
     alloc: Global,
     masked: &Masked<'_>,
@@ -245,5 +259,10 @@ pub fn told_of(
     };
     let rivals = rivals_of(beside, sought, asks);
     let verdicts = Verdicts::of(alloc, rows.as_slice(), rivals)?;
-    Ok(Some(Told { sought, verdicts }))
+    let winners = winners_of(masked, &verdicts);
+    Ok(Some(Told {
+        sought,
+        verdicts,
+        winners,
+    }))
 }

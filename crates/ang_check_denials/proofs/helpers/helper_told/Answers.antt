@@ -19,7 +19,7 @@ returns-then-is_sought c =
     let help = helps k.list k.mask s r a x in
     let is : is_sought t.sought (entry_at k.list x) ≡ true =
     sym c.is_sought.ensures.exact ∙ c.if-is_sought.true in
-    let won : c.wins-won.result ≡ best = c.wins-won.ensures.exact s.ancestors (rivals_for s r.error.name t.sought) (types_of a) c.requires.told.judge in
+    let won : c.wins-won.result ≡ best = c.wins-won.ensures.exact s.ancestors (rivals_for s r.error.name t.sought) (types_of a) c.requires.told.judge c.requires.told.winners in
     record {
       exact =
           c.kept.ensures.exact

@@ -5,7 +5,9 @@ use Rattle.ang_check_contest.specs.Told.{IsTable, rows_of, table_of, told_ranks}
 use Rattle.ang_check_denials.specs.Added.{types_of}
 use Rattle.ang_check_denials.specs.Others.{AreOthers}
 use Rattle.ang_check_denials.specs.Telling.{rivals_for, rivals_kept, sought_for}
+use Rattle.ang_check_added.specs.Verdicts.{verdicts_in}
 use Rattle.ang_check_denials.proofs.Telling.{fit, tells}
+use Rattle.ang_check_denials.proofs.Winners.{winners_tell}
 use Rattle.ang_check_denials.proofs.told.told_of.Goals as goal
 
 pub returns : goal.returns
@@ -31,9 +33,12 @@ returns c =
     let table : IsTable s.ancestors (numbered 0 k.kinds) (types_of a) (table_of (Some c.in-Some.rows)) =
     subst (λ ts. IsTable s.ancestors (numbered 0 k.kinds) ts (table_of (Some c.in-Some.rows))) c.requires.types
     (subst (λ t. IsTable s.ancestors (numbered 0 k.kinds) types (table_of t)) c.in-Some.is c.requires.table) in
+    let judge = c.in_ok-verdicts.ensures.judge s.ancestors (numbered 0 k.kinds) (rivals_for s own q) (types_of a) (ap rows_of c.as_slice.ensures.value ∙ table) others in
+    let v = c.in_ok-verdicts.verdicts in
     record {
       told = record {
         tells = tells k.list k.mask s r c.requires.view b.joined c.args.taken made_type family c.requires.family a ns c.requires.named c.requires.joined c.requires.taken q is;
-        judge = c.in_ok-verdicts.ensures.judge s.ancestors (numbered 0 k.kinds) (rivals_for s own q) (types_of a) (ap rows_of c.as_slice.ensures.value ∙ table) others;
+        judge = judge;
+        winners = winners_tell k.list (numbered 0 k.kinds) (verdicts_in v.rows.items) v.ahead s.ancestors (rivals_for s own q) (types_of a) c.winners_of-winners.result judge c.winners_of-winners.ensures.exact;
       };
     }

@@ -15,4 +15,5 @@ invariant_of-result c =
       c.in_ok-alone.ensures.exact,
       c.in_ok-masks.ensures.exact,
       c.in_ok-sorts.ensures.exact,
+      c.in_ok-numbered.ensures.sets,
     )
