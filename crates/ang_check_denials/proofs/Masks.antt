@@ -1,5 +1,5 @@
 -- What is noted of the entries of a list once, beside their numbers: their masks, and which of those that are told of they are of.
-use Rattle.std.specs.Prelude.{ℕ, zero, suc, ◌≡◌, ◌==◌, ◌+◌, ◌*◌, Bool, false, ◌&&◌, [], ◌∷◌, map, Option, Some, None, slice_index_or}
+use Rattle.std.specs.Prelude.{ℕ, zero, suc, ◌≡◌, ◌==◌, ◌+◌, ◌*◌, false, ◌&&◌, [], ◌∷◌, map, Option, Some, None, slice_index_or}
 use Rattle.std.proofs.Common.{arith, inl, inr, refl, sym, ap, ◌∙◌}
 use Rattle.std.proofs.lemmas.Bool.Decides.{eqb_tells}
 use Rattle.ang_kinds.specs.declared.mask.EntityNo.{EntityNo}
@@ -12,7 +12,7 @@ use Rattle.ang_check_contest.specs.Host.{is_method}
 use Rattle.ang_check_denials.specs.declared.told.Sought.{Sought}
 use Rattle.ang_check_denials.specs.declared.told.Sought.TheVariants as sought
 use Rattle.ang_check_denials.specs.Denials.{mask_of}
-use Rattle.ang_check_denials.specs.Telling.{is_sought, key_of, owned, sort_by, sort_key, sort_of}
+use Rattle.ang_check_denials.specs.Telling.{is_sought, key_of, sort_by, sort_key}
 use Rattle.ang_check_denials.proofs.Values.{is_itself, is_other}
 
 -- what is noted at a place is the mask of the entry there

@@ -1,4 +1,4 @@
-use Rattle.std.specs.Prelude.{IfOk, IfSome, Some}
+use Rattle.std.specs.Prelude.{IfOk, IfSome}
 use Rattle.std.specs.List.{list_all}
 use Rattle.std.proofs.Common.{◌≡◌, true, sym, subst, ◌∙◌}
 use Rattle.ang_view.specs.Registration.{entry_at}

@@ -1,7 +1,6 @@
-use Rattle.std.proofs.Common.{◌≡◌, List, Some, subst, sym, ap, ◌∙◌}
-use Rattle.std.specs.Prelude.{ℕ}
+use Rattle.std.proofs.Common.{◌≡◌, Some, subst, sym, ap, ◌∙◌}
 use Rattle.ang_names_known.specs.Kinds.{numbered}
-use Rattle.ang_check_contest.specs.Told.{IsTable, rows_of, table_of, told_ranks}
+use Rattle.ang_check_contest.specs.Told.{IsTable, rows_of, table_of}
 use Rattle.ang_check_denials.specs.Added.{types_of}
 use Rattle.ang_check_denials.specs.Others.{AreOthers}
 use Rattle.ang_check_denials.specs.Telling.{rivals_for, rivals_kept, sought_for}

@@ -1,5 +1,5 @@
-use Rattle.std.specs.Prelude.{IfSome, None, Some, option_copied, slice_index_or}
-use Rattle.std.proofs.Common.{ap, subst, ◌∙◌}
+use Rattle.std.specs.Prelude.{IfSome, None, option_copied, slice_index_or}
+use Rattle.std.proofs.Common.{subst, ◌∙◌}
 use Rattle.ang_names_known.specs.KindRows.{row_at}
 use Rattle.ang_check_added.specs.Made.{made}
 use Rattle.ang_check_added.specs.Verdicts.{verdicts_in}

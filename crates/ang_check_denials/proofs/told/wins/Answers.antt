@@ -1,4 +1,4 @@
-use Rattle.std.proofs.Common.{rules, ◌≡◌, ℕ, List, Option, None, Some, Bor, ap, subst, ◌∙◌}
+use Rattle.std.proofs.Common.{rules, ◌≡◌, ℕ, List, None, Some, Bor, ap, subst, ◌∙◌}
 use Rattle.std.specs.Prelude.{IfSome, option_map, slice_index_or}
 use Rattle.ang_check_added.specs.Verdicts.{verdicts_in}
 use Rattle.ang_check_added.specs.Made.{made}

@@ -1,5 +1,5 @@
 use Rattle.std.specs.Prelude.{◌==◌, Some, slice_index_or}
-use Rattle.std.proofs.Common.{◌≡◌, ℕ, List, ap, ◌∙◌}
+use Rattle.std.proofs.Common.{ℕ, List, ap, ◌∙◌}
 use Rattle.ang_view.specs.Registration.{entry_at}
 use Rattle.ang_check_denials.specs.declared.told.Sought.{Sought}
 use Rattle.ang_check_denials.specs.Masked.{Masked}
