@@ -1,3 +1,4 @@
+pub mod BringerLaws
 pub mod Bringing
 pub mod Judging
 pub mod Kept

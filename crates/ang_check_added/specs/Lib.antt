@@ -1,3 +1,4 @@
+pub mod Bringers
 pub mod Brought
 pub mod Made
 pub mod Sets

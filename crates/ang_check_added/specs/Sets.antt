@@ -1,5 +1,6 @@
 -- Entries by their numbers as bits, and for each place the entries whose parameter there is of each kind, so that all candidates are judged at once.
-use Rattle.std.specs.Prelude.{ℕ, ◌≡◌, ◌==◌, Bool, false, List, [], length, slice_get, Option, Some, None, Vec}
+use Rattle.std.specs.Prelude.{ℕ, ◌≡◌, ◌==◌, ◌&&◌, Bool, false, List, [], length, slice_get, Option, Some, None, Vec}
+use Rattle.std.specs.List.{list_any, range_with_len}
 use Rattle.std.specs.Option.{option_flatten}
 use Rattle.std.specs.declared.alloc.Global.{Global}
 use Rattle.ang_types.specs.Marks.{bit_of}
@@ -17,6 +18,10 @@ has words n = bit_of words n
 abbrev pub in_set : Option EntrySet → ℕ → Bool
 in_set None n = false
 in_set (Some s) n = has s.words n
+
+-- some entry is in both sets
+unfoldable pub meets : List ℕ → List ℕ → Bool
+meets a b = list_any (λ n. has a n && has b n) (range_with_len 0 1024)
 
 -- ---- what a row says
 

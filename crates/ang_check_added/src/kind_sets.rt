@@ -84,6 +84,17 @@ fn with_entry(set: Option<EntrySet>, number: u32) -> EntrySet
     more
 }
 
+/// Puts an entry into the set of a kind, of which there is one.
+pub(crate) fn put_kind(sets: &mut Vec<Option<EntrySet>>, kind: usize, number: u32)
+    requires room { number < 1024 }
+    requires there { kind < length sets.old.items }
+    ensures added { (k n : ℕ) → spec.in_kind sets.new.items k n
+        ≡ (spec.in_kind sets.old.items k n || ((kind == k) && (number == n))) }
+    ensures size { length sets.new.items ≡ length sets.old.items }
+{
+    sets[kind] = Some(with_entry(sets[kind], number));
+}
+
 /// Puts an entry into the set of a kind. Whether there is room for one.
 fn insert_kind(sets: &mut Vec<Option<EntrySet>>, kind: usize, number: u32) -> bool
     requires room { number < 1024 }
@@ -91,7 +102,7 @@ fn insert_kind(sets: &mut Vec<Option<EntrySet>>, kind: usize, number: u32) -> bo
         ≡ (spec.in_kind sets.old.items k n || ((kind == k) && (number == n))) }
 {
     if kind < sets.len() {
-        sets[kind] = Some(with_entry(sets[kind], number));
+        put_kind(sets, kind, number);
         true
     } else {
         false

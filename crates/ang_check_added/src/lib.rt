@@ -6,6 +6,7 @@
 //! the entries whose parameter at a place is of a kind (`KindSets`), all candidates are judged at once.
 #![tactic(auto)]
 
+mod bringers;
 mod brought;
 mod kind_sets;
 mod made;
@@ -14,6 +15,7 @@ mod sets;
 mod verdicts;
 mod winners;
 
+pub use bringers::{Bringers, bringers_of, numbers_with, put_kept};
 pub use brought::{all_types, alone_marks, brought_rows, numbers_at, push_kept};
 pub use kind_sets::KindSets;
 pub use made::{all_made, candidate_among, made_at};

@@ -65,4 +65,16 @@ impl EntrySet {
         }
         chosen
     }
+
+    /// Whether some entry is in both sets.
+    pub(crate) fn meets(&self, other: &EntrySet) -> bool
+        ensures exact { result ≡ spec.meets self.now.words other.now.words }
+    {
+        for place in 0..WORDS {
+            if self.words[place] & other.words[place] != 0 {
+                return true;
+            }
+        }
+        false
+    }
 }
