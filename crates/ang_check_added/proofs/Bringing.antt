@@ -4,8 +4,9 @@ use Rattle.std.specs.List.{flat_map, list_any, range_with_len}
 use Rattle.std.specs.Option.{option_map_or}
 use Rattle.std.proofs.Common.{inl, inr, arith, refl, sym, ap, ◌∙◌}
 use Rattle.std.proofs.lemmas.Bool.Decides.{eqb_tells}
-use Rattle.std.proofs.lemmas.List.{append_assoc}
+use Rattle.std.proofs.lemmas.List.{append_assoc, length-map}
 use Rattle.std.proofs.lemmas.List.Folds.{list_any-append}
+use Rattle.std.proofs.lemmas.List.FromFn.{length-range_with_len}
 use Rattle.std.proofs.lemmas.Map.Views.{any-filter_same}
 use Rattle.ang_kinds.specs.Masks.{meets}
 use Rattle.ang_kinds.specs.declared.mask.EntityNo.{EntityNo}
@@ -27,6 +28,7 @@ use Rattle.ang_names_known.specs.Kinds.{Rows}
 use Rattle.ang_names_known.specs.KindRows.{row_at}
 use Rattle.ang_check_contest.proofs.Adding.{past_end, range}
 use Rattle.ang_check_added.specs.Brought.{AreInOrder, all_brought, are_alone, brought, is_alone, is_only, is_unmet_type, numbers_at, numbers_of_row, unmet_in, unmet_named, unmet_owner, unmet_spelled}
+use Rattle.ang_check_added.specs.Bringers.{brings}
 use Rattle.ang_check_added.proofs.Kept.{kept_of_part}
 
 -- a number is in a list
@@ -353,3 +355,34 @@ alone_at R m n rows are =
       | inl lt ↦ flag_there (λ k. is_only k (numbers_at rows k)) 0 (length R) n lt ∙ ap (λ k. is_only k (numbers_at rows k)) from_zero ∙ ap (is_only n) row
       | inr le ↦ flag_past (λ k. is_only k (numbers_at rows k)) 0 (length R) n le ∙ ap (is_only n) (nothing_past R m n le)
     ]
+
+-- ---- what comes with one of some entries
+
+brings_one : (R : RegistrationList) (m x y : ℕ) → brings (all_brought R m) x y ≡ (is_unmet R m y && is_with R x y)
+brings_one R m x y = ap (has y) (numbers_are R m x) ∙ brought_has R m x y
+
+pub brings_any : (R : RegistrationList) (m y : ℕ) (hs : List ℕ)
+    → list_any (λ x. brings (all_brought R m) x y) hs ≡ (is_unmet R m y && list_any (λ x. is_with R x y) hs)
+brings_any R m y [] = sym (and_false (is_unmet R m y))
+brings_any R m y (x ∷ hs) =
+    (λ i. brings_one R m x y i || brings_any R m y hs i)
+    ∙ sym (over_or (is_unmet R m y) (is_with R x y) (list_any (λ k. is_with R k y) hs))
+
+unmet_within : (R : RegistrationList) (m y : ℕ) → is_unmet R m y ≡ true → y < length R
+unmet_within R m y e =
+    elim (range y (length R)) [
+      | inl lt ↦ lt
+      | inr le ↦ absurd (true≢false (sym e ∙ ap (λ o. option_map_or (λ (x : Entry). not (meets x.mask.0 m)) o false) (past_end R y le)))
+    ]
+  where
+    true≢false : true ≡ false → ⊥
+    true≢false t = cc
+
+-- what comes with an entry is of the list
+pub brought_within : (R : RegistrationList) (m x y : ℕ) → brings (all_brought R m) x y ≡ true → y < length R
+brought_within R m x y e = unmet_within R m y (and_gives (is_unmet R m y) (is_with R x y) (sym (brings_one R m x y) ∙ e)).0
+
+-- there is a row for each entry
+pub as_many_brought : (R : RegistrationList) (m : ℕ) → length (all_brought R m) ≡ length R
+unfolding all_brought
+as_many_brought R m = length-map (numbers_of R) (λ x. Some (brought R m x)) ∙ length-range_with_len 0 (length R)

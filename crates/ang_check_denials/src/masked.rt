@@ -1,5 +1,6 @@
 //! A registration list, and what a module of a mask does not see of it.
-ghost use Rattle.std.specs.Prelude.{◌≡◌, ◌≤◌, is_some, length, None, option_copied, option_map, slice_index_or, map as list_map, IfOk, IfSome};
+ghost use Rattle.std.specs.Prelude.{◌≡◌, ◌≤◌, ◌&&◌, filter, is_some, length, None, option_copied, option_map, slice_index_or, map as list_map, IfOk, IfSome};
+ghost use Rattle.std.specs.List.{list_any};
 ghost use Rattle.ang_names_known.specs.Kinds.{Says};
 ghost use Rattle.ang_view.specs.Hidden as spec;
 ghost use Rattle.ang_view.specs.Registration.{entry_at};
@@ -11,8 +12,8 @@ ghost use Rattle.ang_check_added.specs.Made as candidates;
 use crate::marked::is_marked;
 use crate::told::{Sought, all_sorts, is_of_sort, key_of};
 use ang_check_added::{
-    KindSets, Numbered, all_made, all_types, alone_marks, brought_rows, candidate_among, made_at,
-    number_kinds, numbers_at,
+    Bringers, KindSets, Numbered, all_made, all_types, alone_marks, bringers_of, brought_rows,
+    candidate_among, made_at, number_kinds, numbers_with,
 };
 use ang_check_contest::Wanted;
 use ang_kinds::{EntityNo, Mask, Pass};
@@ -56,7 +57,7 @@ fn mask_at(masks: &[Mask], number: u32) -> Mask
 
 /// A registration list, and what a module of a mask does not see of it. Beside it stand its functions, factories and methods as
 /// candidates, so that none is made anew for each use that looks at it, their sets by the kinds of their parameters, of each entry
-/// its mask, the number of its sort, what comes with it and whether it comes alone, and the numbers of all types.
+/// its mask, the number of its sort, what comes with it, what it comes with and whether it comes alone, and the numbers of all types.
 #[derive(Drop)]
 pub struct Masked<'a> {
     whole: &'a View,
@@ -65,6 +66,7 @@ pub struct Masked<'a> {
     made: Vec<Option<Candidate>>,
     numbered: Numbered,
     brought: KindRows,
+    bringers: Bringers,
     alone: Vec<bool>,
     masks: Vec<Mask>,
     sorts: Vec<u64>,
@@ -74,6 +76,7 @@ pub struct Masked<'a> {
 impl<'a> Model for Masked<'a> {
     ghost use Rattle.std.specs.Prelude.{◌≡◌, is_some, map, IfSome};
     ghost use Rattle.ang_view.specs.Hidden as views;
+    ghost use Rattle.ang_check_added.specs.Bringers.{AreBringers};
     ghost use Rattle.ang_check_added.specs.Brought.{all_brought, all_types, is_only, numbers_at};
     ghost use Rattle.ang_check_added.specs.Made as candidates;
     ghost use Rattle.ang_check_added.specs.Sets.{AreSets};
@@ -100,7 +103,8 @@ impl<'a> Model for Masked<'a> {
         ≡ map (λ n. is_only n (numbers_at r.brought n)) (views.numbers_of r.whole.now))
         × (r.masks.items ≡ map denials.mask_of r.whole.now)
         × (r.sorts.items ≡ map telling.sort_key r.whole.now)
-        × IfSome r.numbered.sets (AreSets r.numbered.rows) };
+        × IfSome r.numbered.sets (AreSets r.numbered.rows)
+        × AreBringers r.brought r.bringers };
 }
 
 impl<'a> Masked<'a> {
@@ -119,6 +123,7 @@ impl<'a> Masked<'a> {
         let made = all_made(alloc, whole)?;
         let numbered = number_kinds(alloc, made.as_slice())?;
         let brought = brought_rows(alloc, whole, mask)?;
+        let bringers = bringers_of(alloc, &brought, whole.len() as u32)?;
         let alone = alone_marks(alloc, whole, &brought)?;
         let masks = all_masks(alloc, whole)?;
         let sorts = all_sorts(alloc, whole)?;
@@ -130,6 +135,7 @@ impl<'a> Masked<'a> {
             made,
             numbered,
             brought,
+            bringers,
             alone,
             masks,
             sorts,
@@ -205,12 +211,16 @@ impl<'a> Masked<'a> {
         self.numbered.sets.as_ref()
     }
 
-    /// What comes with the entry of this number, of that whose own mask does not meet the module's: in any order, and some of it
-    /// more than once. It takes no memory.
-    pub fn brought(&self, number: u32) -> &[u32]
-        ensures exact { result.now ≡ brought_spec.brought self.now.list self.now.mask number }
+    /// The numbers of what comes with one of these entries, of that whose own mask does not meet the module's, rising. The only
+    /// error is want of memory.
+    pub fn numbers_with(&self, alloc: Global, entries: &[u32]) -> Result<Vec<u32>, AllocError>
+        requires ordered { brought_spec.AreInOrder self.now.list entries.now }
+        ensures exact { IfOk result (λ numbers. numbers.items ≡ filter
+            (λ y. spec.is_unmet self.now.list self.now.mask y
+            && list_any (λ x. spec.is_with self.now.list x y) entries.now)
+            (spec.numbers_of self.now.list)) }
     {
-        numbers_at(&self.brought, number)
+        numbers_with(alloc, &self.bringers, entries, self.len())
     }
 
     /// Whether nothing else comes with the entry of this number, and its own mask does not meet the module's.

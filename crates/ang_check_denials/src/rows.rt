@@ -8,7 +8,7 @@ ghost use Rattle.ang_check_denials.specs.Denials as spec;
 ghost use Rattle.ang_check_denials.specs.Names.{HasHidden};
 
 use crate::helpers::helpers;
-use crate::marked::{are_alone, marks_of, numbers_marked};
+use crate::marked::are_alone;
 use crate::masked::Masked;
 use crate::same::is_same_use;
 use crate::sought::help_rows;
@@ -35,8 +35,7 @@ fn denied_with(
     if are_alone(masked, entries) {
         return Ok(helpers);
     }
-    let marks = marks_of(alloc, masked, entries)?;
-    numbers_marked(alloc, marks.as_slice(), masked.len())
+    masked.numbers_with(alloc, entries)
 }
 
 /// The numbers of the entries that a refused use is denied, rising.
