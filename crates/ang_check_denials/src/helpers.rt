@@ -1,5 +1,5 @@
 //! The hidden entries that would resolve a refused use.
-ghost use Rattle.std.specs.Prelude.{◌≡◌, ◌<◌, ◌≤◌, ◌||◌, ◌&&◌, ◌++◌, [], ◌∷◌, false, if◌then◌else◌, filter, length, option_to_list, IfOk, OnOk};
+ghost use Rattle.std.specs.Prelude.{◌≡◌, ◌<◌, ◌≤◌, ◌+◌, ◌||◌, ◌&&◌, ◌++◌, [], ◌∷◌, false, if◌then◌else◌, filter, length, option_to_list, vec_len, vec_capacity, IfOk, OnOk};
 ghost use Rattle.std.specs.List.{list_all};
 ghost use Rattle.ang_view.specs.Hidden.{numbers_of};
 ghost use Rattle.ang_view.specs.Registration.{entry_at, seen};
@@ -19,7 +19,7 @@ use crate::named::is_known;
 use crate::sought::help_row;
 use crate::takers::can_help;
 use crate::told::{Sought, Told, told_of, wins};
-use ang_check_added::EntrySet;
+use ang_check_added::{EntrySet, put_kept};
 use ang_check_contest::{Scope, table_for};
 use ang_check_uses::type_named;
 use ang_index::Index;
@@ -181,9 +181,21 @@ fn helper_at(
     Ok(kept(help, number))
 }
 
-/// The same, where `told` tells of some entries whether they do.
+/// Puts a number at the end, where there is one; there is room for it.
+fn put_number(numbers: &mut Vec<u32>, number: Option<u32>)
+    requires room { vec_len numbers.old < vec_capacity numbers.old }
+    ensures put { numbers.new.items ≡ numbers.old.items ++ option_to_list number }
+    ensures len { vec_len numbers.new ≤ vec_len numbers.old + 1 }
+    ensures capacity { vec_capacity numbers.new ≡ vec_capacity numbers.old }
+{
+    if let Some(number) = number {
+        numbers.push_reserved(number);
+    }
+}
+
+/// The same, put at the end, where there is room for it, and where `told` tells of some entries whether they do.
 #[inline(always)]
-fn helper_told(
+fn put_told(
     alloc: Global,
     masked: &Masked<'_>,
     scope: &Scope<'_>,
@@ -195,7 +207,9 @@ fn helper_told(
     number: u32,
     table: &Option<Vec<Vec<Option<u8>>>>,
     told: &Told,
-) -> Result<Option<u32>, AllocError>
+    sought: Sought,
+    numbers: &mut Vec<u32>,
+) -> Result<(), AllocError>
     requires view { scope.now.view ≡ seen masked.now.list masked.now.mask }
     requires taken { taken ≡ spec.is_taken scope.now refused.now asks.now }
     requires rivals { AreOthers beside.now.rivals scope.now.ancestors
@@ -217,17 +231,23 @@ fn helper_told(
         beside.now.types.items (table_of table.now) }
     requires told { telling.IsTold masked.now.list masked.now.mask masked.now.kinds scope.now
         refused.now asks.now told.now }
-    ensures exact { IfOk result (λ helper. option_to_list helper ≡ filter
+    requires sought { sought ≡ told.now.sought }
+    requires room { vec_len numbers.old < vec_capacity numbers.old }
+    ensures put { OnOk result (numbers.new.items ≡ numbers.old.items ++ filter
         (telling.chosen masked.now.list masked.now.mask scope.now refused.now asks.now
         told.now.sought) (number ∷ [])) }
+    ensures len { vec_len numbers.new ≤ vec_len numbers.old + 1 }
+    ensures capacity { vec_capacity numbers.new ≡ vec_capacity numbers.old }
 {
-    if masked.is_sought(told.sought, number) {
-        let won = wins(masked, told, number);
-        return Ok(kept(won, number));
+    if masked.is_sought(sought, number) {
+        put_kept(numbers, wins(masked, told, number), number);
+        return Ok(());
     }
-    helper_at(
+    let helper = helper_at(
         alloc, masked, scope, refused, asks, beside, taken, count, number, table,
-    )
+    )?;
+    put_number(numbers, helper);
+    Ok(())
 }
 
 /// Puts a number at the end, where there is one.
@@ -353,12 +373,24 @@ fn helpers_told(
             return numbers_in(alloc, winners, row);
         }
     }
+    let sought = told.sought;
     let mut numbers = Vec::with_capacity(alloc, row.len())?;
     for number in row {
-        let helper = helper_told(
-            alloc, masked, scope, refused, asks, beside, taken, count, *number, table, told,
+        put_told(
+            alloc,
+            masked,
+            scope,
+            refused,
+            asks,
+            beside,
+            taken,
+            count,
+            *number,
+            table,
+            told,
+            sought,
+            &mut numbers,
         )?;
-        push_number(&mut numbers, helper)?;
     }
     Ok(numbers)
 }
