@@ -95,8 +95,8 @@ pub fn begin(
 
 /// Whether these callers and one more wait with at most `MOST_WAITING` instructions left.
 ///
-/// It stays apart, so that entering a body stays small.
-#[inline(never)]
+/// It stays apart and is cold, so that entering a body stays small and keeps the registers.
+#[cold]
 fn may_wait(table: &Table, frames: &Vec<Frame>, of: Routine, at: usize) -> bool
     ensures few { result ≡ true → frames_left (texts_of table.now) frames.now.items
         + left_in (texts_of table.now) of (at + 1) ≤ most_waiting }
@@ -203,8 +203,8 @@ pub fn enter_body(
     }
 }
 
-/// A function that there is not is entered: why that leads nowhere. It stays apart, so that entering a body stays small.
-#[inline(never)]
+/// A function that there is not is entered: why that leads nowhere. It is cold, as `may_wait` is.
+#[cold]
 fn enter_nothing(nesting: usize, frames: &Vec<Frame>, place: Cursor) -> Trap
     ensures reaches { (table : Table) (body : Routine) (stack : List Slot) (top : ℕ) (caller : Frame)
         (w : World) → body_of table body ≡ None → top ≤ length stack
