@@ -12,7 +12,8 @@ and with `--beside` in another program too.
 
 A build is a fresh process. Its time is the processor time, the system's part included, of a process that builds and prints into nothing,
 less that of one that reads the same texts and builds an empty section; its memory is what is resident at most, less what is of the other
-process. Each is the least of the rounds. What initializers do is left out: the budget is one tick.
+process. Each is the least of the rounds. What initializers do is left out: the budget is one tick. Beside what seems worse than all before
+an ordinary section is built in the same rounds, and each known section beside one of its own: so what slows the machine slows both.
 
 Ends with status 1 where a process ended by a signal or was out of time.
 """
@@ -129,25 +130,31 @@ class Program:
         script = script_of(parts, sections)
         return self.build(script.profile, script.sections(), rounds)
 
+    def build_ordinary(self, rounds):
+        return self.build([], ordinary(1).sections, rounds)
+
 
 # ---- the search
 
 
 class Search:
-    """The worst that is known of each shape: of time its seconds, of bytes how many are taken for a byte of the section."""
+    """The worst that is known of each shape: of time how many times that of an ordinary section, of bytes how many are taken for a byte of
+    the section."""
 
     def __init__(self, program, seed):
-        self.program, self.random, self.usual = program, random.Random(seed), None
+        self.program, self.random = program, random.Random(seed)
         self.best, self.tries = {}, 0
-        self.weigh_usual()
-
-    def weigh_usual(self):
-        """Measures the ordinary section once more; the least time counts."""
-        seconds = self.program.build([], ordinary(1).sections, 20).seconds
-        self.usual = min(seconds, self.usual or seconds)
+        self.usual = program.build_ordinary(20).seconds
 
     def scores(self, figures):
-        return {"time": figures.seconds, "bytes": figures.bytes / figures.size}
+        return {"time": figures.seconds / self.usual, "bytes": figures.bytes / figures.size}
+
+    def scores_beside(self, parts):
+        """The scores by three rounds, in each of which an ordinary section is built too."""
+        rounds = [(self.program.build_ordinary(3).seconds, self.program.build_parts(parts)) for _ in range(3)]
+        self.usual = min(seconds for seconds, _ in rounds)
+        found = [self.scores(figures) for _, figures in rounds]
+        return {what: min(it[what] for it in found) for what in found[0]}
 
     def consider(self, parts):
         """Measures parts, once more where they seem worse than what is known, and keeps them where they are."""
@@ -155,14 +162,13 @@ class Search:
         scores = self.scores(self.program.build_parts(parts))
         for what, score in scores.items():
             if score > BETTER * self.best.get((what, key), (0,))[0]:
-                again = self.scores(self.program.build_parts(parts, rounds=3))[what]
+                again = self.scores_beside(parts)[what]
                 if again > BETTER * self.best.get((what, key), (0,))[0]:
                     self.keep(what, key, again, parts)
 
     def keep(self, what, key, score, parts):
         self.best[what, key] = (score, parts)
-        shown = f"{score / self.usual:.1f} times" if what == "time" else f"{score:.0f} bytes"
-        print(f"{time.strftime('%H:%M:%S', time.gmtime())} {self.tries} {shown}: {what} {text_of(parts)}", flush=True)
+        print(f"{time.strftime('%H:%M:%S', time.gmtime())} {self.tries} {score_of(what, score)}: {what} {text_of(parts)}", flush=True)
 
     def at_random(self):
         shape = self.random.choice(list(SHAPES))
@@ -209,8 +215,6 @@ class Search:
             self.consider([Part(100, shape, {key: self.random.randint(*bounds[key]) for key in bounds})])
         while time.time() < end:
             self.consider(self.next_parts())
-            if self.tries % 500 == 0:
-                self.weigh_usual()
 
     def lines(self):
         """Lines of the file: of each shape and each pair that is worse than both of its shapes alone."""
@@ -225,6 +229,10 @@ class Search:
 # ---- what is printed
 
 
+def score_of(what, score):
+    return f"{score:.1f} times" if what == "time" else f"{score:.0f} bytes"
+
+
 def shown(figures, usual):
     return f"{figures.seconds * 1e3:.1f} | {figures.seconds / usual:.1f} | {figures.bytes / figures.size:.0f} | {figures.answer}"
 
@@ -234,15 +242,14 @@ def print_known(programs, sections, rounds):
     for program in programs:
         print(f"{program.path} keeps {program.kept(ordinary(1).sections[0]):.1f} bytes for a byte of an ordinary section.", flush=True)
     print("| Section | program | milliseconds | times the ordinary one | bytes for a byte | answer |\n|---|---|---|---|---|---|")
-    usual = []
     for program in programs:
-        figures = program.build([], ordinary(1).sections, 20)
-        usual.append(figures.seconds)
+        figures = program.build_ordinary(20)
         print(f"| an ordinary one | {program.path} | {shown(figures, figures.seconds)} |", flush=True)
     for what, parts in known():
-        for program, seconds in zip(programs, usual):
+        for program in programs:
+            usual = program.build_ordinary(3 * rounds).seconds
             figures = program.build_parts(parts, sections, rounds)
-            print(f"| {what} {text_of(parts)} | {program.path} | {shown(figures, seconds)} |", flush=True)
+            print(f"| {what} {text_of(parts)} | {program.path} | {shown(figures, usual)} |", flush=True)
 
 
 def options():
@@ -265,9 +272,9 @@ def searched(program, given):
     except KeyboardInterrupt:
         pass
     lines = search.lines()
-    print(f"{search.tries} tries; an ordinary section takes {search.usual * 1e3:.1f} milliseconds")
+    print(f"{search.tries} tries; an ordinary section took {search.usual * 1e3:.1f} milliseconds last")
     for what, score, text in lines:
-        print(f"{score / search.usual:.1f} times" if what == "time" else f"{score:.0f} bytes", text)
+        print(score_of(what, score), text)
     if given.keep:
         with open(WORST, "w", encoding="utf-8") as file:
             file.write(HEAD + "".join(f"{text}\n" for _, _, text in lines))
